@@ -1,0 +1,69 @@
+#!/usr/bin/env python3
+"""Runs the built program over inputs of 10,000, 100,000 and 1,000,000 events, and reports events a second, megabytes a
+second and peak memory.
+
+Two shapes: `pages` is a load and a get for each of many pages, so that many calls are pending at once; `one page` is one
+page that is loaded again and again, with a get in between that each load ends.
+
+    bench/first_path.py [EVENTS ..]
+"""
+import os
+import resource
+import subprocess
+import sys
+import tempfile
+import time
+
+TOP = os.path.dirname(os.path.dirname(os.path.abspath(__file__)))
+PROGRAM = os.path.join(TOP, "crates", "fedcm", "out", "fedcm")
+HEADER = '{"fedcm":1,"now":0,"rules":""}\n'
+# URLs as short as `url` reads them: 1,000,000 events have to fit into the 67,108,864 bytes of an input.
+LOAD = '{"do":"load","page":%d,"url":"https:r"}\n'
+GET = '{"do":"get","page":%d,"call":%d,"providers":[{"config":"https:i.c","client":""}]}\n'
+
+
+def pages(events):
+    for i in range(events // 2):
+        yield LOAD % i
+        yield GET % (i, i)
+
+
+def one_page(events):
+    for i in range(events):
+        yield LOAD % 0 if i % 2 == 0 else GET % (0, i)
+
+
+def write(lines, path):
+    with open(path, "w") as script:
+        script.write(HEADER)
+        script.writelines(lines)
+    return os.path.getsize(path)
+
+
+def run(path):
+    begin = time.monotonic()
+    with open(path, "rb") as script, open(os.devnull, "wb") as out:
+        child = subprocess.Popen([PROGRAM, "run"], stdin=script, stdout=out)
+        _, status, usage = os.wait4(child.pid, 0)
+    if status != 0:
+        sys.exit(f"status {os.waitstatus_to_exitcode(status)} for {path}")
+    return time.monotonic() - begin, usage.ru_maxrss / 1024
+
+
+def main():
+    if not os.access(PROGRAM, os.X_OK):
+        sys.exit("build the program first: ./fedcm run < examples/first-run.jsonl")
+    counts = [int(word) for word in sys.argv[1:]] or [10_000, 100_000, 1_000_000]
+    print("| shape | events | input MB | seconds | events a second | MB a second | peak MB |")
+    print("|---|---|---|---|---|---|---|")
+    with tempfile.TemporaryDirectory() as folder:
+        path = os.path.join(folder, "script.jsonl")
+        for name, shape in (("pages", pages), ("one page", one_page)):
+            for events in counts:
+                size = write(shape(events), path) / 1e6
+                seconds, peak = run(path)
+                print(f"| {name} | {events:,} | {size:.1f} | {seconds:.2f} | {events / seconds:,.0f} | {size / seconds:.1f} | {peak:.0f} |")
+
+
+if __name__ == "__main__":
+    main()

@@ -1,0 +1,68 @@
+#!/usr/bin/env python3
+"""Runs the built program over scripts whose header is the whole Public Suffix List: one without events, one of 20,000 loads
+and calls with the list, and the same without rules. It reports the time to read the list, and per call the time with and
+without the rules.
+
+    bench/suffix_rules.py [LIST]      # /usr/share/publicsuffix/public_suffix_list.dat, of Debian's package publicsuffix
+"""
+import json
+import os
+import subprocess
+import sys
+import tempfile
+import time
+
+TOP = os.path.dirname(os.path.dirname(os.path.abspath(__file__)))
+PROGRAM = os.path.join(TOP, "crates", "fedcm", "out", "fedcm")
+LIST = "/usr/share/publicsuffix/public_suffix_list.dat"
+CALLS = 10_000
+
+
+def line(value):
+    return json.dumps(value, ensure_ascii=False, separators=(",", ":")) + "\n"
+
+
+def hosts(text):
+    """A host below each rule of the list, in turn."""
+    rules = [rule.strip() for rule in text.splitlines()]
+    rules = [rule.lstrip("!") for rule in rules if rule and not rule.startswith("//")]
+    names = [rule.replace("*", "any") for rule in rules]
+    while True:
+        for name in names:
+            yield f"accounts.idp.{name}"
+
+
+def events(text):
+    for number, host in zip(range(CALLS), hosts(text)):
+        yield line({"do": "load", "page": number, "url": "https://rp.example/"})
+        config = f"https://{host}/fedcm.json"
+        yield line({"do": "get", "page": number, "call": number, "providers": [{"config": config, "client": "c"}]})
+
+
+def seconds(folder, rules, lines):
+    path = os.path.join(folder, "script.jsonl")
+    with open(path, "w", encoding="utf-8") as script:
+        script.write(line({"fedcm": 1, "now": 0, "rules": rules}))
+        script.writelines(lines)
+    begin = time.monotonic()
+    with open(path, "rb") as script:
+        run = subprocess.run([PROGRAM, "run"], stdin=script, stdout=subprocess.DEVNULL)
+    if run.returncode != 0:
+        sys.exit(f"status {run.returncode}")
+    return time.monotonic() - begin
+
+
+def main():
+    with open(sys.argv[1] if len(sys.argv) > 1 else LIST, encoding="utf-8") as source:
+        text = source.read()
+    with tempfile.TemporaryDirectory() as folder:
+        reading = seconds(folder, text, [])
+        twice = seconds(folder, text + "\n" + text, [])
+        with_rules = seconds(folder, text, events(text)) - reading
+        without = seconds(folder, "", events(text))
+    print(f"{len(text.splitlines()):,} lines read in {reading:.3f} s, twice as many in {twice:.3f} s")
+    print(f"{CALLS:,} loads and calls: {with_rules / CALLS * 1e6:.1f} us each with the rules, {without / CALLS * 1e6:.1f} us without")
+
+
+if __name__ == "__main__":
+    main()

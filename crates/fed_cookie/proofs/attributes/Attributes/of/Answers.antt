@@ -1,0 +1,10 @@
+use Rattle.std.proofs.Common.{ap, sym, ◌∙◌}
+use Rattle.fed_cookie.specs.Fields.{attributes_of}
+use Rattle.fed_cookie.proofs.Parts.{attributes_turn}
+use Rattle.fed_cookie.proofs.attributes.Attributes.of.Goals as goal
+
+pub loop-part-preserved : goal.loop-part-preserved
+loop-part-preserved c = attributes_turn _ _ _ c.in-Some.part.now _ _ c.with-found.ensures c.in-Some.ensures.some c.loop-part.invariant
+
+pub returns : goal.returns
+returns c = c.with.ensures ∙ ap (attributes_of c.loop-part.found) (sym (c.in_default.ensures.none)) ∙ c.loop-part.invariant

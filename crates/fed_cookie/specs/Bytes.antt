@@ -1,0 +1,33 @@
+-- Words on bytes that the readers share.
+use Rattle.std.specs.Prelude.{ℕ, ◌+◌, ◌-◌, ◌*◌, Bool, ◌||◌, ◌==◌, List, [], ◌∷◌, length, take, drop, fold, Option, None, option_map, position}
+use Rattle.std.specs.Option.{option_or}
+use Rattle.std.specs.List.{prefix_len, suffix_len}
+
+-- a space or a tab
+abbrev pub is_blank : ℕ → Bool
+is_blank b = b == 32 || b == 9
+
+-- without spaces and tabs in front
+abbrev pub trimmed_front : List ℕ → List ℕ
+trimmed_front bytes = drop (prefix_len is_blank bytes) bytes
+
+-- without spaces and tabs at the end
+abbrev pub trimmed_end : List ℕ → List ℕ
+trimmed_end bytes = take (length bytes - suffix_len is_blank bytes) bytes
+
+-- without spaces and tabs at both ends
+unfoldable pub trimmed : List ℕ → List ℕ
+trimmed bytes = trimmed_end (trimmed_front bytes)
+
+-- what stands before the first such byte, and after it, where it is there
+abbrev pub cut_at : ℕ → List ℕ → Option (List ℕ × List ℕ)
+cut_at byte bytes = option_map (λ i. (take i bytes, drop (i + 1) bytes)) (position (λ b. b == byte) bytes)
+
+-- the number that decimal digits write
+abbrev pub number_of : List ℕ → ℕ
+number_of digits = fold (λ n digit. 10 * n + (digit - 48)) 0 digits
+
+-- the last that the test gives of the items, where it gives one
+abbrev pub last_some : {X Y : Type 0} → (X → Option Y) → List X → Option Y
+last_some read [] = None
+last_some read (x ∷ xs) = option_or (last_some read xs) (read x)

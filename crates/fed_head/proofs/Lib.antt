@@ -1,0 +1,4 @@
+pub mod ChunkLemmas
+pub mod FoundLemmas
+pub mod HeadLemmas
+pub mod SectionLemmas

@@ -1,0 +1,5 @@
+use Rattle.fed_head.proofs.HeadLemmas.{head_reads}
+use Rattle.fed_head.proofs.laws.head_is_read.Goals as goal
+
+pub returns : goal.returns
+returns c = head_reads

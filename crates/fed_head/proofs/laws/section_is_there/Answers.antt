@@ -1,0 +1,5 @@
+use Rattle.fed_head.proofs.SectionLemmas.{section_found}
+use Rattle.fed_head.proofs.laws.section_is_there.Goals as goal
+
+pub returns : goal.returns
+returns c = section_found

@@ -1,0 +1,4 @@
+pub mod Chunk
+pub mod Found
+pub mod Head
+pub mod Section

@@ -1,0 +1,5 @@
+pub mod Fault
+pub mod Inner
+pub mod Io
+pub mod Memory
+pub mod Quiet

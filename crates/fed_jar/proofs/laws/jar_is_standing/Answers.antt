@@ -1,0 +1,5 @@
+use Rattle.fed_jar.proofs.WriteLaws.{jar_is_standing}
+use Rattle.fed_jar.proofs.laws.jar_is_standing.Goals as goal
+
+pub returns : goal.returns
+returns c = jar_is_standing

@@ -1,0 +1,5 @@
+use Rattle.fed_jar.proofs.PartyLaws.{text_is_of_party}
+use Rattle.fed_jar.proofs.laws.text_is_of_party.Goals as goal
+
+pub returns : goal.returns
+returns c = text_is_of_party

@@ -1,0 +1,58 @@
+-- Which cookies a request sends, and in which order (RFC 6265, 5.4).
+use Rattle.std.specs.Prelude.{ℕ, Bool, true, ◌&&◌, List, [], ◌∷◌, ◌++◌, length, codes, filter, nat_lt, nat_le, bytes_eq, Option, None, Some, if◌then◌else◌}
+use Rattle.std.specs.List.{flat_map}
+use Rattle.url.specs.Parts.{Parts}
+use Rattle.fed_origin.specs.WebUrl.{host_of}
+use Rattle.fed_suffix.specs.Rule.{RuleSet}
+use Rattle.fed_cookie.specs.Matches.{path_matches}
+use Rattle.fed_jar.specs.Cookie.{StoredCookie}
+use Rattle.fed_jar.specs.Store.{has_no_limit, is_within}
+
+-- there is no expiry, or one above the time
+abbrev pub is_fresh : ℕ → Option ℕ → Bool
+is_fresh now None = true
+is_fresh now (Some expiry) = nat_lt now expiry
+
+-- the cookie goes to the host
+abbrev pub goes_to : RuleSet → List ℕ → StoredCookie → Bool
+goes_to rules host cookie = if cookie.host_only then bytes_eq cookie.domain host else is_within rules host cookie.domain
+
+-- the cookie goes with a request to the URL at the time
+unfoldable pub is_sent : RuleSet → Parts → ℕ → StoredCookie → Bool
+is_sent rules url now cookie =
+    cookie.secure && has_no_limit cookie.same_site && is_fresh now cookie.expiry && path_matches url.path cookie.path
+    && goes_to rules (host_of url) cookie
+
+-- the item stands before the first whose number is not larger
+abbrev pub put_by : {X : Type 0} → (X → ℕ) → X → List X → List X
+put_by number item [] = item ∷ []
+put_by number item (x ∷ xs) = if nat_le (number x) (number item) then item ∷ x ∷ xs else x ∷ put_by number item xs
+
+-- larger numbers first, and items of one number in their order
+abbrev pub largest_first : {X : Type 0} → (X → ℕ) → List X → List X
+largest_first number [] = []
+largest_first number (x ∷ xs) = put_by number x (largest_first number xs)
+
+abbrev pub path_length : StoredCookie → ℕ
+path_length cookie = length cookie.path
+
+-- the cookies that go with a request, longer paths first, then in their order
+abbrev pub cookies_sent : RuleSet → Parts → ℕ → List StoredCookie → List StoredCookie
+cookies_sent rules url now cookies = largest_first path_length (filter (is_sent rules url now) cookies)
+
+-- `name=value`
+unfoldable pub pair_text : StoredCookie → List ℕ
+pair_text cookie = cookie.name ++ 61 ∷ cookie.value
+
+-- one more pair, after `; `
+unfoldable pub next_text : StoredCookie → List ℕ
+next_text cookie = codes "; " ++ pair_text cookie
+
+-- the pairs joined by `; `
+abbrev pub pairs_text : List StoredCookie → List ℕ
+pairs_text [] = []
+pairs_text (cookie ∷ cookies) = pair_text cookie ++ flat_map next_text cookies
+
+-- the Cookie field of a request to the URL at the time, of a jar with these cookies
+unfoldable pub jar_text : RuleSet → Parts → ℕ → List StoredCookie → List ℕ
+jar_text rules url now cookies = pairs_text (cookies_sent rules url now cookies)

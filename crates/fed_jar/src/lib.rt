@@ -1,0 +1,14 @@
+//! The cookie jar (RFC 6265, 5.3 and 5.4, in this profile).
+#![tactic(auto)]
+
+mod cookie;
+mod entry;
+mod jar;
+pub mod laws;
+mod send;
+mod store;
+#[cfg(test)]
+mod tests;
+
+pub use cookie::Cookie;
+pub use jar::Jar;

@@ -1,0 +1,168 @@
+//! Which fields a jar stores, and as which cookie (RFC 6265, 5.3).
+ghost use Rattle.std.specs.Prelude.{◌≡◌, ◌+◌, IfOk, Some, length, nat_lt, unwrap_or};
+ghost use Rattle.std.specs.Option.{option_copied};
+ghost use Rattle.fed_suffix.specs.Registrable.{registrable};
+ghost use Rattle.fed_jar.specs.Key.{cookie_at};
+ghost use Rattle.fed_jar.specs.Store as spec;
+
+use crate::entry::{CookieKey, CookieRest, LineText};
+use fed_cookie::{RawCookie, SameSite, default_path, domain_matches};
+use fed_io::{Bytes, NoRoom};
+use fed_origin::{Host, Scheme, WebUrl};
+use fed_suffix::Suffixes;
+use std::alloc::Global;
+
+// The most bytes of name and value together.
+const MOST_BYTES: usize = 4096;
+
+/// Whether the cookie is for the host alone, or `None` where it is ignored.
+pub fn scope_of(rules: &Suffixes, url: &WebUrl, raw: &RawCookie) -> Option<bool>
+    ensures { result ≡ spec.scope_of rules.now url.now raw.now }
+{
+    let path = path_from(url.path().as_bytes(), raw);
+    if is_refused(url.scheme(), path, raw) {
+        return None;
+    }
+    match &raw.domain {
+        Some(domain) => host_only_of(rules, url.host(), domain.as_slice()),
+        None => Some(true),
+    }
+}
+
+fn path_from<'a>(page: &'a [u8], raw: &'a RawCookie) -> &'a [u8]
+    ensures { result.now ≡ spec.path_from page.now raw.now }
+{
+    match &raw.path {
+        Some(path) => path.as_slice(),
+        None => default_path(page),
+    }
+}
+
+// Too long, Secure over http, SameSite=None without Secure, or a broken prefix.
+#[tactic(auto, unfolding(crate::specs::Store::is_refused))]
+fn is_refused(scheme: Scheme, path: &[u8], raw: &RawCookie) -> bool
+    ensures { result ≡ spec.is_refused scheme path.now raw.now }
+{
+    is_too_long(raw.name.as_slice(), raw.value.as_slice())
+        || (raw.secure && scheme == Scheme::Http)
+        || (raw.same_site == SameSite::NoLimit && !raw.secure)
+        || breaks_prefix(path, raw)
+}
+
+fn is_too_long(name: &[u8], value: &[u8]) -> bool
+    ensures { result ≡ nat_lt 4096 (length name.now + length value.now) }
+{
+    name.len() > MOST_BYTES || value.len() > MOST_BYTES - name.len()
+}
+
+// Whether the name begins with `__Secure-` or `__Host-` and the cookie is not such a one.
+fn breaks_prefix(path: &[u8], raw: &RawCookie) -> bool
+    ensures { result ≡ spec.breaks_prefix path.now raw.now }
+{
+    let name = raw.name.as_slice();
+    if name.starts_with(b"__Secure-") && !raw.secure {
+        return true;
+    }
+    name.starts_with(b"__Host-") && (!raw.secure || raw.domain.is_some() || path != b"/".as_slice())
+}
+
+// Whether a cookie with this Domain attribute is for the host alone, or `None` where it may not
+// name that domain.
+fn host_only_of(rules: &Suffixes, host: &Host, domain: &[u8]) -> Option<bool>
+    ensures { result ≡ spec.host_only_of rules.now host.now (Some domain.now) }
+{
+    if is_within(rules, host, rules.registrable(host), domain) {
+        return Some(false);
+    }
+    if domain == host.text.as_str().as_bytes() {
+        return Some(true);
+    }
+    None
+}
+
+/// Whether the host matches the domain and both have the same registrable domain, of which that of
+/// the host is given.
+#[tactic(auto, unfolding(crate::specs::Store::is_within))]
+pub fn is_within(rules: &Suffixes, host: &Host, site: Option<&[u8]>, domain: &[u8]) -> bool
+    requires { option_copied site ≡ registrable rules.now host.now }
+    ensures { result ≡ spec.is_within rules.now host.now domain.now }
+{
+    domain_matches(host, domain) && are_same(site, rules.registrable_name(domain))
+}
+
+fn are_same(a: Option<&[u8]>, b: Option<&[u8]>) -> bool
+    ensures { result ≡ spec.are_same (option_copied a.entry) (option_copied b.entry) }
+{
+    match (a, b) {
+        (Some(a), Some(b)) => a == b,
+        _ => false,
+    }
+}
+
+/// The entry of a cookie that is stored.
+#[tactic(auto, unfolding(crate::specs::Store::cookie_from))]
+pub fn entry_of(
+    alloc: Global,
+    url: &WebUrl,
+    now: u64,
+    raw: RawCookie,
+    host_only: bool,
+) -> Result<(CookieKey, CookieRest), NoRoom>
+    ensures { IfOk result (λ e. cookie_at e.0 e.1 ≡ spec.cookie_from url.now now raw host_only) }
+{
+    let RawCookie {
+        name,
+        value,
+        domain,
+        path,
+        expires,
+        max_age,
+        secure,
+        same_site,
+    } = raw;
+    let domain = or_copy(alloc, domain, url.host().text.as_str().as_bytes())?;
+    let path = or_copy(alloc, path, default_path(url.path().as_bytes()))?;
+    Ok((
+        CookieKey {
+            name: LineText::of(name),
+            domain,
+            path,
+        },
+        CookieRest {
+            value: LineText::of(value),
+            host_only,
+            expiry: expiry_of(now, max_age, expires),
+            secure,
+            same_site,
+        },
+    ))
+}
+
+// The bytes that are there, or else a copy of the others.
+fn or_copy(alloc: Global, bytes: Option<Bytes>, other: &[u8]) -> Result<Bytes, NoRoom>
+    ensures { IfOk result (λ r. r ≡ unwrap_or bytes other.now) }
+{
+    match bytes {
+        Some(bytes) => Ok(bytes),
+        None => Bytes::of(alloc, other),
+    }
+}
+
+// By Max-Age, otherwise by Expires, otherwise none.
+fn expiry_of(now: u64, max_age: Option<i64>, expires: Option<u64>) -> Option<u64>
+    ensures { result ≡ spec.expiry_of now max_age expires }
+{
+    match max_age {
+        Some(age) => Some(expiry_after(now, age)),
+        None => expires,
+    }
+}
+
+fn expiry_after(now: u64, age: i64) -> u64
+    ensures { result ≡ spec.expiry_after now age }
+{
+    if age <= 0 {
+        return 0;
+    }
+    now.saturating_add(age as u64)
+}

@@ -1,0 +1,3 @@
+pub mod Host
+pub mod Origin
+pub mod WebUrl

@@ -1,0 +1,20 @@
+//! Origins, URLs of the web and the plain types of a call.
+#![tactic(auto)]
+
+mod host;
+mod options;
+mod origin;
+mod refusal;
+mod scheme;
+mod stage;
+#[cfg(test)]
+mod tests;
+mod web_url;
+
+pub use host::{Host, HostKind};
+pub use options::{Context, GetOptions, Mediation, Mode, ProviderOptions};
+pub use origin::Origin;
+pub use refusal::UrlRefusal;
+pub use scheme::Scheme;
+pub use stage::{Endpoint, ReplyKind, Stage};
+pub use web_url::WebUrl;

@@ -1,0 +1,4 @@
+pub mod LawLemmas
+pub mod ListLemmas
+pub mod SiteLemmas
+pub mod EndpointLemmas

@@ -1,0 +1,5 @@
+pub mod Config
+pub mod Laws
+pub mod Metadata
+pub mod Shape
+pub mod WellKnown

@@ -1,0 +1,67 @@
+-- The well-known file of a site (FedCM, "The Well-Known File").
+use Rattle.std.specs.Prelude.{ℕ, List, ◌++◌, codes, bytes_eq, Option, Some, None, Result, Ok, Err, ok_or, option_and_then, if◌then◌else◌}
+use Rattle.url.specs.Parts.{Parts, serialize}
+use Rattle.serde_json.specs.Data.{Data, Items, no_items, item}
+use Rattle.serde_json.specs.Find.{as_str}
+use Rattle.fed_origin.specs.declared.refusal.UrlRefusal.{UrlRefusal}
+use Rattle.fed_origin.specs.WebUrl.{web_url, joined_url, host_of}
+use Rattle.fed_suffix.specs.Rule.{RuleSet}
+use Rattle.fed_suffix.specs.Registrable.{registrable}
+use Rattle.fed_reply.specs.Steps.{◌>>=◌, with_step}
+use Rattle.fed_reply.specs.Json.{ReplyJsonOf}
+use Rattle.fed_reply.specs.Members.{list_under}
+use Rattle.fed_reply.specs.declared.member.Member.{Member}
+use Rattle.fed_reply.specs.declared.member.Member.TheVariants.{Absent, Wrong, Is}
+use Rattle.fed_provider.specs.declared.step.ProviderStep.{ProviderStep}
+use Rattle.fed_provider.specs.declared.step.ProviderStep.TheVariants.{NoSite, WellKnownReply, WellKnownShape, WellKnownOther}
+
+-- ---- its URL
+
+-- the text of a site's well-known URL
+unfoldable pub wellknown_text : List ℕ → List ℕ
+wellknown_text site = codes "https://" ++ site ++ codes "/.well-known/web-identity"
+
+-- the URL that was read, whatever refuses it
+abbrev pub url_of_site : Result Parts UrlRefusal → Result Parts ProviderStep
+url_of_site (Ok url) = Ok url
+url_of_site (Err refusal) = Err NoSite
+
+-- the well-known URL of a site, if there is one
+abbrev pub of_site : Option (List ℕ) → Result Parts ProviderStep
+of_site None = Err NoSite
+of_site (Some site) = url_of_site (web_url (wellknown_text site))
+
+-- the well-known URL for a configuration URL
+unfoldable pub WellKnownUrlOf : RuleSet → Parts → Result Parts ProviderStep
+WellKnownUrlOf rules config = of_site (registrable rules (host_of config))
+
+-- ---- the file
+
+-- the only item of a list
+abbrev pub only_item : Items → Option Data
+only_item no_items = None
+only_item (item d no_items) = Some d
+only_item (item d (item e ds)) = None
+
+-- the text that is the only item of a list
+abbrev pub only_text : Member Items → Option (List ℕ)
+only_text Absent = None
+only_text Wrong = None
+only_text (Is items) = option_and_then as_str (only_item items)
+
+-- the URL that was read is the configuration URL, by their serialized texts
+abbrev pub names : Parts → Result Parts UrlRefusal → Result (Unit {0}) ProviderStep
+names config (Ok url) = if bytes_eq (serialize url) (serialize config) then Ok tt else Err WellKnownOther
+names config (Err refusal) = Err WellKnownOther
+
+-- the one URL that the file names is the configuration URL
+abbrev pub lists : Parts → Parts → Data → Result (Unit {0}) ProviderStep
+lists base config file = do
+  text ← ok_or (only_text (list_under (codes "provider_urls") file)) WellKnownShape
+  names config (joined_url base text)
+
+-- the well-known file in the reply `raw` of the URL `base` names the configuration URL, or the first step
+unfoldable pub WellKnownOf : List ℕ → Parts → Parts → Result (Unit {0}) ProviderStep
+WellKnownOf raw base config = do
+  file ← with_step WellKnownReply (ReplyJsonOf raw)
+  lists base config file

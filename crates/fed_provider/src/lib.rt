@@ -1,0 +1,16 @@
+//! The files of a provider: its well-known file, its configuration and a client's metadata.
+#![tactic(auto)]
+
+mod config;
+pub mod laws;
+mod metadata;
+mod step;
+mod wellknown;
+
+pub use config::{Config, read_config};
+pub use metadata::{PolicyLinks, read_metadata};
+pub use step::ProviderStep;
+pub use wellknown::{read_wellknown, wellknown_url};
+
+#[cfg(test)]
+mod tests;

@@ -1,0 +1,73 @@
+//! The metadata of a client.
+ghost use Rattle.std.specs.Prelude.{◌≡◌, IfOk};
+ghost use Rattle.serde_json.specs.View.{view};
+ghost use Rattle.fed_provider.specs.Metadata as spec;
+
+use crate::config::copy_url;
+use fed_io::{Fault, NoRoom};
+use fed_origin::WebUrl;
+use fed_reply::{Member, read_json, text_member};
+use serde_json::Value;
+use std::alloc::Global;
+
+/// The links of a client's metadata (FedCM, "The client metadata endpoint").
+#[derive(Drop)]
+pub struct PolicyLinks {
+    /// The privacy policy.
+    pub privacy: Option<WebUrl>,
+    /// The terms of service.
+    pub terms: Option<WebUrl>,
+}
+
+impl PolicyLinks {
+    /// The same links.
+    pub fn copy(&self, alloc: Global) -> Result<PolicyLinks, NoRoom>
+        ensures { IfOk result (λ copy. copy ≡ self.now) }
+    {
+        Ok(PolicyLinks {
+            privacy: copy_url(alloc, &self.privacy)?,
+            terms: copy_url(alloc, &self.terms)?,
+        })
+    }
+}
+
+/// Reads the links in a reply of the client metadata endpoint. What is not read gives no link.
+#[tactic(auto, unfolding(crate::specs::Metadata::MetadataOf))]
+pub fn read_metadata(alloc: Global, raw: &[u8]) -> Result<PolicyLinks, NoRoom>
+    ensures { IfOk result (λ links. links ≡ spec.MetadataOf raw.now) }
+{
+    match read_json(alloc, raw) {
+        Ok(file) => {
+            let privacy = link(alloc, &file, "privacy_policy_url")?;
+            let terms = link(alloc, &file, "terms_of_service_url")?;
+            Ok(PolicyLinks { privacy, terms })
+        }
+        Err(Fault::Step(_)) => Ok(PolicyLinks {
+            privacy: None,
+            terms: None,
+        }),
+        Err(Fault::NoRoom) => Err(NoRoom),
+    }
+}
+
+// The link under the name: a text that is a URL.
+fn link(alloc: Global, file: &Value, name: &str) -> Result<Option<WebUrl>, NoRoom>
+    ensures { IfOk result (λ link. link ≡ spec.link_under name.now (view file.now)) }
+{
+    match text_member(file, name) {
+        Member::Is(text) => url_in(alloc, text),
+        Member::Absent | Member::Wrong => Ok(None),
+    }
+}
+
+// The URL that a text gives.
+#[tactic(auto, unfolding(crate::specs::Metadata::url_in))]
+fn url_in(alloc: Global, text: &str) -> Result<Option<WebUrl>, NoRoom>
+    ensures { IfOk result (λ url. url ≡ spec.url_in text.now) }
+{
+    match WebUrl::read(alloc, text) {
+        Ok(url) => Ok(Some(url)),
+        Err(Fault::Step(_)) => Ok(None),
+        Err(Fault::NoRoom) => Err(NoRoom),
+    }
+}

@@ -1,0 +1,129 @@
+//! The well-known file of a site.
+ghost use Rattle.std.specs.Prelude.{◌≡◌, Some, IfOk, IsAscii, option_map};
+ghost use Rattle.serde_json.specs.View.{view, items_view};
+ghost use Rattle.fed_io.specs.Fault.{Answers};
+ghost use Rattle.fed_origin.specs.WebUrl.{scheme_of};
+ghost use Rattle.fed_reply.specs.Members.{member_map};
+ghost use Rattle.fed_provider.specs.WellKnown as spec;
+
+use crate::ProviderStep;
+use fed_io::{Fault, NoRoom, Text};
+use fed_origin::{Scheme, WebUrl};
+use fed_reply::{Member, list_member, read_json};
+use fed_suffix::Suffixes;
+use serde_json::Value;
+use std::alloc::Global;
+use std::str;
+
+/// The well-known URL for a configuration URL (FedCM, "The Well-Known File"; its form is this
+/// profile's own): `https`, the registrable domain of the host, and `/.well-known/web-identity`.
+/// `NoSite` comes exactly where the host has no registrable domain or that text is no URL.
+#[tactic(auto, unfolding(crate::specs::WellKnown::WellKnownUrlOf))]
+pub fn wellknown_url(
+    alloc: Global,
+    rules: &Suffixes,
+    config: &WebUrl,
+) -> Result<WebUrl, Fault<ProviderStep>>
+    requires { scheme_of config.now ≡ Scheme.Https }
+    ensures { Answers result (spec.WellKnownUrlOf rules.now config.now) }
+{
+    let host = config.host();
+    let _kind = host.kind();
+    match rules.registrable(host) {
+        Some(site) => url_of_site(alloc, site_text(site)),
+        None => Err(Fault::Step(ProviderStep::NoSite)),
+    }
+}
+
+// The text of a site.
+fn site_text(site: &[u8]) -> &str
+    requires { IsAscii site.now }
+    ensures { result.now ≡ site.now }
+{
+    match str::from_utf8(site) {
+        Ok(text) => text,
+        Err(_) => unreachable!(),
+    }
+}
+
+// The well-known URL of a site.
+fn url_of_site(alloc: Global, site: &str) -> Result<WebUrl, Fault<ProviderStep>>
+    ensures { Answers result (spec.of_site (Some site.now)) }
+{
+    let text = wellknown_text(alloc, site)?;
+    match WebUrl::read(alloc, text.as_str()) {
+        Ok(url) => Ok(url),
+        Err(Fault::Step(_)) => Err(Fault::Step(ProviderStep::NoSite)),
+        Err(Fault::NoRoom) => Err(Fault::NoRoom),
+    }
+}
+
+// The text of a site's well-known URL.
+#[tactic(auto, unfolding(crate::specs::WellKnown::wellknown_text))]
+fn wellknown_text(alloc: Global, site: &str) -> Result<Text, NoRoom>
+    ensures { IfOk result (λ text. text ≡ spec.wellknown_text site.now) }
+{
+    let text = format!(in alloc; "https://{site}/.well-known/web-identity")?;
+    Text::of(alloc, text.as_str())
+}
+
+/// Reads the well-known file in a reply of the well-known URL `base`, and tests that it names the
+/// configuration URL. The steps are `WellKnownReply`, `WellKnownShape` where the file does not list
+/// exactly one text under `provider_urls`, and `WellKnownOther` where that text, joined to `base`,
+/// is not the configuration URL by their serialized texts.
+#[tactic(auto, unfolding(crate::specs::WellKnown::WellKnownOf))]
+pub fn read_wellknown(
+    alloc: Global,
+    raw: &[u8],
+    base: &WebUrl,
+    config: &WebUrl,
+) -> Result<(), Fault<ProviderStep>>
+    ensures { Answers result (spec.WellKnownOf raw.now base.now config.now) }
+{
+    match read_json(alloc, raw) {
+        Ok(file) => lists(alloc, &file, base, config),
+        Err(Fault::Step(step)) => Err(Fault::Step(ProviderStep::WellKnownReply(step))),
+        Err(Fault::NoRoom) => Err(Fault::NoRoom),
+    }
+}
+
+// Whether the file lists the configuration URL alone.
+fn lists(
+    alloc: Global,
+    file: &Value,
+    base: &WebUrl,
+    config: &WebUrl,
+) -> Result<(), Fault<ProviderStep>>
+    ensures { Answers result (spec.lists base.now config.now (view file.now)) }
+{
+    let Some(text) = only_text(list_member(file, "provider_urls")) else {
+        return Err(Fault::Step(ProviderStep::WellKnownShape));
+    };
+    match base.join(alloc, text) {
+        Ok(url) => {
+            if url.as_str() == config.as_str() {
+                Ok(())
+            } else {
+                Err(Fault::Step(ProviderStep::WellKnownOther))
+            }
+        }
+        Err(Fault::Step(_)) => Err(Fault::Step(ProviderStep::WellKnownOther)),
+        Err(Fault::NoRoom) => Err(Fault::NoRoom),
+    }
+}
+
+// The text that is the only item of a list.
+fn only_text<'a>(list: Member<&'a Vec<Value>>) -> Option<&'a str>
+    ensures { option_map (λ text. text.now) result ≡ spec.only_text (member_map (λ items. items_view items.now.items) list.entry) }
+{
+    match list {
+        Member::Is(items) => {
+            if items.len() == 1 {
+                items[0].as_str()
+            } else {
+                None
+            }
+        }
+        Member::Absent | Member::Wrong => None,
+    }
+}

@@ -1,0 +1,71 @@
+-- The JSON value of a reply.
+use Rattle.std.specs.Prelude.{ℕ, Bool, false, not, ◌&&◌, ◌||◌, ◌==◌, ◌-◌, nat_eq, nat_le, nat_lt, List, [], ◌∷◌, length, take, drop, codes, Option, Some, None, ok_or, Result, Err, if◌then◌else◌}
+use Rattle.std.specs.List.{before_first, after_first}
+use Rattle.std.specs.Cmp.Lexicographic.{pointwise}
+use Rattle.std.specs.Str.{is_utf8}
+use Rattle.httparse.specs.Grammar.{is_token, trim_ows}
+use Rattle.serde_json.specs.Data.{Data}
+use Rattle.serde_json.specs.Read.{read}
+use Rattle.fed_reply.specs.declared.step.ReplyStep.{ReplyStep}
+use Rattle.fed_reply.specs.declared.step.ReplyStep.TheVariants.{Status, Mime, Json}
+use Rattle.fed_reply.specs.Parts.{ReplyParts}
+use Rattle.fed_reply.specs.Fields.{value_at, is_word}
+use Rattle.fed_reply.specs.Steps.{and_then}
+use Rattle.fed_reply.specs.Reply.{ReplyOf}
+
+-- a status of the class 2xx
+abbrev pub is_success : ℕ → Bool
+is_success status = nat_le 200 status && nat_lt status 300
+
+-- the media type of a `content-type` value, without its parameters
+abbrev pub essence : List ℕ → List ℕ
+essence value = trim_ows (before_first (λ b. b == 59) value)
+
+-- what stands before the first slash of a media type, and what stands after it
+abbrev pub type_part : List ℕ → List ℕ
+type_part media = before_first (λ b. b == 47) media
+
+abbrev pub subtype_part : List ℕ → List ℕ
+subtype_part media = after_first (λ b. b == 47) media
+
+-- the last five bytes are `+json`, in any case
+abbrev pub has_json_suffix : List ℕ → Bool
+has_json_suffix subtype = is_word (codes "+json") (drop (length subtype - 5) subtype)
+
+-- the media type with that subtype names JSON (WHATWG MIME Sniffing, 4.6)
+abbrev pub names_json : List ℕ → List ℕ → Bool
+names_json media subtype =
+    is_word (codes "application/json") media
+    || (is_word (codes "text/json") media || has_json_suffix subtype)
+
+-- two tokens round one slash, which name JSON
+unfoldable pub is_json_media : List ℕ → Bool
+is_json_media media =
+    is_token (type_part media)
+    && (is_token (subtype_part media) && names_json media (subtype_part media))
+
+-- the first `content-type` value names JSON
+abbrev pub is_json_type : Option (List ℕ) → Bool
+is_json_type None = false
+is_json_type (Some value) = is_json_media (essence value)
+
+-- the bytes without the byte order mark that they may begin with
+abbrev pub without_mark : List ℕ → List ℕ
+without_mark body =
+    if pointwise nat_eq (take 3 body) (239 ∷ 187 ∷ 191 ∷ []) then drop 3 body else body
+
+-- the value of a text, where the bytes are UTF-8 and JSON (RFC 8259)
+unfoldable pub data_of : List ℕ → Option Data
+data_of bytes = if is_utf8 bytes then read bytes else None
+
+-- the value of a reply's body, or the first of the three steps
+unfoldable pub JsonOf : ReplyParts → Result Data ReplyStep
+JsonOf reply =
+    if not (is_success reply.status) then Err Status
+    else (if is_json_type (value_at (codes "content-type") 0 reply.fields)
+    then ok_or (data_of (without_mark reply.body)) Json
+    else Err Mime)
+
+-- the value that the bytes of a reply carry, or the first step
+abbrev pub ReplyJsonOf : List ℕ → Result Data ReplyStep
+ReplyJsonOf raw = and_then JsonOf (ReplyOf raw)

@@ -1,0 +1,9 @@
+pub mod Body
+pub mod Chunked
+pub mod Fields
+pub mod Json
+pub mod Laws
+pub mod Members
+pub mod Parts
+pub mod Reply
+pub mod Steps

@@ -1,0 +1,185 @@
+//! The JSON value of a reply.
+ghost use Rattle.std.specs.Prelude.{◌≡◌, ◌==◌, ok_or, position, reverse};
+ghost use Rattle.std.specs.List.{list_all};
+ghost use Rattle.std.specs.Option.{option_copied};
+ghost use Rattle.httparse.specs.Grammar as grammar;
+ghost use Rattle.serde_json.specs.View.{view};
+ghost use Rattle.fed_io.specs.Fault.{AnswersBy};
+ghost use Rattle.fed_reply.specs.Json as spec;
+
+use crate::fields::is_in_any_case;
+use crate::{Reply, ReplyStep, read_reply};
+use fed_io::Fault;
+use serde_json::Value;
+use std::alloc::Global;
+
+// The byte order mark of UTF-8.
+const MARK: [u8; 3] = [0xEF, 0xBB, 0xBF];
+
+/// The JSON value of a reply of the class 2xx whose first content type is JSON (WHATWG MIME
+/// Sniffing, 4.6); one byte order mark before it is dropped. The steps are `Status`, `Mime` and
+/// `Json`, in this order.
+#[tactic(auto, unfolding(crate::specs::Json::JsonOf))]
+pub fn json_of(alloc: Global, reply: &Reply) -> Result<Value, Fault<ReplyStep>>
+    ensures { AnswersBy view result (spec.JsonOf reply.now) }
+{
+    if !(200..300).contains(&reply.status()) {
+        return Err(Fault::Step(ReplyStep::Status));
+    }
+    if !is_json_type(reply.field("content-type", 0)) {
+        return Err(Fault::Step(ReplyStep::Mime));
+    }
+    read_value(alloc, after_mark(reply.body()))
+}
+
+/// The JSON value that the bytes of a reply carry. The steps are those of `read_reply`, and then
+/// those of `json_of`.
+pub fn read_json(alloc: Global, raw: &[u8]) -> Result<Value, Fault<ReplyStep>>
+    ensures { AnswersBy view result (spec.ReplyJsonOf raw.now) }
+{
+    match read_reply(alloc, raw) {
+        Ok(reply) => json_of(alloc, &reply),
+        Err(fault) => Err(fault),
+    }
+}
+
+// The value of a JSON text.
+fn read_value(alloc: Global, bytes: &[u8]) -> Result<Value, Fault<ReplyStep>>
+    ensures { AnswersBy view result (ok_or (spec.data_of bytes.now) ReplyStep.Json) }
+{
+    match Value::from_slice(alloc, bytes) {
+        Ok(value) => Ok(value),
+        Err(error) => {
+            if error.is_memory() {
+                Err(Fault::NoRoom)
+            } else {
+                Err(Fault::Step(ReplyStep::Json))
+            }
+        }
+    }
+}
+
+// The bytes without a byte order mark before them.
+fn after_mark(body: &[u8]) -> &[u8]
+    ensures { result.now ≡ spec.without_mark body.now }
+{
+    body.strip_prefix(MARK.as_slice()).unwrap_or(body)
+}
+
+// Whether a content type is there and names JSON.
+fn is_json_type(value: Option<&[u8]>) -> bool
+    ensures { result ≡ spec.is_json_type (option_copied value.entry) }
+{
+    match value {
+        Some(value) => is_json_media(media_type(value)),
+        None => false,
+    }
+}
+
+// The media type without its parameters.
+fn media_type(value: &[u8]) -> &[u8]
+    ensures { result.now ≡ spec.essence value.now }
+{
+    match place_of(b';', value) {
+        Some(at) => trimmed(&value[..at]),
+        None => trimmed(value),
+    }
+}
+
+// Whether the media type is two tokens round a slash that name JSON.
+#[tactic(auto, unfolding(crate::specs::Json::is_json_media))]
+fn is_json_media(media: &[u8]) -> bool
+    ensures { result ≡ spec.is_json_media media.now }
+{
+    let Some(slash) = place_of(b'/', media) else {
+        return false;
+    };
+    let subtype = &media[slash + 1..];
+    is_token(&media[..slash]) && is_token(subtype) && names_json(media, subtype)
+}
+
+// Whether the media type with that subtype names JSON.
+fn names_json(media: &[u8], subtype: &[u8]) -> bool
+    ensures { result ≡ spec.names_json media.now subtype.now }
+{
+    is_in_any_case(media, b"application/json")
+        || is_in_any_case(media, b"text/json")
+        || has_json_suffix(subtype)
+}
+
+// Where the byte stands first.
+fn place_of(byte: u8, bytes: &[u8]) -> Option<usize>
+    ensures { result ≡ position (λ b. b == byte) bytes.now }
+{
+    bytes.iter().position(|b| *b == byte)
+}
+
+// The bytes without the spaces and tabs at their ends.
+fn trimmed(bytes: &[u8]) -> &[u8]
+    ensures { result.now ≡ grammar.trim_ows bytes.now }
+{
+    before_blanks(after_blanks(bytes))
+}
+
+// The bytes from the first that is no space or tab.
+fn after_blanks(bytes: &[u8]) -> &[u8]
+    ensures { result.now ≡ grammar.skip_ows bytes.now }
+{
+    let mut rest = bytes;
+    while let Some((first, after)) = rest.split_first() {
+        if !is_blank(*first) {
+            return rest;
+        }
+        rest = after;
+    }
+    rest
+}
+
+// The bytes up to the last that is no space or tab.
+fn before_blanks(bytes: &[u8]) -> &[u8]
+    ensures { reverse result.now ≡ grammar.skip_ows (reverse bytes.now) }
+{
+    let mut rest = bytes;
+    while let Some((last, before)) = rest.split_last() {
+        if !is_blank(*last) {
+            return rest;
+        }
+        rest = before;
+    }
+    rest
+}
+
+fn is_blank(byte: u8) -> bool
+    ensures { result ≡ grammar.is_ows byte }
+{
+    byte == b' ' || byte == b'\t'
+}
+
+// Whether the last five bytes are `+json`, in any case.
+fn has_json_suffix(subtype: &[u8]) -> bool
+    ensures { result ≡ spec.has_json_suffix subtype.now }
+{
+    let start = subtype.len().saturating_sub(5);
+    is_in_any_case(&subtype[start..], b"+json")
+}
+
+// Whether the bytes are a token (RFC 9110, 5.6.2).
+fn is_token(bytes: &[u8]) -> bool
+    ensures { result ≡ grammar.is_token bytes.now }
+{
+    !bytes.is_empty() && has_token_bytes(bytes)
+}
+
+// Whether each byte is one of a token.
+fn has_token_bytes(bytes: &[u8]) -> bool
+    ensures { result ≡ list_all grammar.is_token_byte bytes.now }
+{
+    bytes.iter().all(|byte| is_token_byte(*byte))
+}
+
+#[tactic(auto, unfolding(httparse::specs::Grammar::is_token_byte))]
+fn is_token_byte(byte: u8) -> bool
+    ensures { result ≡ grammar.is_token_byte byte }
+{
+    byte.is_ascii_alphanumeric() || b"!#$%&'*+-.^_`|~".contains(&byte)
+}

@@ -1,0 +1,21 @@
+//! HTTP replies: their head, their body by its framing, and the JSON value that they carry.
+#![tactic(auto)]
+
+mod chunks;
+mod fields;
+mod framing;
+mod json;
+pub mod laws;
+mod member;
+mod read;
+mod reply;
+mod step;
+
+pub use json::{json_of, read_json};
+pub use member::{Member, list_member, object_member, text_member};
+pub use read::{read_head, read_reply};
+pub use reply::Reply;
+pub use step::ReplyStep;
+
+#[cfg(test)]
+mod tests;

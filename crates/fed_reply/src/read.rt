@@ -1,0 +1,91 @@
+//! Reading a reply.
+ghost use Rattle.std.specs.Prelude.{◌≡◌};
+ghost use Rattle.fed_io.specs.Fault.{Answers};
+ghost use Rattle.fed_reply.specs.Body.{body_of};
+ghost use Rattle.fed_reply.specs.Reply.{HeadOf, ReplyOf, FrontOf, FindsFront};
+
+use crate::chunks::read_chunks;
+use crate::fields::read_fields;
+use crate::framing::{Framing, body_framing};
+use crate::{Reply, ReplyStep};
+use fed_head::read_head_spans;
+use fed_io::{Bytes, Fault};
+use http::StatusCode;
+use http_header::HeaderMap;
+use httparse::spans::EMPTY_HEADER_SPAN;
+use std::alloc::Global;
+
+// A head, and how many bytes it has.
+#[derive(Drop)]
+struct Front {
+    status: StatusCode,
+    fields: HeaderMap,
+    len: usize,
+}
+
+/// Reads the head of a reply (RFC 9112, 4 and 5), of at most 128 fields. The body of the reply is
+/// empty. The one step is `Head`.
+#[tactic(auto, unfolding(crate::specs::Reply::HeadOf))]
+pub fn read_head(alloc: Global, raw: &[u8]) -> Result<Reply, Fault<ReplyStep>>
+    ensures { Answers result (HeadOf raw.now) }
+{
+    match read_front(alloc, raw) {
+        Ok(front) => Ok(Reply::new(front.status, front.fields, Bytes::from_vec(Vec::new(alloc)))),
+        Err(fault) => Err(fault),
+    }
+}
+
+/// Reads a reply: its head, and its body by its framing (RFC 9112, 6 and 7.1). The steps are `Head`,
+/// `Coding`, `Length`, `Chunk` and `Short`; the first in this order, and among `Chunk` and `Short`
+/// the first in the bytes.
+#[tactic(auto, unfolding(crate::specs::Reply::ReplyOf))]
+pub fn read_reply(alloc: Global, raw: &[u8]) -> Result<Reply, Fault<ReplyStep>>
+    ensures { Answers result (ReplyOf raw.now) }
+{
+    let front = match read_front(alloc, raw) {
+        Ok(front) => front,
+        Err(fault) => return Err(fault),
+    };
+    match read_body(alloc, &front.fields, &raw[front.len..]) {
+        Ok(body) => Ok(Reply::new(front.status, front.fields, body)),
+        Err(fault) => Err(fault),
+    }
+}
+
+// The head at the front of the bytes.
+fn read_front(alloc: Global, raw: &[u8]) -> Result<Front, Fault<ReplyStep>>
+    ensures { FindsFront raw.now (FrontOf raw.now) result }
+{
+    let mut spans = [EMPTY_HEADER_SPAN; 128];
+    let Some(head) = read_head_spans(raw, &mut spans) else {
+        return Err(Fault::Step(ReplyStep::Head));
+    };
+    let Ok(status) = StatusCode::from_u16(head.status) else {
+        return Err(Fault::Step(ReplyStep::Head));
+    };
+    match read_fields(alloc, raw, &spans[..head.count]) {
+        Ok(fields) => Ok(Front {
+            status,
+            fields,
+            len: head.len,
+        }),
+        Err(fault) => Err(fault),
+    }
+}
+
+// The body in the bytes after the head.
+fn read_body(alloc: Global, fields: &HeaderMap, rest: &[u8]) -> Result<Bytes, Fault<ReplyStep>>
+    ensures { Answers result (body_of fields.now rest.now) }
+{
+    match body_framing(fields) {
+        Ok(Framing::Chunked) => read_chunks(alloc, rest),
+        Ok(Framing::Counted(length)) => {
+            if (rest.len() as u64) < length {
+                return Err(Fault::Step(ReplyStep::Short));
+            }
+            Ok(Bytes::of(alloc, &rest[..length as usize])?)
+        }
+        Ok(Framing::ToTheEnd) => Ok(Bytes::of(alloc, rest)?),
+        Err(step) => Err(Fault::Step(step)),
+    }
+}

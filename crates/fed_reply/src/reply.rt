@@ -1,0 +1,79 @@
+//! Replies.
+ghost use Rattle.std.specs.Prelude.{◌≡◌, option_map, slice_get};
+ghost use Rattle.std.specs.Option.{option_copied};
+ghost use Rattle.http_header.specs.HeaderMap.{get_all};
+ghost use Rattle.http_header.specs.Token.{lowercase};
+ghost use Rattle.fed_reply.specs.Fields.{value_at};
+
+use fed_io::Bytes;
+use http::StatusCode;
+use http_header::{HeaderMap, HeaderValue};
+use std::marker::Model;
+
+/// A reply that was read: its status, its fields and its body.
+#[derive(Drop)]
+pub struct Reply {
+    status: StatusCode,
+    fields: HeaderMap,
+    body: Bytes,
+}
+
+impl Model for Reply {
+    ghost use Rattle.fed_reply.specs.Parts.{ReplyParts, reply_parts_code};
+
+    ghost Value = { ReplyParts };
+
+    ghost coded = { reply_parts_code };
+
+    ghost view = { λ r. record { status = r.status; fields = r.fields; body = r.body } };
+}
+
+impl Reply {
+    pub(crate) fn new(status: StatusCode, fields: HeaderMap, body: Bytes) -> Reply
+        ensures { result ≡ record { status = status; fields = fields; body = body } }
+    {
+        Reply {
+            status,
+            fields,
+            body,
+        }
+    }
+
+    /// The status code, 100 to 999.
+    pub fn status(&self) -> u16
+        ensures { result ≡ self.now.status }
+    {
+        self.status.as_u16()
+    }
+
+    /// The `k`-th value, from 0, of the fields of that name, in the reply's order and without white
+    /// space at its ends. The name is compared in any case. None where there are at most `k`.
+    pub fn field(&self, name: &str, k: usize) -> Option<&[u8]>
+        ensures { option_map (λ v. v.now) result ≡ value_at (lowercase name.now) k self.now.fields }
+    {
+        match nth_value(&self.fields, name, k) {
+            Some(value) => Some(value.as_bytes()),
+            None => None,
+        }
+    }
+
+    /// The body, without its framing.
+    pub fn body(&self) -> &[u8]
+        ensures { result.now ≡ self.now.body }
+    {
+        self.body.as_slice()
+    }
+}
+
+// The `k`-th value under a name, from 0.
+fn nth_value<'a>(fields: &'a HeaderMap, name: &str, k: usize) -> Option<&'a HeaderValue>
+    ensures { option_copied result ≡ slice_get (get_all fields.now (lowercase name.now)) k }
+{
+    let mut values = fields.get_all(name).iter();
+    let mut left = k;
+    while left > 0 {
+        values.next()?;
+        left -= 1;
+    }
+    values.next()
+}

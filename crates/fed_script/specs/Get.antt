@@ -1,0 +1,124 @@
+-- What a line of the kind `get` is read as.
+use Rattle.std.specs.Prelude.{⊤, ℕ, List, [], ◌∷◌, Option, Some, None, option_and_then, Result, Ok, false}
+use Rattle.std.specs.Option.{option_copied}
+use Rattle.serde_json.specs.Data.{Data, object, Items, no_items, item}
+use Rattle.serde_json.specs.Find.{as_str, as_array}
+use Rattle.url.specs.Parts.{Parts}
+use Rattle.fed_origin.specs.declared.options.Context.TheVariants.{SignIn}
+use Rattle.fed_origin.specs.declared.options.GetOptions.{GetOptions}
+use Rattle.fed_origin.specs.declared.options.Mediation.TheVariants.{Optional}
+use Rattle.fed_origin.specs.declared.options.Mode.TheVariants.{Passive}
+use Rattle.fed_origin.specs.declared.options.ProviderOptions.{ProviderOptions}
+use Rattle.fed_script.specs.declared.cause.LineCause.{LineCause}
+use Rattle.fed_script.specs.declared.cause.MemberName.TheVariants as names
+use Rattle.fed_script.specs.declared.event.Event.{Event}
+use Rattle.fed_script.specs.declared.event.Event.TheVariants.{Get}
+use Rattle.fed_script.specs.declared.get.GetMembers as get
+use Rattle.fed_script.specs.declared.get.ProviderMembers as provider
+use Rattle.fed_script.specs.Member.{◌>>=◌, required, optional, not_built, member_of, as_u32, url_of}
+
+-- the members of an entry of `providers`, its URL as text
+pub record ProviderMembers : Type 0 where
+  pub config : List ℕ
+  pub client : List ℕ
+  pub nonce : Option (List ℕ)
+  pub login_hint : Option (List ℕ)
+  pub domain_hint : Option (List ℕ)
+  pub params : Option (List ℕ)
+
+-- the members of a get
+pub record GetMembers : Type 0 where
+  pub page : ℕ
+  pub call : ℕ
+  pub provider : ProviderMembers
+
+-- what borrowed members of an entry point to
+abbrev pub provider_seen : provider.ProviderMembers → ProviderMembers
+provider_seen p =
+    record {
+      config = p.config.now;
+      client = p.client.now;
+      nonce = option_copied p.nonce;
+      login_hint = option_copied p.login_hint;
+      domain_hint = option_copied p.domain_hint;
+      params = option_copied p.params;
+    }
+
+-- what borrowed members of a get point to
+abbrev pub get_seen : get.GetMembers → GetMembers
+get_seen m = record { page = m.page; call = m.call; provider = provider_seen m.provider }
+
+-- the entry of a list of exactly one
+abbrev pub only_item : Items → Option Data
+only_item no_items = None
+only_item (item d no_items) = Some d
+only_item (item d (item e ds)) = None
+
+-- a value that is an object
+abbrev pub as_entry : Data → Option Data
+as_entry (object members) = Some (object members)
+as_entry _ = None
+
+-- the entry of a list of exactly one object
+abbrev pub as_provider : Data → Option Data
+as_provider d = option_and_then as_entry (option_and_then only_item (as_array d))
+
+-- the members of an entry of `providers`, in their order
+abbrev pub provider_members : Data → Result ProviderMembers LineCause
+provider_members d = do
+  config ← required as_str names.Config d
+  client ← required as_str names.Client d
+  nonce ← optional as_str names.Nonce (member_of names.Nonce d)
+  login_hint ← optional as_str names.LoginHint (member_of names.LoginHint d)
+  domain_hint ← optional as_str names.DomainHint (member_of names.DomainHint d)
+  params ← optional as_str names.Params (member_of names.Params d)
+  Ok (record {
+    config = config;
+    client = client;
+    nonce = nonce;
+    login_hint = login_hint;
+    domain_hint = domain_hint;
+    params = params;
+  })
+
+-- the options of a call other than its providers are not read yet
+abbrev pub no_options : Data → Result ⊤ LineCause
+no_options d = do
+  mediation ← not_built names.Mediation (member_of names.Mediation d)
+  mode ← not_built names.Mode (member_of names.Mode d)
+  activation ← not_built names.Activation (member_of names.Activation d)
+  not_built names.Context (member_of names.Context d)
+
+-- the members of a get, in their order
+abbrev pub get_members : Data → Result GetMembers LineCause
+get_members d = do
+  page ← required as_u32 names.Page d
+  call ← required as_u32 names.Call d
+  options ← no_options d
+  entry ← required as_provider names.Providers d
+  provider ← provider_members entry
+  Ok (record { page = page; call = call; provider = provider })
+
+-- a provider's options, with its configuration URL
+abbrev pub provider_of : Parts → ProviderMembers → ProviderOptions
+provider_of config members =
+    record {
+      config = config;
+      client = members.client;
+      nonce = members.nonce;
+      login_hint = members.login_hint;
+      domain_hint = members.domain_hint;
+      params = members.params;
+    }
+
+-- the options of a call that names its provider alone: mediation is optional, the mode passive without activation, and the context signing in
+abbrev pub default_options : ProviderOptions → GetOptions
+default_options provider =
+    record { mediation = Optional; mode = Passive; activation = false; context = SignIn; providers = provider ∷ [] }
+
+-- the get that a line names
+abbrev pub get_of : Data → Result Event LineCause
+get_of d = do
+  members ← get_members d
+  config ← url_of members.provider.config
+  Ok (Get members.page members.call (default_options (provider_of config members.provider)))

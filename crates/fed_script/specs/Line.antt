@@ -1,0 +1,59 @@
+-- What a line is read as. Members are read in their order, and the first that fails is named.
+use Rattle.std.specs.Prelude.{ℕ, not, ⊤, nat_lt, List, [], ◌∷◌, codes, option_and_then, Result, Ok, Err, bytes_eq, if◌then◌else◌}
+use Rattle.std.specs.List.{list_any}
+use Rattle.serde_json.specs.Data.{Data}
+use Rattle.serde_json.specs.Find.{as_str}
+use Rattle.fed_script.specs.declared.cause.LineCause.{LineCause}
+use Rattle.fed_script.specs.declared.cause.LineCause.TheVariants.{NoKind, Member, CallTwice, TooManyEvents}
+use Rattle.fed_script.specs.declared.cause.MemberName.TheVariants as names
+use Rattle.fed_script.specs.declared.event.Event.{Event}
+use Rattle.fed_script.specs.declared.event.Header.{Header}
+use Rattle.fed_script.specs.Member.{◌>>=◌, unless, or_cause, json_of, member_of}
+use Rattle.fed_script.specs.Header.{header_named}
+use Rattle.fed_script.specs.Load.{load_of}
+use Rattle.fed_script.specs.Get.{get_of}
+use Rattle.fed_script.specs.Used.{UsedState, is_used}
+
+-- what the first line is read as
+abbrev pub header_of : List ℕ → Result Header LineCause
+header_of line = json_of line >>= header_named
+
+-- the kinds of event that are not read yet
+abbrev pub kinds_to_come : List (List ℕ)
+kinds_to_come =
+    codes "have" ∷ codes "at" ∷ codes "closepage" ∷ codes "abort" ∷ codes "continue" ∷ codes "cancel" ∷ codes "signin"
+    ∷ codes "shutwindow" ∷ codes "reply" ∷ codes "choose" ∷ codes "idpclose" ∷ codes "prevent" ∷ codes "setstatus" ∷ codes "disconnect" ∷ []
+
+-- why no event is read of a line of this kind
+abbrev pub unread_kind : List ℕ → LineCause
+unread_kind kind = if list_any (bytes_eq kind) kinds_to_come then Member names.Do else NoKind
+
+-- the event of a line of this kind
+abbrev pub event_of_kind : List ℕ → Data → Result Event LineCause
+event_of_kind kind d =
+    if bytes_eq kind (codes "load") then load_of d
+    else (if bytes_eq kind (codes "get") then get_of d else Err (unread_kind kind))
+
+-- the kind that a line names
+abbrev pub kind_of : Data → Result (List ℕ) LineCause
+kind_of d = or_cause NoKind (option_and_then as_str (member_of names.Do d))
+
+-- the event that a line names, whatever the lines before it are
+abbrev pub event_named : List ℕ → Result Event LineCause
+event_named line = do
+  d ← json_of line
+  kind ← kind_of d
+  event_of_kind kind d
+
+-- what the lines before it allow: a call's number is used once, and there are at most 1,000,000 events
+abbrev pub allowed : UsedState → Event → Result ⊤ LineCause
+allowed used event = do
+  once ← unless (is_used used event) CallTwice
+  unless (not (nat_lt used.events 1000000)) TooManyEvents
+
+-- what a line is read as after the lines before it
+abbrev pub event_of : List ℕ → UsedState → Result Event LineCause
+event_of line used = do
+  event ← event_named line
+  good ← allowed used event
+  Ok event

@@ -1,0 +1,37 @@
+//! The lines of bytes.
+ghost use Rattle.std.specs.Prelude.{◌≡◌, ◌==◌, ◌<◌, ◌∷◌, option_map, IfSome, length};
+ghost use Rattle.std.specs.List.{position};
+ghost use Rattle.fed_script.specs.Script as spec;
+ghost use Rattle.fed_script.specs.Script.{first_line, lines_of};
+
+// Where the first LF stands.
+fn line_end(rest: &[u8]) -> Option<usize>
+    ensures place { result ≡ position (λ b. b == 10) rest.now }
+    ensures within { IfSome result (λ end. end < length rest.now) }
+{
+    rest.iter().position(|b| *b == b'\n')
+}
+
+/// The first line without its LF, and the bytes that follow it; None where there is no byte.
+/// The last line may lack its LF.
+pub fn next_line(rest: &[u8]) -> Option<(&[u8], &[u8])>
+    ensures line { option_map (λ cut. (cut.0.now, cut.1.now)) result ≡ first_line rest.now }
+    ensures lines { IfSome result (λ cut. lines_of rest.now ≡ cut.0.now ∷ lines_of cut.1.now) }
+    ensures shorter { IfSome result (λ cut. length cut.1.now < length rest.now) }
+{
+    if rest.is_empty() {
+        return None;
+    }
+    match line_end(rest) {
+        Some(end) => Some((&rest[..end], &rest[end + 1..])),
+        None => Some((rest, &[])),
+    }
+}
+
+/// Whether a line has space, tab and CR alone, or nothing.
+pub fn is_blank(line: &[u8]) -> bool
+    ensures { result ≡ spec.is_blank line.now }
+{
+    line.iter()
+        .all(|b| *b == b' ' || *b == b'\t' || *b == b'\r')
+}

@@ -1,0 +1,105 @@
+//! Why a line of a script is bad.
+
+/// The name of a member of a line.
+#[derive(Clone, Copy, Debug, PartialEq, Eq)]
+pub enum MemberName {
+    Do,
+    Fedcm,
+    Now,
+    Rules,
+    Page,
+    Url,
+    Text,
+    Raw,
+    Call,
+    Mediation,
+    Mode,
+    Activation,
+    Context,
+    Providers,
+    Config,
+    Client,
+    Nonce,
+    LoginHint,
+    DomainHint,
+    Params,
+}
+
+/// Why a line is bad, in the order in which the causes are tested.
+#[derive(Clone, Copy, Debug, PartialEq, Eq)]
+pub enum LineCause {
+    /// The line is no JSON text (RFC 8259) in UTF-8, or nests deeper than 127.
+    NotJson,
+    /// The line is no object whose `do` is the name of a kind.
+    NoKind,
+    /// The first member that is missing or of a wrong kind, or that is not read yet.
+    Member(MemberName),
+    /// A URL that `WebUrl::read` refuses.
+    BadUrl,
+    /// The number of a call that an earlier line used.
+    CallTwice,
+    /// An event after 1,000,000 events.
+    TooManyEvents,
+}
+
+impl MemberName {
+    ghost use Rattle.std.specs.Prelude.{◌≡◌};
+    ghost use Rattle.fed_script.specs.Cause.{name_text};
+
+    /// The name as it is written in a line.
+    pub fn as_str(self) -> &'static str
+        ensures { result.now ≡ name_text self }
+    {
+        match self {
+            MemberName::Do => "do",
+            MemberName::Fedcm => "fedcm",
+            MemberName::Now => "now",
+            MemberName::Rules => "rules",
+            MemberName::Page => "page",
+            MemberName::Url => "url",
+            MemberName::Text => "text",
+            MemberName::Raw => "raw",
+            MemberName::Call => "call",
+            MemberName::Mediation => "mediation",
+            MemberName::Mode => "mode",
+            MemberName::Activation => "activation",
+            MemberName::Context => "context",
+            MemberName::Providers => "providers",
+            MemberName::Config => "config",
+            MemberName::Client => "client",
+            MemberName::Nonce => "nonce",
+            MemberName::LoginHint => "login_hint",
+            MemberName::DomainHint => "domain_hint",
+            MemberName::Params => "params",
+        }
+    }
+}
+
+impl LineCause {
+    ghost use Rattle.std.specs.Prelude.{◌≡◌};
+    ghost use Rattle.fed_script.specs.Cause.{cause_text, member_named};
+
+    /// The word of the cause, as a transcript writes it.
+    pub fn as_str(self) -> &'static str
+        ensures { result.now ≡ cause_text self }
+    {
+        match self {
+            LineCause::NotJson => "not-json",
+            LineCause::NoKind => "no-kind",
+            LineCause::Member(_) => "member",
+            LineCause::BadUrl => "bad-url",
+            LineCause::CallTwice => "call-twice",
+            LineCause::TooManyEvents => "too-many",
+        }
+    }
+
+    /// The member that the cause names, if it is a member's.
+    pub fn member(self) -> Option<MemberName>
+        ensures { result ≡ member_named self }
+    {
+        match self {
+            LineCause::Member(name) => Some(name),
+            _ => None,
+        }
+    }
+}

@@ -1,0 +1,44 @@
+//! What the lines of a script are read as.
+ghost use Rattle.std.specs.Prelude.{◌≡◌, IfOk};
+
+use fed_io::NoRoom;
+use fed_origin::{GetOptions, WebUrl};
+use fed_suffix::Suffixes;
+use std::alloc::Global;
+
+/// The first line of a script.
+#[derive(Drop)]
+pub struct Header {
+    /// The public suffix rules of the script.
+    pub rules: Suffixes,
+    /// The time at which the script begins, in seconds since 1970.
+    pub now: u64,
+}
+
+impl Header {
+    /// The same header.
+    pub fn copy(&self, alloc: Global) -> Result<Header, NoRoom>
+        ensures { IfOk result (λ copy. copy ≡ self.entry.now) }
+    {
+        Ok(Header {
+            rules: self.rules.copy(alloc)?,
+            now: self.now,
+        })
+    }
+}
+
+/// An event of a script, one variant for each kind of line that is read.
+#[derive(Drop)]
+pub enum Event {
+    /// A page is loaded: from now on it stands with the URL's origin.
+    Load {
+        page: u32,
+        url: WebUrl,
+    },
+    /// A page calls `navigator.credentials.get` (FedCM), under a number that names the call from then on.
+    Get {
+        page: u32,
+        call: u32,
+        options: GetOptions,
+    },
+}

@@ -1,0 +1,159 @@
+//! Lines of the kind `get`.
+ghost use Rattle.std.specs.Prelude.{◌≡◌, IfOk, option_map};
+ghost use Rattle.std.specs.Option.{option_copied};
+ghost use Rattle.std.specs.Result.{result_map_both};
+ghost use Rattle.serde_json.specs.View.{view};
+ghost use Rattle.fed_io.specs.Fault.{Answers};
+ghost use Rattle.fed_script.specs.Get as spec;
+ghost use Rattle.fed_script.specs.Member.{required};
+ghost use Rattle.fed_script.specs.declared.cause.MemberName.TheVariants as names;
+
+use crate::cause::{LineCause, MemberName};
+use crate::event::Event;
+use crate::member::{member, not_built, number, optional_text, text, web_url};
+use fed_io::{Fault, Items, NoRoom, Text};
+use fed_origin::{Context, GetOptions, Mediation, Mode, ProviderOptions, WebUrl};
+use serde_json::Value;
+use std::alloc::Global;
+
+// The members of an entry of `providers`, its URL as text.
+#[derive(Clone, Copy, Drop)]
+struct ProviderMembers<'a> {
+    config: &'a str,
+    client: &'a str,
+    nonce: Option<&'a str>,
+    login_hint: Option<&'a str>,
+    domain_hint: Option<&'a str>,
+    params: Option<&'a str>,
+}
+
+// The members of a get.
+#[derive(Clone, Copy, Drop)]
+struct GetMembers<'a> {
+    page: u32,
+    call: u32,
+    provider: ProviderMembers<'a>,
+}
+
+// The entry of `providers`, of which there is exactly one.
+fn only_provider(d: &Value) -> Result<&Value, LineCause>
+    ensures { result_map_both (λ v. view v.now) (λ e. e) result
+        ≡ required spec.as_provider names.Providers (view d.now) }
+{
+    let Some(found) = member(d, MemberName::Providers) else {
+        return Err(LineCause::Member(MemberName::Providers));
+    };
+    match only_item(found) {
+        Some(entry) => Ok(entry),
+        None => Err(LineCause::Member(MemberName::Providers)),
+    }
+}
+
+// The entry of a list of exactly one object.
+fn only_item(list: &Value) -> Option<&Value>
+    ensures { option_map (λ v. view v.now) result ≡ spec.as_provider (view list.now) }
+{
+    let entries = list.as_array()?;
+    match entries.as_slice() {
+        [only] if only.is_object() => Some(only),
+        [] => None,
+        [_] => None,
+        [_, _, ..] => None,
+    }
+}
+
+fn provider_members(d: &Value) -> Result<ProviderMembers<'_>, LineCause>
+    ensures { result_map_both spec.provider_seen (λ e. e) result ≡ spec.provider_members (view d.now) }
+{
+    Ok(ProviderMembers {
+        config: text(d, MemberName::Config)?,
+        client: text(d, MemberName::Client)?,
+        nonce: optional_text(d, MemberName::Nonce)?,
+        login_hint: optional_text(d, MemberName::LoginHint)?,
+        domain_hint: optional_text(d, MemberName::DomainHint)?,
+        params: optional_text(d, MemberName::Params)?,
+    })
+}
+
+fn no_options(d: &Value) -> Result<(), LineCause>
+    ensures { result ≡ spec.no_options (view d.now) }
+{
+    not_built(d, MemberName::Mediation)?;
+    not_built(d, MemberName::Mode)?;
+    not_built(d, MemberName::Activation)?;
+    not_built(d, MemberName::Context)
+}
+
+fn get_members(d: &Value) -> Result<GetMembers<'_>, LineCause>
+    ensures { result_map_both spec.get_seen (λ e. e) result ≡ spec.get_members (view d.now) }
+{
+    let page = number(d, MemberName::Page)?;
+    let call = number(d, MemberName::Call)?;
+    no_options(d)?;
+    let provider = provider_members(only_provider(d)?)?;
+    Ok(GetMembers {
+        page,
+        call,
+        provider,
+    })
+}
+
+fn copy_text(alloc: Global, text: Option<&str>) -> Result<Option<Text>, NoRoom>
+    ensures { IfOk result (λ copy. copy ≡ option_copied text.entry) }
+{
+    match text {
+        Some(text) => Ok(Some(Text::of(alloc, text)?)),
+        None => Ok(None),
+    }
+}
+
+// The options of a provider.
+fn provider_of(
+    alloc: Global,
+    config: WebUrl,
+    members: &ProviderMembers<'_>,
+) -> Result<ProviderOptions, NoRoom>
+    ensures { IfOk result (λ options. options ≡ spec.provider_of config (spec.provider_seen members.now)) }
+{
+    Ok(ProviderOptions {
+        config,
+        client: Text::of(alloc, members.client)?,
+        nonce: copy_text(alloc, members.nonce)?,
+        login_hint: copy_text(alloc, members.login_hint)?,
+        domain_hint: copy_text(alloc, members.domain_hint)?,
+        params: copy_text(alloc, members.params)?,
+    })
+}
+
+// The options of a call that names its provider alone.
+fn default_options(alloc: Global, provider: ProviderOptions) -> Result<GetOptions, NoRoom>
+    ensures { IfOk result (λ options. options ≡ spec.default_options provider) }
+{
+    let mut providers = Items::new(alloc);
+    providers.push(provider)?;
+    Ok(GetOptions {
+        mediation: Mediation::Optional,
+        mode: Mode::Passive,
+        activation: false,
+        context: Context::SignIn,
+        providers,
+    })
+}
+
+/// The get that a line names.
+pub(crate) fn get(alloc: Global, d: &Value) -> Result<Event, Fault<LineCause>>
+    ensures { Answers result (spec.get_of (view d.now)) }
+{
+    match get_members(d) {
+        Err(cause) => Err(Fault::Step(cause)),
+        Ok(members) => {
+            let config = web_url(alloc, members.provider.config)?;
+            let provider = provider_of(alloc, config, &members.provider)?;
+            Ok(Event::Get {
+                page: members.page,
+                call: members.call,
+                options: default_options(alloc, provider)?,
+            })
+        }
+    }
+}

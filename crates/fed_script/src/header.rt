@@ -1,0 +1,66 @@
+//! The first line of a script.
+ghost use Rattle.std.specs.Prelude.{◌≡◌};
+ghost use Rattle.std.specs.Result.{result_map_both};
+ghost use Rattle.serde_json.specs.View.{view};
+ghost use Rattle.fed_io.specs.Fault.{Answers};
+ghost use Rattle.fed_script.specs.Header as spec;
+ghost use Rattle.fed_script.specs.Line.{header_of};
+
+use crate::cause::{LineCause, MemberName};
+use crate::event::Header;
+use crate::member::{json, text, whole};
+use fed_io::Fault;
+use fed_suffix::{SuffixRefusal, Suffixes};
+use serde_json::Value;
+use std::alloc::Global;
+
+// The time, and the text of the rules.
+fn header_members(d: &Value) -> Result<(u64, &str), LineCause>
+    ensures { result_map_both (λ m. (m.0, m.1.now)) (λ e. e) result ≡ spec.header_members (view d.now) }
+{
+    let version = whole(d, MemberName::Fedcm)?;
+    if version != 1 {
+        return Err(LineCause::Member(MemberName::Fedcm));
+    }
+    let now = whole(d, MemberName::Now)?;
+    let rules = text(d, MemberName::Rules)?;
+    Ok((now, rules))
+}
+
+// The rules of the lines of a text.
+fn read_rules(alloc: Global, text: &str) -> Result<Suffixes, Fault<SuffixRefusal>>
+    ensures { Answers result (spec.rules_of_text text.now) }
+{
+    let mut rules = Suffixes::new(alloc);
+    for line in text.split('\n') {
+        match rules.read_line(alloc, line) {
+            Ok(()) => {}
+            Err(fault) => return Err(fault),
+        }
+    }
+    Ok(rules)
+}
+
+// The header that a line names.
+fn header_named(alloc: Global, d: &Value) -> Result<Header, Fault<LineCause>>
+    ensures { Answers result (spec.header_named (view d.now)) }
+{
+    match header_members(d) {
+        Err(cause) => Err(Fault::Step(cause)),
+        Ok((now, rules)) => match read_rules(alloc, rules) {
+            Ok(rules) => Ok(Header { rules, now }),
+            Err(Fault::Step(_)) => Err(Fault::Step(LineCause::Member(MemberName::Rules))),
+            Err(Fault::NoRoom) => Err(Fault::NoRoom),
+        },
+    }
+}
+
+/// Reads the first line of a script, without its LF: an object whose `fedcm` is 1, whose `now` is the time
+/// in whole seconds since 1970, and whose `rules` is a text of public suffix rules, a line each
+/// (`Suffixes::read_line`). Refused by NotJson, or by the first of these members that fails.
+pub fn read_header(alloc: Global, line: &[u8]) -> Result<Header, Fault<LineCause>>
+    ensures { Answers result (header_of line.now) }
+{
+    let d = json(alloc, line)?;
+    header_named(alloc, &d)
+}

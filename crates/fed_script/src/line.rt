@@ -1,0 +1,110 @@
+//! Reading a line that names an event.
+ghost use Rattle.std.specs.Prelude.{◌≡◌, ◌<◌, IfOk, OnOk, OnErr};
+ghost use Rattle.serde_json.specs.View.{view};
+ghost use Rattle.fed_io.specs.Fault.{Answers};
+ghost use Rattle.fed_script.specs.Line as spec;
+ghost use Rattle.fed_script.specs.Line.{event_of};
+ghost use Rattle.fed_script.specs.Used.{used_after, IsUnused, HasOneProvider};
+ghost use Rattle.std.specs.Result.{result_map_both};
+
+use crate::cause::{LineCause, MemberName};
+use crate::event::Event;
+use crate::get::get;
+use crate::load::load;
+use crate::member::{json, member};
+use crate::used::Used;
+use fed_io::Fault;
+use serde_json::Value;
+use std::alloc::Global;
+
+// The kind that a line names.
+fn kind_of(d: &Value) -> Result<&str, LineCause>
+    ensures { result_map_both (λ s. s.now) (λ e. e) result ≡ spec.kind_of (view d.now) }
+{
+    let Some(found) = member(d, MemberName::Do) else {
+        return Err(LineCause::NoKind);
+    };
+    match found.as_str() {
+        Some(kind) => Ok(kind),
+        None => Err(LineCause::NoKind),
+    }
+}
+
+// Why no event is read of a line of this kind.
+fn unread_kind(kind: &str) -> LineCause
+    ensures { result ≡ spec.unread_kind kind.now }
+{
+    match kind {
+        "have"
+        | "at"
+        | "closepage"
+        | "abort"
+        | "continue"
+        | "cancel"
+        | "signin"
+        | "shutwindow"
+        | "reply"
+        | "choose"
+        | "idpclose"
+        | "prevent"
+        | "setstatus"
+        | "disconnect" => { LineCause::Member(MemberName::Do) }
+        _ => LineCause::NoKind,
+    }
+}
+
+// The event of a line of this kind.
+fn event_of_kind(alloc: Global, kind: &str, d: &Value) -> Result<Event, Fault<LineCause>>
+    ensures { Answers result (spec.event_of_kind kind.now (view d.now)) }
+{
+    match kind {
+        "load" => load(alloc, d),
+        "get" => get(alloc, d),
+        _ => Err(Fault::Step(unread_kind(kind))),
+    }
+}
+
+// The event that a line names, before the lines before it are looked at.
+fn event_named(alloc: Global, line: &[u8]) -> Result<Event, Fault<LineCause>>
+    ensures { Answers result (spec.event_named line.now) }
+{
+    let d = json(alloc, line)?;
+    match kind_of(&d) {
+        Ok(kind) => event_of_kind(alloc, kind, &d),
+        Err(cause) => Err(Fault::Step(cause)),
+    }
+}
+
+// Whether the lines before it allow an event.
+fn allowed(used: &Used, event: &Event) -> Result<(), LineCause>
+    ensures { result ≡ spec.allowed used.now event.now }
+{
+    if used.is_used(event) {
+        return Err(LineCause::CallTwice);
+    }
+    if used.is_full() {
+        return Err(LineCause::TooManyEvents);
+    }
+    Ok(())
+}
+
+/// Reads the event of a line after the first, without its LF, which is not blank.
+/// `used` is what the lines before it left, and counts the event on Ok alone.
+/// Refused by the first of the causes that holds, in their order.
+pub fn read_event(alloc: Global, line: &[u8], used: &mut Used) -> Result<Event, Fault<LineCause>>
+    ensures answer { Answers result (event_of line.now used.old) }
+    ensures used { IfOk result (λ event. used.new ≡ used_after event used.old) }
+    ensures err { OnErr result (used.new ≡ used.old) }
+    ensures few { OnOk result (used.old.events < 1000000) }
+    ensures once { IfOk result (IsUnused used.old) }
+    ensures provider { IfOk result HasOneProvider }
+{
+    let event = event_named(alloc, line)?;
+    match allowed(used, &event) {
+        Ok(()) => {
+            used.note(&event)?;
+            Ok(event)
+        }
+        Err(cause) => Err(Fault::Step(cause)),
+    }
+}

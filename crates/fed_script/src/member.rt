@@ -1,0 +1,114 @@
+//! Reading one member of a line.
+ghost use Rattle.std.specs.Prelude.{◌≡◌, option_map};
+ghost use Rattle.std.specs.Option.{option_copied};
+ghost use Rattle.std.specs.Result.{result_map_both};
+ghost use Rattle.serde_json.specs.Find.{as_str};
+ghost use Rattle.serde_json.specs.View.{view};
+ghost use Rattle.fed_io.specs.Fault.{Answers, AnswersBy};
+ghost use Rattle.fed_script.specs.Member as spec;
+
+use crate::cause::{LineCause, MemberName};
+use fed_io::Fault;
+use fed_origin::WebUrl;
+use serde_json::Value;
+use std::alloc::Global;
+
+/// The value of a line; NotJson where it has none.
+pub(crate) fn json(alloc: Global, line: &[u8]) -> Result<Value, Fault<LineCause>>
+    ensures { AnswersBy view result (spec.json_of line.now) }
+{
+    match Value::from_slice(alloc, line) {
+        Ok(value) => Ok(value),
+        Err(e) => {
+            if e.is_memory() {
+                Err(Fault::NoRoom)
+            } else {
+                Err(Fault::Step(LineCause::NotJson))
+            }
+        }
+    }
+}
+
+/// A member, which is absent where it is null.
+pub(crate) fn member(d: &Value, name: MemberName) -> Option<&Value>
+    ensures { option_map (λ v. view v.now) result ≡ spec.member_of name (view d.now) }
+{
+    match d.get(name.as_str()) {
+        Some(Value::Null) => None,
+        other => other,
+    }
+}
+
+/// A whole number of 64 bits.
+pub(crate) fn whole(d: &Value, name: MemberName) -> Result<u64, LineCause>
+    ensures { result ≡ spec.required spec.as_whole name (view d.now) }
+{
+    let Some(found) = member(d, name) else {
+        return Err(LineCause::Member(name));
+    };
+    match found.as_u64() {
+        Some(n) => Ok(n),
+        None => Err(LineCause::Member(name)),
+    }
+}
+
+/// A whole number of 32 bits.
+pub(crate) fn number(d: &Value, name: MemberName) -> Result<u32, LineCause>
+    ensures { result ≡ spec.required spec.as_u32 name (view d.now) }
+{
+    let Some(found) = member(d, name) else {
+        return Err(LineCause::Member(name));
+    };
+    match found.as_u64() {
+        Some(n) => u32::try_from(n).map_err(|_| LineCause::Member(name)),
+        None => Err(LineCause::Member(name)),
+    }
+}
+
+/// A text.
+pub(crate) fn text(d: &Value, name: MemberName) -> Result<&str, LineCause>
+    ensures { result_map_both (λ s. s.now) (λ e. e) result ≡ spec.required as_str name (view d.now) }
+{
+    let Some(found) = member(d, name) else {
+        return Err(LineCause::Member(name));
+    };
+    match found.as_str() {
+        Some(text) => Ok(text),
+        None => Err(LineCause::Member(name)),
+    }
+}
+
+/// A text that may be absent.
+pub(crate) fn optional_text(d: &Value, name: MemberName) -> Result<Option<&str>, LineCause>
+    ensures { result_map_both option_copied (λ e. e) result
+        ≡ spec.optional as_str name (spec.member_of name (view d.now)) }
+{
+    let Some(found) = member(d, name) else {
+        return Ok(None);
+    };
+    match found.as_str() {
+        Some(text) => Ok(Some(text)),
+        None => Err(LineCause::Member(name)),
+    }
+}
+
+/// A member that is not read yet.
+pub(crate) fn not_built(d: &Value, name: MemberName) -> Result<(), LineCause>
+    ensures { result ≡ spec.not_built name (spec.member_of name (view d.now)) }
+{
+    match member(d, name) {
+        Some(_) => Err(LineCause::Member(name)),
+        None => Ok(()),
+    }
+}
+
+/// The URL of a text; BadUrl where there is none.
+pub(crate) fn web_url(alloc: Global, text: &str) -> Result<WebUrl, Fault<LineCause>>
+    ensures { Answers result (spec.url_of text.now) }
+{
+    match WebUrl::read(alloc, text) {
+        Ok(url) => Ok(url),
+        Err(Fault::Step(_)) => Err(Fault::Step(LineCause::BadUrl)),
+        Err(Fault::NoRoom) => Err(Fault::NoRoom),
+    }
+}

@@ -1,0 +1,98 @@
+//! What the lines before a line leave for it.
+ghost use Rattle.std.specs.Prelude.{◌≡◌, ◌<◌, not, nat_lt, OnOk, OnErr};
+ghost use Rattle.fed_script.specs.Used.{unused, used_after, is_used, IsUnused};
+
+use crate::event::Event;
+use fed_io::NoRoom;
+use indexmap::IndexSet;
+use std::alloc::Global;
+use std::marker::Model;
+
+/// The numbers of the calls that the lines so far used, the number of their events, and the time
+/// in seconds since 1970.
+#[derive(Drop)]
+pub struct Used {
+    calls: IndexSet<u32>,
+    events: u32,
+    time: u64,
+}
+
+impl Model for Used {
+    ghost use Rattle.fed_script.specs.Used.{UsedState};
+
+    ghost Value = { UsedState };
+
+    ghost view = { λ u. record { calls = u.calls.keys; events = u.events; time = u.time } };
+}
+
+impl Used {
+    /// Nothing is used after a header of this time, in seconds since 1970.
+    pub fn new(alloc: Global, time: u64) -> Used
+        ensures { result ≡ unused time }
+    {
+        Used {
+            calls: IndexSet::new(alloc),
+            events: 0,
+            time,
+        }
+    }
+
+    /// How many events were read.
+    pub fn events(&self) -> u32
+        ensures { result ≡ self.now.events }
+    {
+        self.events
+    }
+
+    /// Whether a further event is too many.
+    pub fn is_full(&self) -> bool
+        ensures { result ≡ not (nat_lt self.now.events 1000000) }
+    {
+        self.events >= 1_000_000
+    }
+
+    /// Whether the event is a get whose number is used.
+    pub(crate) fn is_used(&self, event: &Event) -> bool
+        ensures { result ≡ is_used self.now event.now }
+    {
+        match event {
+            Event::Get { call, .. } => self.calls.contains(call),
+            _ => false,
+        }
+    }
+
+    /// Counts an event, and its call's number as used. On NoRoom nothing changes.
+    pub(crate) fn note(&mut self, event: &Event) -> Result<(), NoRoom>
+        requires few { self.old.events < 1000000 }
+        requires once { IsUnused self.old event.now }
+        ensures ok { OnOk result (self.new ≡ used_after event.now self.old) }
+        ensures err { OnErr result (self.new ≡ self.old) }
+    {
+        if let Event::Get { call, .. } = event {
+            self.calls.insert(*call)?;
+        }
+        self.events += 1;
+        Ok(())
+    }
+}
+
+#[cfg(test)]
+mod tests {
+    use super::*;
+    use crate::{LineCause, read_event};
+    use fed_io::Fault;
+
+    const LOAD: &[u8] = br#"{"do":"load","page":1,"url":"https://rp.example/"}"#;
+
+    #[test]
+    fn a_million_events(rt: HostRuntime) {
+        let mut used = Used::new(rt.alloc(), 0);
+        used.events = 999_999;
+        assert!(rt; read_event(rt.alloc(), LOAD, &mut used).is_ok());
+        let cause = match read_event(rt.alloc(), LOAD, &mut used) {
+            Err(Fault::Step(cause)) => Some(cause),
+            _ => None,
+        };
+        assert_eq!(rt; cause, Some(LineCause::TooManyEvents));
+    }
+}

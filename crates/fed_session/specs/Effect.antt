@@ -1,0 +1,59 @@
+-- What an event does.
+use Rattle.std.specs.Prelude.{ℕ, List, [], ◌∷◌, Option, Some, None}
+use Rattle.std.specs.Option.{option_or}
+use Rattle.fed_origin.specs.declared.origin.Origin.{Origin}
+use Rattle.fed_origin.specs.declared.stage.Stage.{Stage}
+use Rattle.fed_origin.specs.declared.stage.Stage.TheVariants.{Reading, Ended}
+use Rattle.fed_session.specs.declared.ask.Ask.{Ask}
+use Rattle.fed_session.specs.declared.ask.Finish.{Finish}
+use Rattle.fed_session.specs.declared.ask.Why.{Why}
+use Rattle.fed_session.specs.Keyed.{Change}
+
+pub data Effect : Type 0 where
+  -- the page stands with this origin
+  Page : (page : ℕ) → (origin : Origin) → Effect
+  -- the call of the page was taken
+  Begin : (call : ℕ) → (page : ℕ) → Effect
+  -- the call moved
+  Move : (call : ℕ) → (stage : Stage) → Effect
+  -- a request of the call to a provider, with the text of its cookies
+  Sent : (call : ℕ) → (provider : ℕ) → (ask : Ask) → (cookies : List ℕ) → Effect
+  -- what the call of the page gets
+  Result : (call : ℕ) → (page : ℕ) → (finish : Finish) → Effect
+  -- the event was not taken
+  Ignored : (why : Why) → Effect
+
+-- what an effect says of pages
+abbrev pub page_change : Effect → Option (Change ℕ Origin)
+page_change (Page page origin) = Some (page, Some origin)
+page_change _ = None
+
+abbrev pub unless_ended : ℕ → Stage → Option (Change ℕ ℕ)
+unless_ended call Ended = Some (call, None)
+unless_ended call Reading = None
+
+-- what an effect says of pending calls, with the pages that they are of
+abbrev pub call_change : Effect → Option (Change ℕ ℕ)
+call_change (Begin call page) = Some (call, Some page)
+call_change (Move call stage) = unless_ended call stage
+call_change _ = None
+
+-- what an effect says of the stages of calls
+abbrev pub stage_change : Effect → Option (Change ℕ Stage)
+stage_change (Move call stage) = Some (call, Some stage)
+stage_change _ = None
+
+-- the call that an effect begins
+abbrev pub begun_by : Effect → Option ℕ
+begun_by (Begin call page) = Some call
+begun_by _ = None
+
+-- the stage that an effect brings
+abbrev pub moved_to : Effect → Option Stage
+moved_to (Move call stage) = Some stage
+moved_to _ = None
+
+-- the stage that the last move brings
+abbrev pub last_moved : List Effect → Option Stage
+last_moved [] = None
+last_moved (e ∷ es) = option_or (last_moved es) (moved_to e)

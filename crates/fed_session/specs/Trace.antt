@@ -1,0 +1,63 @@
+-- What happened in a session, and the look-backs: the last thing of a kind.
+use Rattle.std.specs.Prelude.{ℕ, Bool, nat_eq, ◌==◌, List, [], ◌∷◌, ◌++◌, filter, map, Option, None, unwrap_or}
+use Rattle.std.specs.List.{filter_map}
+use Rattle.fed_origin.specs.declared.origin.Origin.{Origin}
+use Rattle.fed_origin.specs.declared.stage.Stage.{Stage}
+use Rattle.fed_script.specs.declared.event.Event.{Event}
+use Rattle.fed_script.specs.declared.event.Header.{Header}
+use Rattle.fed_session.specs.Keyed.{Change, entries_after, last_said}
+use Rattle.fed_session.specs.Effect.{Effect, page_change, call_change, stage_change, begun_by}
+
+pub record Row : Type 0 where
+  pub line : ℕ
+  pub event : Event
+  -- in their order
+  pub effects : List Effect
+
+-- the rows of a session with this header, the newest first
+pub record Trace : Type 0 where
+  pub header : Header
+  pub rows : List Row
+
+-- the entries that stand, in order of entering
+abbrev pub standing : {K V : Type 0} → (K → K → Bool) → (Effect → Option (Change K V)) → List Row → List (K × V)
+standing same change [] = []
+standing same change (row ∷ rows) = entries_after same change row.effects (standing same change rows)
+
+-- the last value under the key
+abbrev pub last_value : {K V : Type 0} → (K → K → Bool) → (Effect → Option (Change K V)) → K → List Row → Option V
+last_value same change k [] = None
+last_value same change k (row ∷ rows) = unwrap_or (last_said same change k row.effects) (last_value same change k rows)
+
+-- the origin of a page, where it stands
+abbrev pub page_at : Trace → ℕ → Option Origin
+page_at T page = last_value nat_eq page_change page T.rows
+
+-- the stage of a call, where it began
+abbrev pub stage_at : Trace → ℕ → Option Stage
+stage_at T call = last_value nat_eq stage_change call T.rows
+
+-- the pages that stand
+abbrev pub pages : Trace → List (ℕ × Origin)
+pages T = standing nat_eq page_change T.rows
+
+-- the pending calls and their pages, in order of beginning
+abbrev pub pending : Trace → List (ℕ × ℕ)
+pending T = standing nat_eq call_change T.rows
+
+-- the calls of a page among calls and their pages, in their order
+abbrev pub calls_of : ℕ → List (ℕ × ℕ) → List ℕ
+calls_of page calls = map (λ call. call.0) (filter (λ call. call.1 == page) calls)
+
+-- the pending calls of a page, in order of beginning
+abbrev pub pending_of : Trace → ℕ → List ℕ
+pending_of T page = calls_of page (pending T)
+
+-- the numbers of the calls that were taken, in order of beginning
+abbrev pub begun : List Row → List ℕ
+begun [] = []
+begun (row ∷ rows) = begun rows ++ filter_map begun_by row.effects
+
+-- the time
+abbrev pub now_at : Trace → ℕ
+now_at T = T.header.now

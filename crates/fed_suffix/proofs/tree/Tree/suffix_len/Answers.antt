@@ -1,0 +1,26 @@
+use Rattle.std.proofs.Common.{refl, sym, ◌∙◌, max, []}
+use Rattle.fed_suffix.specs.Label.{labels_of}
+use Rattle.fed_suffix.specs.Registrable.{suffix_len_of}
+use Rattle.fed_suffix.proofs.LabelLemmas.{labels_of-some}
+use Rattle.fed_suffix.proofs.Most.{suffix_len_of-some, suffix_len_of-none}
+use Rattle.fed_suffix.proofs.TreeLemmas.{suffix_len-tree}
+use Rattle.fed_suffix.proofs.tree.Tree.suffix_len.Goals as goal
+
+pub returns-then-longest-gt0 : goal.returns-then-longest-gt0
+returns-then-longest-gt0 c =
+    let longest = c.longest-longest.result in
+    let exception = c.longest-longest.ensures.exception in
+    let plain = c.longest-longest.ensures.plain in
+    suffix_len_of-some longest.exception (max longest.plain 1) c.if-longest-gt0.true
+    ∙ (λ i. suffix_len_of (exception i) (max (plain i) 1))
+    ∙ sym (suffix_len-tree c.args.self.now c.requires (labels_of c.args.name.now) (labels_of-some c.args.name.now))
+
+pub returns-else-longest-gt0 : goal.returns-else-longest-gt0
+returns-else-longest-gt0 c =
+    let longest = c.longest-longest.result in
+    let exception = c.longest-longest.ensures.exception in
+    let plain = c.longest-longest.ensures.plain in
+    c.max.ensures
+    ∙ suffix_len_of-none longest.exception (max longest.plain 1) c.if-longest-gt0.false
+    ∙ (λ i. suffix_len_of (exception i) (max (plain i) 1))
+    ∙ sym (suffix_len-tree c.args.self.now c.requires (labels_of c.args.name.now) (labels_of-some c.args.name.now))

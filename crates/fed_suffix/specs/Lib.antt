@@ -1,0 +1,6 @@
+pub mod Label
+pub mod Rule
+pub mod RuleLine
+pub mod Registrable
+pub mod Node
+pub mod Tree

@@ -1,0 +1,129 @@
+-- A run goes on by one line.
+use Rattle.std.proofs.Common.{◌≡◌, ℕ, ◌+◌, Bool, true, false, cond, ◌⊎◌, inl, inr, nat_eq, List, [], ◌∷◌, ◌++◌, Some, None, Ok, Err, refl, sym, ap, subst, ◌∙◌, arith, append-nil}
+use Rattle.std.proofs.lemmas.List.Folds.{list_any-append}
+use Rattle.std.specs.List.{list_any, filter_map}
+use Rattle.std.specs.Prelude.{Option, Result}
+use Rattle.fed_origin.specs.WebUrl.{origin_of}
+use Rattle.fed_script.specs.declared.cause.LineCause.{LineCause}
+use Rattle.fed_script.specs.declared.event.Event.{Event}
+use Rattle.fed_script.specs.declared.event.Event.TheVariants.{Load, Get}
+use Rattle.fed_script.specs.declared.event.Header.{Header}
+use Rattle.fed_script.specs.declared.cause.LineCause.TheVariants.{NotJson}
+use Rattle.fed_script.specs.Line.{event_of, header_of}
+use Rattle.fed_script.specs.Script.{Numbered, events_of, after_line as further_after, is_blank, first_line, lines_of, script_of_lines, script_after, ended_by}
+use Rattle.fed_script.specs.Used.{UsedState, used_after, unused}
+use Rattle.fed_session.specs.Effect.{begun_by}
+use Rattle.fed_session.specs.Row.{with_event, effects_of, is_busy}
+use Rattle.fed_session.specs.Session.{State, Stands}
+use Rattle.fed_session.specs.Trace.{Trace, begun, page_at, pending, pending_of}
+use Rattle.fed_session.proofs.PendingLemmas.{load_begins_none, get_begins, any_append}
+use Rattle.fedcm.specs.declared.status.Status.TheVariants.{BadScript}
+use Rattle.fedcm.specs.Run.{IsAt, Follows, Outcome, outcome, after_read, after_line, used_after_read, used_after_line, cause_of, line_cause, bad_text, rows_text, run_text, text_of, outcome_by, with_events, start}
+use Rattle.fedcm.specs.Text.{line_of, bad_data}
+
+-- ---- what was read and what was taken
+
+pub follows : (session : State) (used : UsedState) (written : List ℕ) (T : Trace) → IsAt session used written T → Follows session used
+follows session used written T at =
+    let steps = at.stands.steps in
+    record {
+      steps = omega (arith, steps, at.count);
+      fresh = λ call h. ap (list_any (nat_eq call)) at.stands.taken ∙ at.fresh call h;
+    }
+
+-- what is unused began in no row
+abbrev IsUntaken : List ℕ → List ℕ → Type 0
+IsUntaken calls taken = (call : ℕ) → list_any (nat_eq call) calls ≡ false → list_any (nat_eq call) taken ≡ false
+
+untaken_push : (calls taken begins : List ℕ) (c : ℕ) → IsUntaken calls taken → (begins ≡ []) ⊎ (begins ≡ c ∷ []) → IsUntaken (calls ++ c ∷ []) (taken ++ begins)
+untaken_push calls taken begins c h (inl none) call unused =
+    ap (λ xs. list_any (nat_eq call) (taken ++ xs)) none ∙ ap (list_any (nat_eq call)) (append-nil taken) ∙ h call (any_append call calls (c ∷ []) unused).0
+untaken_push calls taken begins c h (inr one) call unused =
+    let parts = any_append call calls (c ∷ []) unused in
+    ap (λ xs. list_any (nat_eq call) (taken ++ xs)) one ∙ list_any-append (nat_eq call) taken (c ∷ []) ∙ rw (h call parts.0, parts.1) refl
+
+pub untaken_after : (T : Trace) (line : ℕ) (event : Event) (used : UsedState) → IsUntaken used.calls (begun T.rows) → IsUntaken (used_after event used).calls (begun (with_event T line event).rows)
+untaken_after T line (Load page url) used h call unused =
+    ap (λ xs. list_any (nat_eq call) (begun T.rows ++ xs)) (load_begins_none (pending_of T page) page (origin_of url))
+    ∙ ap (list_any (nat_eq call)) (append-nil (begun T.rows)) ∙ h call unused
+untaken_after T line (Get page c options) used h call unused =
+    untaken_push used.calls (begun T.rows) (filter_map begun_by (effects_of T (Get page c options))) c h (get_begins T.header.rules (page_at T page) (is_busy page (pending T)) page c options) call unused
+
+-- an event more
+pub at_after : (session session' : State) (used used' : UsedState) (written written' : List ℕ) (T : Trace) (n : ℕ) (line : List ℕ) (event : Event)
+    → is_blank line ≡ false → event_of line used ≡ Ok event → used' ≡ used_after event used → IsAt session used written T
+    → Stands session' (with_event T n event) → written' ≡ rows_text (with_event T n event).rows
+    → IsAt session' used' written' (after_line T used n line)
+at_after session session' used used' written written' T n line event blank reads used_is at stands text =
+    let is : after_line T used n line ≡ with_event T n event = ap (λ b. cond b T (after_read T n (event_of line used))) blank ∙ ap (after_read T n) reads in
+    let count = at.count in
+    subst (IsAt session' used' written') (sym is)
+    (subst (λ u. IsAt session' u written' (with_event T n event)) (sym used_is)
+    (record { stands = stands; text = text; count = omega (arith, count); fresh = untaken_after T n event used at.fresh }))
+
+-- ---- the outcome goes on
+
+goes_on_by : (T : Trace) (used : UsedState) (n : ℕ) (rest : List (List ℕ)) (blank : Bool) (r : Result Event LineCause) → cond blank None (cause_of r) ≡ None
+    → outcome (cond blank T (after_read T n r)) (events_of (cond blank used (used_after_read used r)) (n + 1) rest)
+    ≡ outcome T (cond blank (events_of used (n + 1) rest) (further_after n used r (λ after. events_of after (n + 1) rest)))
+goes_on_by T used n rest true r good = refl
+goes_on_by T used n rest false (Ok event) good = refl
+goes_on_by T used n rest false (Err cause) good = absurd (cc)
+
+-- by a line that is not bad
+pub goes_on : (T : Trace) (used : UsedState) (n : ℕ) (line : List ℕ) (rest : List (List ℕ)) → line_cause used line ≡ None
+    → outcome (after_line T used n line) (events_of (used_after_line used line) (n + 1) rest) ≡ outcome T (events_of used n (line ∷ rest))
+goes_on T used n line rest good = goes_on_by T used n rest (is_blank line) (event_of line used) good
+
+-- what is written up to the bad line n
+abbrev pub stopped : Trace → ℕ → LineCause → Outcome
+stopped T n cause = record { text = bad_text T n cause; status = BadScript }
+
+stops_by : (T : Trace) (used : UsedState) (n : ℕ) (rest : List (List ℕ)) (cause : LineCause) (blank : Bool) (r : Result Event LineCause) → cond blank None (cause_of r) ≡ Some cause
+    → outcome T (cond blank (events_of used (n + 1) rest) (further_after n used r (λ after. events_of after (n + 1) rest))) ≡ stopped T n cause
+stops_by T used n rest cause true r bad = absurd (cc)
+stops_by T used n rest cause false (Ok event) bad = absurd (cc)
+stops_by T used n rest cause false (Err found) bad = let same : found ≡ cause = cc in ap (stopped T n) same
+
+-- at a bad line
+pub stops : (T : Trace) (used : UsedState) (n : ℕ) (line : List ℕ) (rest : List (List ℕ)) (cause : LineCause) → line_cause used line ≡ Some cause
+    → outcome T (events_of used n (line ∷ rest)) ≡ stopped T n cause
+stops T used n line rest cause bad = stops_by T used n rest cause (is_blank line) (event_of line used) bad
+
+-- where there is no first line there is no line
+pub no_line : (rest : List ℕ) → first_line rest ≡ None → lines_of rest ≡ []
+no_line [] h = refl
+no_line (b ∷ bytes) h = absurd (cc)
+
+bad_leaves : (T : Trace) (n : ℕ) (cause : LineCause) (blank : Bool) (r : Result Event LineCause) → cond blank None (cause_of r) ≡ Some cause → cond blank T (after_read T n r) ≡ T
+bad_leaves T n cause true r bad = refl
+bad_leaves T n cause false (Ok event) bad = absurd (cc)
+bad_leaves T n cause false (Err found) bad = refl
+
+-- a bad line leaves the trace
+pub after_bad : (T : Trace) (used : UsedState) (n : ℕ) (line : List ℕ) (cause : LineCause) → line_cause used line ≡ Some cause → after_line T used n line ≡ T
+after_bad T used n line cause bad = bad_leaves T n cause (is_blank line) (event_of line used) bad
+
+-- ---- the whole text
+
+-- without a line
+pub run_text-no_line : (bytes : List ℕ) → lines_of bytes ≡ [] → run_text bytes ≡ line_of (bad_data 1 NotJson)
+unfolding text_of
+run_text-no_line bytes none = ap (λ lines. text_of (script_of_lines lines)) none
+
+-- with a bad header
+pub run_text-bad_header : (bytes line : List ℕ) (rest : List (List ℕ)) (cause : LineCause) → lines_of bytes ≡ line ∷ rest → header_of line ≡ Err cause → run_text bytes ≡ line_of (bad_data 1 cause)
+unfolding text_of
+run_text-bad_header bytes line rest cause lines reads = ap (λ lines. text_of (script_of_lines lines)) lines ∙ ap (λ h. text_of (script_after h rest)) reads
+
+text_of-ended_by : (header : Header) (good : List Numbered) (bad : Option (ℕ × LineCause)) → text_of (ended_by header good bad) ≡ (outcome_by (with_events (start header) good) bad).text
+unfolding text_of
+text_of-ended_by header good None = refl
+text_of-ended_by header good (Some bad) = refl
+
+-- with a header and the events after it
+pub run_text-header : (bytes line : List ℕ) (rest : List (List ℕ)) (header : Header) → lines_of bytes ≡ line ∷ rest → header_of line ≡ Ok header
+    → run_text bytes ≡ (outcome (start header) (events_of (unused header.now) 2 rest)).text
+run_text-header bytes line rest header lines reads =
+    let found = events_of (unused header.now) 2 rest in
+    ap (λ lines. text_of (script_of_lines lines)) lines ∙ ap (λ h. text_of (script_after h rest)) reads ∙ text_of-ended_by header found.good found.bad

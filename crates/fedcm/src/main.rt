@@ -1,0 +1,22 @@
+//! The browser's part in federated sign-in, as a program: it reads a session script and writes its transcript.
+#![tactic(auto)]
+
+mod print;
+mod program;
+mod read;
+mod run;
+mod status;
+#[cfg(test)]
+mod tests;
+mod top;
+
+use program::program;
+pub use status::Status;
+use std::marker::Brand;
+use std::process::ExitCode;
+use std::sync::ledger::Blank;
+pub use top::fedcm;
+
+fn main(rt: HostRuntime) -> ExitCode {
+    ExitCode::from(program::<Brand>(&rt, Blank::new(1)).code())
+}
