@@ -1,5 +1,5 @@
 -- The last endpoint, after the others were taken.
-use Rattle.std.proofs.Common.{◌≡◌, ℕ, List, Option, Some, None, Result, Ok, Err, refl, sym, ap, ◌∙◌}
+use Rattle.std.proofs.Common.{◌≡◌, Option, Ok, refl}
 use Rattle.url.specs.Parts.{Parts}
 use Rattle.fed_io.specs.declared.error.Fault.{Fault}
 use Rattle.fed_io.specs.declared.error.Fault.TheVariants.{Step, NoRoom}

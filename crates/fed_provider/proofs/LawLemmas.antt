@@ -1,5 +1,5 @@
 -- One configuration of a well-known file, and endpoints that are same-origin.
-use Rattle.std.proofs.Common.{◌≡◌, ℕ, Bool, true, false, List, Option, Some, None, ok_or, Result, Ok, Err, refl, sym, ap, subst, ◌∙◌, rules, if◌then◌else◌}
+use Rattle.std.proofs.Common.{◌≡◌, ℕ, Bool, true, false, List, Option, Some, None, Result, Ok, Err, refl, sym, subst, ◌∙◌, rules, if◌then◌else◌}
 use Rattle.std.specs.Prelude.{bytes_eq, IfSome}
 use Rattle.std.proofs.lemmas.Slice.Eq.{bytes_eq-Decides}
 use Rattle.url.specs.Parts.{Parts, serialize}
@@ -9,13 +9,12 @@ use Rattle.fed_origin.specs.declared.stage.Endpoint.TheVariants.{Accounts, Asser
 use Rattle.fed_origin.specs.declared.refusal.UrlRefusal.{UrlRefusal}
 use Rattle.fed_origin.specs.Origin.{same_origin}
 use Rattle.fed_origin.specs.WebUrl.{joined_url, origin_of}
-use Rattle.fed_reply.specs.declared.step.ReplyStep.{ReplyStep}
 use Rattle.fed_reply.specs.Steps.{◌>>=◌, with_ok, with_step}
 use Rattle.fed_reply.specs.Json.{ReplyJsonOf}
 use Rattle.fed_provider.specs.declared.config.Config.{Config}
 use Rattle.fed_provider.specs.declared.step.ProviderStep.{ProviderStep}
-use Rattle.fed_provider.specs.declared.step.ProviderStep.TheVariants.{WellKnownReply, WellKnownShape, WellKnownOther, ConfigReply, EndpointOrigin}
-use Rattle.fed_provider.specs.WellKnown.{names, lists, WellKnownOf, only_text}
+use Rattle.fed_provider.specs.declared.step.ProviderStep.TheVariants.{WellKnownReply, WellKnownOther, ConfigReply, EndpointOrigin}
+use Rattle.fed_provider.specs.WellKnown.{names, lists, WellKnownOf}
 use Rattle.fed_provider.specs.Config.{ConfigTexts, texts_of, own_url, endpoint_url, optional_url, endpoints, ConfigOf}
 use Rattle.fed_provider.specs.Laws.{IsOwn, HasOwnEndpoints}
 

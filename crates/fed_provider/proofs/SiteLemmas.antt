@@ -1,5 +1,5 @@
 -- A registrable domain is ASCII where its host is.
-use Rattle.std.proofs.Common.{◌≡◌, ℕ, ◌+◌, ◌<◌, Bool, true, false, not, ◌&&◌, List, [], ◌∷◌, ◌++◌, length, take, drop, reverse, All, IsTrue, Option, Some, None, option_map, refl, sym, ap, subst, ◌∙◌, rules, arith, if◌then◌else◌}
+use Rattle.std.proofs.Common.{◌≡◌, ℕ, ◌+◌, Bool, true, false, not, ◌&&◌, List, [], ◌∷◌, ◌++◌, length, take, drop, reverse, Some, None, option_map, refl, sym, ap, subst, ◌∙◌, rules, if◌then◌else◌}
 use Rattle.std.specs.Prelude.{IsAscii, nat_lt}
 use Rattle.std.specs.List.{list_all, list_any, slice_split, join_with_byte}
 use Rattle.std.proofs.lemmas.List.{reverse-reverse, reverse-append, take-append-drop}
@@ -12,7 +12,7 @@ use Rattle.fed_origin.specs.declared.host.HostKind.TheVariants.{Name, V4, V6}
 use Rattle.fed_origin.specs.Host.{host_kind}
 use Rattle.fed_suffix.specs.Label.{is_dot, labels_of, name_of, is_empty}
 use Rattle.fed_suffix.specs.Rule.{RuleSet}
-use Rattle.fed_suffix.specs.Registrable.{registrable, registrable_of, registrable_labels, suffix_len, matching}
+use Rattle.fed_suffix.specs.Registrable.{registrable, registrable_of, suffix_len, matching}
 
 and_right : (a b : Bool) → (a && b) ≡ true → b ≡ true
 and_right true b e = e

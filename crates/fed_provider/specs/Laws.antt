@@ -1,5 +1,5 @@
 -- What the definitions promise.
-use Rattle.std.specs.Prelude.{◌≡◌, ℕ, Bool, true, List, Option, All, IfSome, Ok}
+use Rattle.std.specs.Prelude.{◌≡◌, ℕ, true, List, IfSome, Ok}
 use Rattle.url.specs.Parts.{Parts, serialize}
 use Rattle.fed_origin.specs.Origin.{same_origin}
 use Rattle.fed_origin.specs.WebUrl.{origin_of}

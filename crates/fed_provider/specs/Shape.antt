@@ -1,5 +1,5 @@
 -- Members that have to be texts, or may be left out.
-use Rattle.std.specs.Prelude.{ℕ, List, Option, Some, None, Result, Ok, Err}
+use Rattle.std.specs.Prelude.{Option, Some, None, Result, Ok, Err}
 use Rattle.fed_reply.specs.declared.member.Member.{Member}
 use Rattle.fed_reply.specs.declared.member.Member.TheVariants.{Absent, Wrong, Is}
 

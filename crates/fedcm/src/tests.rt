@@ -71,231 +71,160 @@ fn ran(
     answer::<Brand>(alloc, Blank::new(1), words, script, take, put)
 }
 
-// Whether the script gives this status and transcript.
+// Whether the words and the script give this status and transcript.
 fn gives(
     alloc: Global,
+    words: &[&str],
     script: &[&str],
     status: Status,
     transcript: &[&str],
 ) -> Result<bool, NoRoom> {
-    let (found, text) = ran(alloc, &["run"], script, 0, 0)?;
+    let (found, text) = ran(alloc, words, script, 0, 0)?;
     let expected = joined(alloc, transcript)?;
     Ok(found == status && text.as_slice() == expected.as_str().as_bytes())
 }
 
 #[test]
-fn scripts_give_their_transcripts(rt: HostRuntime) -> Result<(), Fail> {
-    for (script, status, transcript) in [
-        (
-            [HEADER, LOAD, GET, "", "", "", ""],
+fn a_call_sends_its_first_requests(rt: HostRuntime) -> Result<(), Fail> {
+    let alloc = rt.alloc();
+    let end = "{\"events\":2,\"out\":\"end\"}\n";
+    let first = [WELL_KNOWN, CONFIG, end];
+    assert!(rt; gives(alloc, &["run"], &[HEADER, LOAD, GET], Status::Done, &first)?);
+    let rules =
+        "{\"fedcm\":1,\"now\":1700000000,\"rules\":\"com\\nexample\\n*.ck\\n!www.ck\\n// a comment\"}\n";
+    assert!(rt; gives(alloc, &["run"], &[rules, LOAD, GET], Status::Done, &first)?);
+    Ok(())
+}
+
+#[test]
+fn a_page_has_one_pending_get(rt: HostRuntime) -> Result<(), Fail> {
+    let second =
+        "{\"do\":\"get\",\"page\":1,\"call\":2,\"providers\":[{\"config\":\"https://accounts.idp.example/fedcm.json\",\"client\":\"c1\"}]}\n";
+    let third =
+        "{\"do\":\"get\",\"page\":1,\"call\":3,\"providers\":[{\"config\":\"https://127.0.0.1/f.json\",\"client\":\"c1\"}]}\n";
+    let elsewhere =
+        "{\"do\":\"get\",\"page\":2,\"call\":4,\"providers\":[{\"config\":\"https://accounts.idp.example/fedcm.json\",\"client\":\"c1\"}]}\n";
+    let script = [HEADER, LOAD, GET, second, LOAD, third, elsewhere];
+    let pending =
+        "{\"call\":2,\"line\":4,\"out\":\"result\",\"page\":1,\"see\":\"NotAllowedError\",\"step\":\"call-pending\"}\n";
+    let no_site =
+        "{\"call\":3,\"line\":6,\"out\":\"result\",\"page\":1,\"see\":\"NetworkError\",\"step\":\"no-site\"}\n";
+    let ignored = "{\"line\":7,\"out\":\"ignored\",\"why\":\"no-page\"}\n";
+    let end = "{\"events\":6,\"out\":\"end\"}\n";
+    let expected = [WELL_KNOWN, CONFIG, pending, no_site, ignored, end];
+    assert!(rt; gives(rt.alloc(), &["run"], &script, Status::Done, &expected)?);
+    Ok(())
+}
+
+#[test]
+fn pages_and_providers_are_secure(rt: HostRuntime) -> Result<(), Fail> {
+    let insecure = "{\"do\":\"load\",\"page\":1,\"url\":\"http://rp.example/\"}\n";
+    let over_http =
+        "{\"do\":\"get\",\"page\":1,\"call\":2,\"providers\":[{\"config\":\"http://idp.example/f.json\",\"client\":\"c1\"}]}\n";
+    let script = [HEADER, "\r\n", insecure, GET, LOAD, over_http];
+    let ignored = "{\"line\":4,\"out\":\"ignored\",\"why\":\"page-insecure\"}\n";
+    let failed =
+        "{\"call\":2,\"line\":6,\"out\":\"result\",\"page\":1,\"see\":\"NetworkError\",\"step\":\"config-scheme\"}\n";
+    let end = "{\"events\":4,\"out\":\"end\"}\n";
+    assert!(rt;
+        gives(
+            rt.alloc(),
+            &["run"],
+            &script,
             Status::Done,
-            [
-                WELL_KNOWN,
-                CONFIG,
-                "{\"events\":2,\"out\":\"end\"}\n",
-                "",
-                "",
-                "",
-            ],
-        ),
-        (
-            [
-                "{\"fedcm\":1,\"now\":1700000000,\"rules\":\"com\\nexample\\n*.ck\\n!www.ck\\n// a comment\"}\n",
-                LOAD,
-                GET,
-                "",
-                "",
-                "",
-                "",
-            ],
+            &[ignored, failed, end]
+        )?
+    );
+    Ok(())
+}
+
+#[test]
+fn a_suffix_has_no_site(rt: HostRuntime) -> Result<(), Fail> {
+    let rules = "{\"fedcm\":1,\"now\":0,\"rules\":\"idp.example\"}\n";
+    let call =
+        "{\"do\":\"get\",\"page\":1,\"call\":2,\"providers\":[{\"config\":\"https://idp.example/f.json\",\"client\":\"c1\"}]}\n";
+    let failed =
+        "{\"call\":2,\"line\":3,\"out\":\"result\",\"page\":1,\"see\":\"NetworkError\",\"step\":\"no-site\"}\n";
+    let end = "{\"events\":2,\"out\":\"end\"}\n";
+    assert!(rt;
+        gives(
+            rt.alloc(),
+            &["run"],
+            &[rules, LOAD, call],
             Status::Done,
-            [
-                WELL_KNOWN,
-                CONFIG,
-                "{\"events\":2,\"out\":\"end\"}\n",
-                "",
-                "",
-                "",
-            ],
+            &[failed, end]
+        )?
+    );
+    Ok(())
+}
+
+#[test]
+fn a_bad_line_ends_the_run(rt: HostRuntime) -> Result<(), Fail> {
+    for (before, line, bad) in [
+        (
+            "",
+            "",
+            "{\"cause\":\"not-json\",\"line\":1,\"out\":\"bad\"}\n",
         ),
         (
-            [HEADER, "", "", "", "", "", ""],
-            Status::Done,
-            ["{\"events\":0,\"out\":\"end\"}\n", "", "", "", "", ""],
+            "",
+            "{}",
+            "{\"cause\":\"member\",\"line\":1,\"member\":\"fedcm\",\"out\":\"bad\"}\n",
         ),
         (
-            ["", "", "", "", "", "", ""],
-            Status::BadScript,
-            [
-                "{\"cause\":\"not-json\",\"line\":1,\"out\":\"bad\"}\n",
-                "",
-                "",
-                "",
-                "",
-                "",
-            ],
+            "",
+            "{\"fedcm\":1,\"now\":0,\"rules\":\"a..b\"}",
+            "{\"cause\":\"member\",\"line\":1,\"member\":\"rules\",\"out\":\"bad\"}\n",
         ),
         (
-            ["{}", "", "", "", "", "", ""],
-            Status::BadScript,
-            [
-                "{\"cause\":\"member\",\"line\":1,\"member\":\"fedcm\",\"out\":\"bad\"}\n",
-                "",
-                "",
-                "",
-                "",
-                "",
-            ],
+            HEADER,
+            "{\"do\":\"jump\"}",
+            "{\"cause\":\"no-kind\",\"line\":2,\"out\":\"bad\"}\n",
         ),
         (
-            [
-                "{\"fedcm\":1,\"now\":0,\"rules\":\"a..b\"}",
-                "",
-                "",
-                "",
-                "",
-                "",
-                "",
-            ],
-            Status::BadScript,
-            [
-                "{\"cause\":\"member\",\"line\":1,\"member\":\"rules\",\"out\":\"bad\"}\n",
-                "",
-                "",
-                "",
-                "",
-                "",
-            ],
-        ),
-        (
-            [HEADER, LOAD, "{\"do\":\"jump\"}", "", "", "", ""],
-            Status::BadScript,
-            [
-                "{\"cause\":\"no-kind\",\"line\":3,\"out\":\"bad\"}\n",
-                "",
-                "",
-                "",
-                "",
-                "",
-            ],
-        ),
-        (
-            [
-                HEADER,
-                LOAD,
-                "{\"do\":\"load\",\"page\":2,\"url\":\"ftp://x/\"}",
-                "",
-                "",
-                "",
-                "",
-            ],
-            Status::BadScript,
-            [
-                "{\"cause\":\"bad-url\",\"line\":3,\"out\":\"bad\"}\n",
-                "",
-                "",
-                "",
-                "",
-                "",
-            ],
-        ),
-        (
-            [HEADER, LOAD, GET, GET, LOAD, "", ""],
-            Status::BadScript,
-            [
-                WELL_KNOWN,
-                CONFIG,
-                "{\"cause\":\"call-twice\",\"line\":4,\"out\":\"bad\"}\n",
-                "",
-                "",
-                "",
-            ],
-        ),
-        (
-            [
-                HEADER,
-                LOAD,
-                GET,
-                "{\"do\":\"get\",\"page\":1,\"call\":2,\"providers\":[{\"config\":\"https://accounts.idp.example/fedcm.json\",\"client\":\"c1\"}]}\n",
-                LOAD,
-                "{\"do\":\"get\",\"page\":1,\"call\":3,\"providers\":[{\"config\":\"https://127.0.0.1/f.json\",\"client\":\"c1\"}]}\n",
-                "{\"do\":\"get\",\"page\":2,\"call\":4,\"providers\":[{\"config\":\"https://accounts.idp.example/fedcm.json\",\"client\":\"c1\"}]}\n",
-            ],
-            Status::Done,
-            [
-                WELL_KNOWN,
-                CONFIG,
-                "{\"call\":2,\"line\":4,\"out\":\"result\",\"page\":1,\"see\":\"NotAllowedError\",\"step\":\"call-pending\"}\n",
-                "{\"call\":3,\"line\":6,\"out\":\"result\",\"page\":1,\"see\":\"NetworkError\",\"step\":\"no-site\"}\n",
-                "{\"line\":7,\"out\":\"ignored\",\"why\":\"no-page\"}\n",
-                "{\"events\":6,\"out\":\"end\"}\n",
-            ],
-        ),
-        (
-            [
-                HEADER,
-                "\r\n",
-                "{\"do\":\"load\",\"page\":1,\"url\":\"http://rp.example/\"}\n",
-                GET,
-                LOAD,
-                "{\"do\":\"get\",\"page\":1,\"call\":2,\"providers\":[{\"config\":\"http://idp.example/f.json\",\"client\":\"c1\"}]}\n",
-                "",
-            ],
-            Status::Done,
-            [
-                "{\"line\":4,\"out\":\"ignored\",\"why\":\"page-insecure\"}\n",
-                "{\"call\":2,\"line\":6,\"out\":\"result\",\"page\":1,\"see\":\"NetworkError\",\"step\":\"config-scheme\"}\n",
-                "{\"events\":4,\"out\":\"end\"}\n",
-                "",
-                "",
-                "",
-            ],
-        ),
-        (
-            [
-                "{\"fedcm\":1,\"now\":0,\"rules\":\"idp.example\"}\n",
-                LOAD,
-                "{\"do\":\"get\",\"page\":1,\"call\":2,\"providers\":[{\"config\":\"https://idp.example/f.json\",\"client\":\"c1\"}]}\n",
-                "",
-                "",
-                "",
-                "",
-            ],
-            Status::Done,
-            [
-                "{\"call\":2,\"line\":3,\"out\":\"result\",\"page\":1,\"see\":\"NetworkError\",\"step\":\"no-site\"}\n",
-                "{\"events\":2,\"out\":\"end\"}\n",
-                "",
-                "",
-                "",
-                "",
-            ],
+            HEADER,
+            "{\"do\":\"load\",\"page\":2,\"url\":\"ftp://x/\"}",
+            "{\"cause\":\"bad-url\",\"line\":2,\"out\":\"bad\"}\n",
         ),
     ] {
-        let [_, second, third, ..] = script;
-        assert!(rt;
-            gives(rt.alloc(), &script, status, &transcript)?,
-            "{second}{third}"
-        );
+        let given = gives(
+            rt.alloc(),
+            &["run"],
+            &[before, line],
+            Status::BadScript,
+            &[bad],
+        )?;
+        assert!(rt; given, "{bad}");
     }
+    Ok(())
+}
+
+#[test]
+fn what_stands_before_a_bad_line_is_written(rt: HostRuntime) -> Result<(), Fail> {
+    let twice = "{\"cause\":\"call-twice\",\"line\":4,\"out\":\"bad\"}\n";
+    let script = [HEADER, LOAD, GET, GET, LOAD];
+    let expected = [WELL_KNOWN, CONFIG, twice];
+    assert!(rt; gives(rt.alloc(), &["run"], &script, Status::BadScript, &expected)?);
+    Ok(())
+}
+
+#[test]
+fn a_header_alone_is_a_script(rt: HostRuntime) -> Result<(), Fail> {
+    let end = "{\"events\":0,\"out\":\"end\"}\n";
+    assert!(rt; gives(rt.alloc(), &["run"], &[HEADER], Status::Done, &[end])?);
     Ok(())
 }
 
 #[test]
 fn other_words_are_no_form(rt: HostRuntime) -> Result<(), Fail> {
-    for words in [["run", "run"], ["make", "x"], ["make", "1"], ["", "run"]] {
-        let (status, text) = ran(rt.alloc(), &words, &[HEADER], 0, 0)?;
-        assert_eq!(rt; status, Status::Usage);
-        assert!(rt; text.is_empty());
-    }
-    Ok(())
-}
-
-#[test]
-fn one_other_word_is_no_form(rt: HostRuntime) -> Result<(), Fail> {
-    for words in [[].as_slice(), ["twin"].as_slice(), ["make x"].as_slice()] {
-        let (status, _) = ran(rt.alloc(), words, &[HEADER], 0, 0)?;
-        assert_eq!(rt; status, Status::Usage);
+    let alloc = rt.alloc();
+    assert!(rt; gives(alloc, &[], &[HEADER], Status::Usage, &[])?);
+    assert!(rt; gives(alloc, &["run", "run"], &[HEADER], Status::Usage, &[])?);
+    for word in ["make", "make x", "make 0", "twin", ""] {
+        assert!(rt;
+            gives(alloc, &[word], &[HEADER], Status::Usage, &[])?,
+            "{word}"
+        );
     }
     Ok(())
 }

@@ -1,5 +1,4 @@
-use Rattle.std.proofs.Common.{◌≡◌, ◌≢◌, length, sym, ◌∙◌, None}
-use Rattle.std.specs.Prelude.{vec_len}
+use Rattle.std.proofs.Common.{◌∙◌}
 use Rattle.fed_provider.proofs.ListLemmas.{no_only_text}
 use Rattle.fed_provider.proofs.wellknown.only_text.Goals as goal
 
