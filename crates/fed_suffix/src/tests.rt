@@ -114,17 +114,37 @@ fn lines_that_hold_no_rule_or_a_bad_one(rt: HostRuntime) -> Result<(), Fail> {
     Ok(())
 }
 
+fn are_same(alloc: Global, list: &str, other: &str) -> Result<bool, Fail> {
+    let rules = read(alloc, list)?;
+    let others = read(alloc, other)?;
+    Ok(rules.same(&others))
+}
+
+fn copies(alloc: Global, list: &str) -> Result<bool, Fail> {
+    let rules = read(alloc, list)?;
+    let copy = rules.copy(alloc)?;
+    Ok(copy.same(&rules))
+}
+
+fn some_rules() -> &'static str {
+    "COM\t// x\n公司.cn\r\n＊.mm \n!!x.mm"
+}
+
+fn rules_in_other_words() -> &'static str {
+    "xn--55qx5d.CN\n*.mm\n!！x.mm\ncom\n*.mm"
+}
+
+fn no_exception() -> &'static str {
+    "com\nxn--55qx5d.cn\n*.mm\n！x.mm"
+}
+
 // White space ends a rule. Labels are brought to ASCII form, so a full-width star is the wildcard
 // and a full-width `!` is part of a label.
 #[test]
 fn rules_in_other_forms(rt: HostRuntime) -> Result<(), Fail> {
-    let rules = read(rt.alloc(), "COM\t// x\n公司.cn\r\n＊.mm \n!!x.mm")?;
-    let others = read(rt.alloc(), "xn--55qx5d.CN\n*.mm\n!！x.mm\ncom\n*.mm")?;
-    assert!(rt; rules.same(&others));
-    let others = read(rt.alloc(), "com\nxn--55qx5d.cn\n*.mm\n！x.mm")?;
-    assert!(rt; !rules.same(&others));
-    let copy = rules.copy(rt.alloc())?;
-    assert!(rt; copy.same(&rules));
+    assert!(rt; are_same(rt.alloc(), some_rules(), rules_in_other_words())?);
+    assert!(rt; !are_same(rt.alloc(), some_rules(), no_exception())?);
+    assert!(rt; copies(rt.alloc(), some_rules())?);
     Ok(())
 }
 
@@ -239,23 +259,21 @@ fn punycode() -> &'static str {
     xn--fiqs8s "
 }
 
+fn wrong_by_list(alloc: Global, cases: &'static str) -> Result<&'static str, Fail> {
+    let rules = read(alloc, listed_rules())?;
+    first_wrong(alloc, &rules, cases)
+}
+
 #[test]
 fn published_cases(rt: HostRuntime) -> Result<(), Fail> {
-    let rules = read(rt.alloc(), listed_rules())?;
-    let tables = [
-        mixed_case_and_dots(),
-        biz_and_com(),
-        mm_and_jp(),
-        ck_and_us(),
-        chinese_below_cn(),
-        chinese_companies(),
-        chinese_below_china(),
-        china_itself(),
-        punycode(),
-    ];
-    for cases in tables {
-        let wrong = first_wrong(rt.alloc(), &rules, cases)?;
-        assert_eq!(rt; wrong, "");
-    }
+    assert_eq!(rt; wrong_by_list(rt.alloc(), mixed_case_and_dots())?, "");
+    assert_eq!(rt; wrong_by_list(rt.alloc(), biz_and_com())?, "");
+    assert_eq!(rt; wrong_by_list(rt.alloc(), mm_and_jp())?, "");
+    assert_eq!(rt; wrong_by_list(rt.alloc(), ck_and_us())?, "");
+    assert_eq!(rt; wrong_by_list(rt.alloc(), chinese_below_cn())?, "");
+    assert_eq!(rt; wrong_by_list(rt.alloc(), chinese_companies())?, "");
+    assert_eq!(rt; wrong_by_list(rt.alloc(), chinese_below_china())?, "");
+    assert_eq!(rt; wrong_by_list(rt.alloc(), china_itself())?, "");
+    assert_eq!(rt; wrong_by_list(rt.alloc(), punycode())?, "");
     Ok(())
 }
