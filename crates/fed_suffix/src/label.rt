@@ -1,8 +1,8 @@
 //! The labels of a name, from the right.
-ghost use Rattle.std.specs.Prelude.{◌≡◌, ◌+◌, ◌<◌, ◌≤◌, ◌∷◌, ◌++◌, length, take, IfOk, Some, None, IfSome, option_map, nat_lt, if◌then◌else◌, string_bytes};
+ghost use Rattle.std.specs.Prelude.{◌≡◌, ◌+◌, ◌<◌, ◌∷◌, length, take, IfOk, Some, None, nat_lt, if◌then◌else◌};
 ghost use Rattle.std.specs.List.{list_any};
 ghost use Rattle.std.specs.Option.{option_copied};
-ghost use Rattle.fed_suffix.specs.Label.{labels_of, labels_before, joined, name_of, is_empty, is_dot, is_label as is_one_label, ascii_label as ascii_label_of, ascii_labels};
+ghost use Rattle.fed_suffix.specs.Label.{labels_of, labels_before, joined, name_of, is_empty, is_label as is_one_label, ascii_label as ascii_label_of, ascii_labels};
 
 use fed_io::{Bytes, Items, NoRoom};
 use idna::{AsciiDenyList, Errors, domain_to_ascii_cow};

@@ -12,7 +12,7 @@ use crate::SuffixRefusal;
 use crate::label::{has_empty_label, one_label_more};
 use crate::rule::{Rule, is_skipped, read_rule, rule_text};
 use crate::tree::Tree;
-use fed_io::{Bytes, Fault, Items, NoRoom};
+use fed_io::{Fault, NoRoom};
 use fed_origin::{Host, HostKind};
 use std::alloc::Global;
 use std::marker::Model;

@@ -1,11 +1,10 @@
 //! The tree of rules: from the root a label leads to a node, and so on from the right to the left.
-ghost use Rattle.std.specs.Prelude.{◌≡◌, ◌∷◌, max, ℕ, ◌≤◌, ◌<◌, List, reverse, length, IfSome, IfOk, OnOk, OnErr, Some, take, true, false, option_and_then};
+ghost use Rattle.std.specs.Prelude.{◌≡◌, max, ◌≤◌, ◌<◌, reverse, IfSome, IfOk, OnOk, OnErr, Some, true, false, option_and_then};
 ghost use Rattle.std.specs.Option.{option_copied, option_or, ForSome};
 ghost use Rattle.std.specs.FinSet as set;
 ghost use Rattle.indexmap.specs.IndexSet.{index_set_len};
 ghost use Rattle.fed_suffix.specs.Label.{labels_before, labels_of};
 ghost use Rattle.fed_suffix.specs.Registrable.{matching, suffix_len};
-ghost use Rattle.fed_suffix.specs.Rule.{Rule as RuleValue};
 ghost use Rattle.fed_suffix.specs.Tree as spec;
 ghost use Rattle.fed_suffix.specs.Tree.{IsTree, Grows, label_number, node_of, rules_of, ends_at, ending_at, child_by_star, longest_from, longest_by};
 

@@ -1,4 +1,4 @@
-use Rattle.std.proofs.Common.{refl, sym, ◌∙◌, max, []}
+use Rattle.std.proofs.Common.{sym, ◌∙◌, max}
 use Rattle.fed_suffix.specs.Label.{labels_of}
 use Rattle.fed_suffix.specs.Registrable.{suffix_len_of}
 use Rattle.fed_suffix.proofs.LabelLemmas.{labels_of-some}
