@@ -7,6 +7,7 @@ mod origin;
 mod refusal;
 mod scheme;
 mod stage;
+mod status;
 #[cfg(test)]
 mod tests;
 mod web_url;
@@ -17,4 +18,5 @@ pub use origin::Origin;
 pub use refusal::UrlRefusal;
 pub use scheme::Scheme;
 pub use stage::{Endpoint, ReplyKind, Stage};
+pub use status::{LoginStatus, Triple};
 pub use web_url::WebUrl;

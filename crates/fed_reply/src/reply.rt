@@ -7,7 +7,7 @@ ghost use Rattle.fed_reply.specs.Fields.{value_at};
 
 use fed_io::Bytes;
 use http::StatusCode;
-use http_header::{HeaderMap, HeaderValue};
+use http_header::{HeaderMap, HeaderValue, ValueIter};
 use std::marker::Model;
 
 /// A reply that was read: its status, its fields and its body.
@@ -55,6 +55,14 @@ impl Reply {
             Some(value) => Some(value.as_bytes()),
             None => None,
         }
+    }
+
+    /// The values of the fields of that name, in the reply's order and without white space at their ends. The name is
+    /// compared in any case. It takes no memory.
+    pub fn values(&self, name: &str) -> ValueIter<'_, HeaderValue>
+        ensures { result ≡ get_all self.now.fields (lowercase name.now) }
+    {
+        self.fields.get_all(name).iter()
     }
 
     /// The body, without its framing.

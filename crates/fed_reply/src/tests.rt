@@ -232,6 +232,7 @@ fn fields_of_a_head(rt: HostRuntime) -> Result<(), Fail> {
             assert!(rt; reply.field("set-cookie", 0) == Some(b"a=1; Secure".as_slice()));
             assert!(rt; reply.field("set-cookie", 1) == Some(b"b=2".as_slice()));
             assert!(rt; reply.field("set-cookie", 2).is_none());
+            assert_eq!(rt; reply.values("Set-Cookie").count(), 2);
             assert!(rt; reply.field("y", 0).is_none());
             assert!(rt; reply.body().is_empty());
         }

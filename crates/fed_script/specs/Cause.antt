@@ -1,7 +1,7 @@
 -- The names of members, and the words of the causes of bad lines.
 use Rattle.std.specs.Prelude.{ℕ, List, codes, Option, Some, None}
 use Rattle.fed_script.specs.declared.cause.LineCause.{LineCause}
-use Rattle.fed_script.specs.declared.cause.LineCause.TheVariants.{NotJson, NoKind, Member, BadUrl, CallTwice, TooManyEvents}
+use Rattle.fed_script.specs.declared.cause.LineCause.TheVariants.{NotJson, NoKind, Member, BadUrl, CallTwice, HaveLate, TimeBack, TooManyEvents}
 use Rattle.fed_script.specs.declared.cause.MemberName.{MemberName}
 use Rattle.fed_script.specs.declared.cause.MemberName.TheVariants as names
 
@@ -11,6 +11,8 @@ name_text names.Do = codes "do"
 name_text names.Fedcm = codes "fedcm"
 name_text names.Now = codes "now"
 name_text names.Rules = codes "rules"
+name_text names.What = codes "what"
+name_text names.Time = codes "time"
 name_text names.Page = codes "page"
 name_text names.Url = codes "url"
 name_text names.Text = codes "text"
@@ -35,6 +37,8 @@ cause_text NoKind = codes "no-kind"
 cause_text (Member name) = codes "member"
 cause_text BadUrl = codes "bad-url"
 cause_text CallTwice = codes "call-twice"
+cause_text HaveLate = codes "have-late"
+cause_text TimeBack = codes "time-back"
 cause_text TooManyEvents = codes "too-many"
 
 -- the member that a cause names
@@ -44,4 +48,6 @@ member_named NotJson = None
 member_named NoKind = None
 member_named BadUrl = None
 member_named CallTwice = None
+member_named HaveLate = None
+member_named TimeBack = None
 member_named TooManyEvents = None

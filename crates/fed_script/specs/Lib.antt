@@ -1,6 +1,9 @@
 pub mod Cause
 pub mod Member
 pub mod Header
+pub mod Raw
+pub mod Have
+pub mod At
 pub mod Load
 pub mod Get
 pub mod Used

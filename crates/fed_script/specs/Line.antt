@@ -4,15 +4,17 @@ use Rattle.std.specs.List.{list_any}
 use Rattle.serde_json.specs.Data.{Data}
 use Rattle.serde_json.specs.Find.{as_str}
 use Rattle.fed_script.specs.declared.cause.LineCause.{LineCause}
-use Rattle.fed_script.specs.declared.cause.LineCause.TheVariants.{NoKind, Member, CallTwice, TooManyEvents}
+use Rattle.fed_script.specs.declared.cause.LineCause.TheVariants.{NoKind, Member, CallTwice, HaveLate, TimeBack, TooManyEvents}
 use Rattle.fed_script.specs.declared.cause.MemberName.TheVariants as names
 use Rattle.fed_script.specs.declared.event.Event.{Event}
 use Rattle.fed_script.specs.declared.event.Header.{Header}
 use Rattle.fed_script.specs.Member.{◌>>=◌, unless, or_cause, json_of, member_of}
 use Rattle.fed_script.specs.Header.{header_named}
+use Rattle.fed_script.specs.Have.{have_of}
+use Rattle.fed_script.specs.At.{at_of}
 use Rattle.fed_script.specs.Load.{load_of}
 use Rattle.fed_script.specs.Get.{get_of}
-use Rattle.fed_script.specs.Used.{UsedState, is_used}
+use Rattle.fed_script.specs.Used.{UsedState, is_used, is_late, is_back}
 
 -- what the first line is read as
 abbrev pub header_of : List ℕ → Result Header LineCause
@@ -21,7 +23,7 @@ header_of line = json_of line >>= header_named
 -- the kinds of event that are not read yet
 abbrev pub kinds_to_come : List (List ℕ)
 kinds_to_come =
-    codes "have" ∷ codes "at" ∷ codes "closepage" ∷ codes "abort" ∷ codes "continue" ∷ codes "cancel" ∷ codes "signin"
+    codes "closepage" ∷ codes "abort" ∷ codes "continue" ∷ codes "cancel" ∷ codes "signin"
     ∷ codes "shutwindow" ∷ codes "reply" ∷ codes "choose" ∷ codes "idpclose" ∷ codes "prevent" ∷ codes "setstatus" ∷ codes "disconnect" ∷ []
 
 -- why no event is read of a line of this kind
@@ -31,8 +33,11 @@ unread_kind kind = if list_any (bytes_eq kind) kinds_to_come then Member names.D
 -- the event of a line of this kind
 abbrev pub event_of_kind : List ℕ → Data → Result Event LineCause
 event_of_kind kind d =
-    if bytes_eq kind (codes "load") then load_of d
-    else (if bytes_eq kind (codes "get") then get_of d else Err (unread_kind kind))
+    if bytes_eq kind (codes "have") then have_of d
+    else (if bytes_eq kind (codes "at") then at_of d
+    else (if bytes_eq kind (codes "load") then load_of d
+    else (if bytes_eq kind (codes "get") then get_of d
+    else Err (unread_kind kind))))
 
 -- the kind that a line names
 abbrev pub kind_of : Data → Result (List ℕ) LineCause
@@ -45,10 +50,13 @@ event_named line = do
   kind ← kind_of d
   event_of_kind kind d
 
--- what the lines before it allow: a call's number is used once, and there are at most 1,000,000 events
+-- what the lines before it allow: a call's number is used once, a `have` comes before events of other kinds, the time
+-- does not go back, and there are at most 1,000,000 events
 abbrev pub allowed : UsedState → Event → Result ⊤ LineCause
 allowed used event = do
   once ← unless (is_used used event) CallTwice
+  early ← unless (is_late used event) HaveLate
+  onward ← unless (is_back used event) TimeBack
   unless (not (nat_lt used.events 1000000)) TooManyEvents
 
 -- what a line is read as after the lines before it

@@ -6,20 +6,20 @@ use Rattle.fed_script.specs.declared.cause.LineCause.{LineCause}
 use Rattle.fed_script.specs.declared.cause.MemberName.TheVariants as names
 use Rattle.fed_script.specs.declared.event.Event.{Event}
 use Rattle.fed_script.specs.declared.event.Event.TheVariants.{Load}
-use Rattle.fed_script.specs.Member.{◌>>=◌, required, not_built, member_of, as_u32, url_of}
+use Rattle.fed_script.specs.Member.{◌>>=◌, required, as_u32, url_of}
+use Rattle.fed_script.specs.Raw.{optional_bytes}
 
--- the page and the text of its URL; the bytes of a reply are not read yet
+-- the page, and the text of its URL
 abbrev pub load_members : Data → Result (ℕ × List ℕ) LineCause
 load_members d = do
   page ← required as_u32 names.Page d
   url ← required as_str names.Url d
-  text ← not_built names.Text (member_of names.Text d)
-  raw ← not_built names.Raw (member_of names.Raw d)
   Ok (page, url)
 
--- the load that a line names
+-- the load that a line names, with the bytes of a reply if it gives them
 abbrev pub load_of : Data → Result Event LineCause
 load_of d = do
   named ← load_members d
+  raw ← optional_bytes d
   url ← url_of named.1
-  Ok (Load named.0 url)
+  Ok (Load named.0 url raw)

@@ -1,23 +1,37 @@
 -- What the events before a line leave for it.
-use Rattle.std.specs.Prelude.{◌≡◌, ℕ, ◌+◌, Bool, false, nat_eq, List, [], ◌∷◌, ◌++◌, length, ⊤}
+use Rattle.std.specs.Prelude.{◌≡◌, ℕ, ◌+◌, Bool, true, false, nat_eq, nat_lt, List, [], ◌∷◌, ◌++◌, length, ⊤}
 use Rattle.std.specs.List.{list_any}
 use Rattle.fed_script.specs.declared.event.Event.{Event}
-use Rattle.fed_script.specs.declared.event.Event.TheVariants.{Get}
+use Rattle.fed_script.specs.declared.event.Event.TheVariants.{Have, At, Get}
 
--- the numbers of the calls in the order of their lines, how many events there were, and the time in seconds since 1970
 pub record UsedState : Type 0 where
+  -- the numbers of the calls, in the order of their lines
   pub calls : List ℕ
+  -- an event other than a `have` came
+  pub started : Bool
+  -- how many events there were
   pub events : ℕ
+  -- in seconds since 1970
   pub time : ℕ
 
 -- before the first event
 abbrev pub unused : ℕ → UsedState
-unused time = record { calls = []; events = 0; time = time }
+unused time = record { calls = []; started = false; events = 0; time = time }
 
 -- an earlier line used the number of this get
 abbrev pub is_used : UsedState → Event → Bool
 is_used used (Get page call options) = list_any (nat_eq call) used.calls
 is_used used _ = false
+
+-- a `have` after an event of another kind
+abbrev pub is_late : UsedState → Event → Bool
+is_late used (Have said) = used.started
+is_late used _ = false
+
+-- an `at` whose time is below the time before it
+abbrev pub is_back : UsedState → Event → Bool
+is_back used (At time) = nat_lt time used.time
+is_back used _ = false
 
 -- no earlier line used the number of this get
 abbrev pub IsUnused : UsedState → Event → Type 0
@@ -33,6 +47,22 @@ abbrev pub calls_after : Event → List ℕ → List ℕ
 calls_after (Get page call options) calls = calls ++ call ∷ []
 calls_after _ calls = calls
 
+-- whether an event other than a `have` came, after an event
+abbrev pub started_after : Event → Bool → Bool
+started_after (Have said) started = started
+started_after _ started = true
+
+-- the time after an event
+abbrev pub time_after : Event → ℕ → ℕ
+time_after (At time) before = time
+time_after _ before = before
+
 -- what is used after an event
 abbrev pub used_after : Event → UsedState → UsedState
-used_after event used = record { calls = calls_after event used.calls; events = used.events + 1; time = used.time }
+used_after event used =
+    record {
+      calls = calls_after event used.calls;
+      started = started_after event used.started;
+      events = used.events + 1;
+      time = time_after event used.time;
+    }

@@ -7,6 +7,8 @@ pub enum MemberName {
     Fedcm,
     Now,
     Rules,
+    What,
+    Time,
     Page,
     Url,
     Text,
@@ -38,6 +40,10 @@ pub enum LineCause {
     BadUrl,
     /// The number of a call that an earlier line used.
     CallTwice,
+    /// A `have` after an event of another kind.
+    HaveLate,
+    /// An `at` whose time is below the time before it.
+    TimeBack,
     /// An event after 1,000,000 events.
     TooManyEvents,
 }
@@ -55,6 +61,8 @@ impl MemberName {
             MemberName::Fedcm => "fedcm",
             MemberName::Now => "now",
             MemberName::Rules => "rules",
+            MemberName::What => "what",
+            MemberName::Time => "time",
             MemberName::Page => "page",
             MemberName::Url => "url",
             MemberName::Text => "text",
@@ -89,6 +97,8 @@ impl LineCause {
             LineCause::Member(_) => "member",
             LineCause::BadUrl => "bad-url",
             LineCause::CallTwice => "call-twice",
+            LineCause::HaveLate => "have-late",
+            LineCause::TimeBack => "time-back",
             LineCause::TooManyEvents => "too-many",
         }
     }

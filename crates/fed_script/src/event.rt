@@ -1,7 +1,7 @@
 //! What the lines of a script are read as.
 ghost use Rattle.std.specs.Prelude.{◌≡◌, IfOk};
 
-use fed_io::NoRoom;
+use fed_io::{Bytes, NoRoom};
 use fed_origin::{GetOptions, WebUrl};
 use fed_suffix::Suffixes;
 use std::alloc::Global;
@@ -27,13 +27,28 @@ impl Header {
     }
 }
 
+/// What a script says of the time before its first event of another kind.
+#[derive(Drop)]
+pub enum Have {
+    /// A reply from the URL carried a Set-Cookie field with this value.
+    Cookie { url: WebUrl, field: Bytes },
+}
+
 /// An event of a script, one variant for each kind of line that is read.
 #[derive(Drop)]
 pub enum Event {
-    /// A page is loaded: from now on it stands with the URL's origin.
+    /// Something stands from before the script.
+    Have(Have),
+    /// It is this time from now on, in seconds since 1970.
+    At {
+        time: u64,
+    },
+    /// A page is loaded: from now on it stands with the URL's origin. `raw` has the bytes of the reply, if the script
+    /// gives one.
     Load {
         page: u32,
         url: WebUrl,
+        raw: Option<Bytes>,
     },
     /// A page calls `navigator.credentials.get` (FedCM), under a number that names the call from then on.
     Get {

@@ -1,21 +1,24 @@
 //! The lines of a script: its header, its events, and why a line is bad.
 #![tactic(auto)]
 
+mod at;
 mod bytes;
 mod cause;
 mod event;
 mod get;
+mod have;
 mod header;
 mod line;
 mod load;
 mod member;
+mod raw;
 #[cfg(test)]
 mod tests;
 mod used;
 
 pub use bytes::{is_blank, next_line};
 pub use cause::{LineCause, MemberName};
-pub use event::{Event, Header};
+pub use event::{Event, Have, Header};
 pub use header::read_header;
 pub use line::read_event;
 pub use used::Used;

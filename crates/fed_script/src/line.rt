@@ -7,9 +7,11 @@ ghost use Rattle.fed_script.specs.Line.{event_of};
 ghost use Rattle.fed_script.specs.Used.{used_after, IsUnused, HasOneProvider};
 ghost use Rattle.std.specs.Result.{result_map_both};
 
+use crate::at::at;
 use crate::cause::{LineCause, MemberName};
 use crate::event::Event;
 use crate::get::get;
+use crate::have::have_named;
 use crate::load::load;
 use crate::member::{json, member};
 use crate::used::Used;
@@ -35,9 +37,7 @@ fn unread_kind(kind: &str) -> LineCause
     ensures { result ≡ spec.unread_kind kind.now }
 {
     match kind {
-        "have"
-        | "at"
-        | "closepage"
+        "closepage"
         | "abort"
         | "continue"
         | "cancel"
@@ -58,6 +58,8 @@ fn event_of_kind(alloc: Global, kind: &str, d: &Value) -> Result<Event, Fault<Li
     ensures { Answers result (spec.event_of_kind kind.now (view d.now)) }
 {
     match kind {
+        "have" => have_named(alloc, d),
+        "at" => at(d).map_err(Fault::Step),
         "load" => load(alloc, d),
         "get" => get(alloc, d),
         _ => Err(Fault::Step(unread_kind(kind))),
@@ -81,6 +83,12 @@ fn allowed(used: &Used, event: &Event) -> Result<(), LineCause>
 {
     if used.is_used(event) {
         return Err(LineCause::CallTwice);
+    }
+    if used.is_late(event) {
+        return Err(LineCause::HaveLate);
+    }
+    if used.is_back(event) {
+        return Err(LineCause::TimeBack);
     }
     if used.is_full() {
         return Err(LineCause::TooManyEvents);

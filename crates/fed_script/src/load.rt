@@ -7,7 +7,8 @@ ghost use Rattle.fed_script.specs.Load as spec;
 
 use crate::cause::{LineCause, MemberName};
 use crate::event::Event;
-use crate::member::{not_built, number, text, web_url};
+use crate::member::{number, text, web_url};
+use crate::raw::optional_bytes;
 use fed_io::Fault;
 use serde_json::Value;
 use std::alloc::Global;
@@ -19,8 +20,6 @@ fn load_members(d: &Value) -> Result<(u32, &str), LineCause>
 {
     let page = number(d, MemberName::Page)?;
     let url = text(d, MemberName::Url)?;
-    not_built(d, MemberName::Text)?;
-    not_built(d, MemberName::Raw)?;
     Ok((page, url))
 }
 
@@ -30,9 +29,10 @@ pub(crate) fn load(alloc: Global, d: &Value) -> Result<Event, Fault<LineCause>>
 {
     match load_members(d) {
         Err(cause) => Err(Fault::Step(cause)),
-        Ok((page, url)) => Ok(Event::Load {
-            page,
-            url: web_url(alloc, url)?,
-        }),
+        Ok((page, url)) => {
+            let raw = optional_bytes(alloc, d)?;
+            let url = web_url(alloc, url)?;
+            Ok(Event::Load { page, url, raw })
+        }
     }
 }

@@ -1,5 +1,7 @@
-use crate::{Event, LineCause, MemberName, Used, is_blank, next_line, read_event, read_header};
-use fed_io::Fault;
+use crate::{
+    Event, Have, LineCause, MemberName, Used, is_blank, next_line, read_event, read_header,
+};
+use fed_io::{Bytes, Fault};
 use std::alloc::{AllocError, Global};
 
 const LOAD: &str = r#"{"do":"load","page":1,"url":"https://rp.example/"}"#;
@@ -138,21 +140,23 @@ fn rules_of_a_header(rt: HostRuntime) -> Result<(), Fault<LineCause>> {
 #[test]
 fn good_lines(rt: HostRuntime) -> Result<(), Fault<LineCause>> {
     let mut used = Used::new(rt.alloc(), 1_700_000_000);
-    match read_event(rt.alloc(), LOAD.as_bytes(), &mut used)? {
-        Event::Load { page, url } => {
-            assert_eq!(rt; page, 1);
+    let load = read_event(rt.alloc(), LOAD.as_bytes(), &mut used)?;
+    match &load {
+        Event::Load { page, url, raw } => {
+            assert_eq!(rt; *page, 1);
             assert_eq!(rt; url.as_str(), "https://rp.example/");
+            assert!(rt; raw.is_none());
         }
-        Event::Get { .. } => assert!(rt; false),
+        _ => assert!(rt; false),
     }
-    match read_event(rt.alloc(), GET.as_bytes(), &mut used)? {
-        Event::Load { .. } => assert!(rt; false),
+    let get = read_event(rt.alloc(), GET.as_bytes(), &mut used)?;
+    match &get {
         Event::Get {
             page,
             call,
             options,
         } => {
-            assert_eq!(rt; (page, call), (1, 1));
+            assert_eq!(rt; (*page, *call), (1, 1));
             let providers = options.providers.as_slice();
             assert_eq!(rt; providers.len(), 1);
             assert_eq!(rt;
@@ -162,6 +166,7 @@ fn good_lines(rt: HostRuntime) -> Result<(), Fault<LineCause>> {
             assert_eq!(rt; providers[0].client.as_str(), "c1");
             assert!(rt; providers[0].nonce.is_some() && providers[0].params.is_none());
         }
+        _ => assert!(rt; false),
     }
     let good = [
         // A configuration URL without a registrable domain is a good line.
@@ -206,7 +211,7 @@ fn causes_in_their_order(rt: HostRuntime) {
         (r#"{"do":1}"#, LineCause::NoKind),
         (r#"{"do":"jump"}"#, LineCause::NoKind),
         (r#"{"do":"Load"}"#, LineCause::NoKind),
-        (r#"{"do":"have"}"#, LineCause::Member(MemberName::Do)),
+        (r#"{"do":"continue"}"#, LineCause::Member(MemberName::Do)),
         (r#"{"do":"disconnect"}"#, LineCause::Member(MemberName::Do)),
         (
             r#"{"do":"load","page":null,"url":1,"text":""}"#,
@@ -237,8 +242,12 @@ fn causes_in_their_order(rt: HostRuntime) {
             LineCause::Member(MemberName::Text),
         ),
         (
-            r#"{"do":"load","page":1,"url":"ftp://x/","text":null,"raw":""}"#,
+            r#"{"do":"load","page":1,"url":"ftp://x/","text":null,"raw":"!"}"#,
             LineCause::Member(MemberName::Raw),
+        ),
+        (
+            r#"{"do":"load","page":1,"url":"ftp://x/","text":null,"raw":""}"#,
+            LineCause::BadUrl,
         ),
         (
             r#"{"do":"load","page":2,"url":"ftp://x/"}"#,
@@ -332,6 +341,207 @@ fn causes_in_their_order(rt: HostRuntime) {
     assert_eq!(rt; used.events(), 1);
 }
 
+// The line of a load that ends with these members.
+fn load_with(alloc: Global, members: &str) -> Result<String, AllocError> {
+    let mut line = String::from_str(alloc, r#"{"do":"load","page":1,"url":"https://a""#)?;
+    line.push_str(members)?;
+    line.push('}')?;
+    Ok(line)
+}
+
+// The bytes of the reply of a load that ends with these members, or why the line is bad.
+fn reply_of(alloc: Global, members: &str) -> Result<Option<Bytes>, Option<LineCause>> {
+    let Ok(line) = load_with(alloc, members) else {
+        return Err(None);
+    };
+    let mut used = Used::new(alloc, 0);
+    match read_event(alloc, line.as_bytes(), &mut used) {
+        Ok(Event::Load { raw, .. }) => Ok(raw),
+        Ok(_) => Err(None),
+        Err(Fault::Step(cause)) => Err(Some(cause)),
+        Err(Fault::NoRoom) => Err(None),
+    }
+}
+
+#[test]
+fn bytes_of_a_reply(rt: HostRuntime) {
+    let good: [(&str, &[u8]); 7] = [
+        (r#","text":"""#, b""),
+        (r#","text":"a\u0000\u00e9","raw":null"#, b"a\x00\xc3\xa9"),
+        (r#","raw":"""#, b""),
+        (r#","raw":"aGk=","text":null"#, b"hi"),
+        (r#","raw":"YQ==""#, b"a"),
+        (r#","raw":"+/\/+""#, b"\xfb\xff\xfe"),
+        (r#","raw":"AP8A""#, b"\x00\xff\x00"),
+    ];
+    for (members, want) in good {
+        match reply_of(rt.alloc(), members) {
+            Ok(Some(bytes)) => assert_eq!(rt; bytes.as_slice(), want, "at {members}"),
+            _ => assert!(rt; false, "at {members}"),
+        }
+    }
+    let absent = [r#""#, r#","text":null"#, r#","raw":null,"text":null"#];
+    for members in absent {
+        match reply_of(rt.alloc(), members) {
+            Ok(found) => assert!(rt; found.is_none(), "at {members}"),
+            Err(_) => assert!(rt; false, "at {members}"),
+        }
+    }
+    let bad = [
+        (r#","text":5"#, MemberName::Text),
+        (r#","text":[],"raw":"aGk=""#, MemberName::Text),
+        (r#","text":"hi","raw":"aGk=""#, MemberName::Text),
+        (r#","text":"hi","raw":5"#, MemberName::Text),
+        (r#","text":"","raw":"""#, MemberName::Text),
+        (r#","raw":5"#, MemberName::Raw),
+        // Without its padding, with too much of it, and with bits left over.
+        (r#","raw":"aGk""#, MemberName::Raw),
+        (r#","raw":"aGk==""#, MemberName::Raw),
+        (r#","raw":"aGl=""#, MemberName::Raw),
+        (r#","raw":"=""#, MemberName::Raw),
+        // Letters of another alphabet, and white space.
+        (r#","raw":"A-__""#, MemberName::Raw),
+        (r#","raw":"aGk= ""#, MemberName::Raw),
+        (r#","raw":"aGk=\n""#, MemberName::Raw),
+    ];
+    for (members, name) in bad {
+        match reply_of(rt.alloc(), members) {
+            Err(cause) => { assert_eq!(rt; cause, Some(LineCause::Member(name)), "at {members}") }
+            Ok(_) => assert!(rt; false, "at {members}"),
+        }
+    }
+}
+
+const COOKIE: &str =
+    r#"{"do":"have","what":"cookie","url":"https://rp.example/a","text":"x=1; Secure"}"#;
+
+#[test]
+fn cookies(rt: HostRuntime) -> Result<(), Fault<LineCause>> {
+    let mut used = Used::new(rt.alloc(), 0);
+    let have = read_event(rt.alloc(), COOKIE.as_bytes(), &mut used)?;
+    match &have {
+        Event::Have(Have::Cookie { url, field }) => {
+            assert_eq!(rt; url.as_str(), "https://rp.example/a");
+            assert_eq!(rt; field.as_slice(), b"x=1; Secure".as_slice());
+        }
+        _ => assert!(rt; false),
+    }
+    let bad = [
+        (r#"{"do":"have"}"#, LineCause::Member(MemberName::What)),
+        (
+            r#"{"do":"have","what":null}"#,
+            LineCause::Member(MemberName::What),
+        ),
+        (
+            r#"{"do":"have","what":5}"#,
+            LineCause::Member(MemberName::What),
+        ),
+        (
+            r#"{"do":"have","what":"Cookie"}"#,
+            LineCause::Member(MemberName::What),
+        ),
+        (
+            r#"{"do":"have","what":"kept"}"#,
+            LineCause::Member(MemberName::What),
+        ),
+        (
+            r#"{"do":"have","what":"silent"}"#,
+            LineCause::Member(MemberName::What),
+        ),
+        (
+            r#"{"do":"have","what":"cookie","text":5}"#,
+            LineCause::Member(MemberName::Url),
+        ),
+        (
+            r#"{"do":"have","what":"cookie","url":null,"text":5}"#,
+            LineCause::Member(MemberName::Url),
+        ),
+        (
+            r#"{"do":"have","what":"cookie","url":"ftp://x/"}"#,
+            LineCause::Member(MemberName::Text),
+        ),
+        (
+            r#"{"do":"have","what":"cookie","url":"ftp://x/","text":"","raw":""}"#,
+            LineCause::Member(MemberName::Text),
+        ),
+        (
+            r#"{"do":"have","what":"cookie","url":"ftp://x/","raw":"="}"#,
+            LineCause::Member(MemberName::Raw),
+        ),
+        (
+            r#"{"do":"have","what":"cookie","url":"ftp://x/","text":""}"#,
+            LineCause::BadUrl,
+        ),
+    ];
+    for (line, cause) in bad {
+        assert_eq!(rt;
+            reads(rt.alloc(), line.as_bytes(), &mut used),
+            Err(Some(cause)),
+            "at {line}"
+        );
+    }
+    Ok(())
+}
+
+// What follows a header of the time 1,700,000,000: whether each line is read, or why it is bad.
+#[test]
+fn late_and_back(rt: HostRuntime) {
+    let mut used = Used::new(rt.alloc(), 1_700_000_000);
+    let lines = [
+        (COOKIE, Ok(())),
+        (
+            r#"{"do":"at","time":1699999999}"#,
+            Err(Some(LineCause::TimeBack)),
+        ),
+        // What is refused changes nothing, and a `have` is an event that no `have` comes too late for.
+        (COOKIE, Ok(())),
+        (
+            r#"{"do":"at"}"#,
+            Err(Some(LineCause::Member(MemberName::Time))),
+        ),
+        (
+            r#"{"do":"at","time":null}"#,
+            Err(Some(LineCause::Member(MemberName::Time))),
+        ),
+        (
+            r#"{"do":"at","time":1.7e9}"#,
+            Err(Some(LineCause::Member(MemberName::Time))),
+        ),
+        (
+            r#"{"do":"at","time":18446744073709551616}"#,
+            Err(Some(LineCause::Member(MemberName::Time))),
+        ),
+        (r#"{"do":"at","time":1700000000}"#, Ok(())),
+        (COOKIE, Err(Some(LineCause::HaveLate))),
+        (
+            r#"{"do":"have","what":"cookie","url":"ftp://x/","text":""}"#,
+            Err(Some(LineCause::BadUrl)),
+        ),
+        (r#"{"do":"at","time":1700000005}"#, Ok(())),
+        (
+            r#"{"do":"at","time":1700000004}"#,
+            Err(Some(LineCause::TimeBack)),
+        ),
+        (LOAD, Ok(())),
+        (r#"{"do":"at","time":18446744073709551615}"#, Ok(())),
+        (r#"{"do":"at","time":0}"#, Err(Some(LineCause::TimeBack))),
+    ];
+    for (line, want) in lines {
+        assert_eq!(rt;
+            reads(rt.alloc(), line.as_bytes(), &mut used),
+            want,
+            "at {line}"
+        );
+    }
+    assert_eq!(rt; used.events(), 6);
+    let mut used = Used::new(rt.alloc(), 0);
+    assert_eq!(rt; reads(rt.alloc(), LOAD.as_bytes(), &mut used), Ok(()));
+    assert_eq!(rt;
+        reads(rt.alloc(), COOKIE.as_bytes(), &mut used),
+        Err(Some(LineCause::HaveLate))
+    );
+}
+
 // A load with a member that nests so many lists.
 fn nested(alloc: Global, depth: usize) -> Result<String, AllocError> {
     let mut line = String::from_str(alloc, r#"{"do":"load","page":1,"url":"https://a","more":"#)?;
@@ -377,6 +587,9 @@ fn lines_of_bytes(rt: HostRuntime) {
 #[test]
 fn words(rt: HostRuntime) {
     assert_eq!(rt; LineCause::TooManyEvents.as_str(), "too-many");
+    assert_eq!(rt; LineCause::HaveLate.as_str(), "have-late");
+    assert_eq!(rt; LineCause::TimeBack.as_str(), "time-back");
+    assert_eq!(rt; MemberName::Time.as_str(), "time");
     let cause = LineCause::Member(MemberName::LoginHint);
     assert_eq!(rt; cause.as_str(), "member");
     assert_eq!(rt; cause.member().map(MemberName::as_str), Some("login_hint"));

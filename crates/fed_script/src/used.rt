@@ -1,6 +1,7 @@
 //! What the lines before a line leave for it.
 ghost use Rattle.std.specs.Prelude.{◌≡◌, ◌<◌, not, nat_lt, OnOk, OnErr};
-ghost use Rattle.fed_script.specs.Used.{unused, used_after, is_used, IsUnused};
+ghost use Rattle.fed_script.specs.Used as spec;
+ghost use Rattle.fed_script.specs.Used.{unused, used_after, is_used, is_late, is_back, IsUnused};
 
 use crate::event::Event;
 use fed_io::NoRoom;
@@ -8,11 +9,12 @@ use indexmap::IndexSet;
 use std::alloc::Global;
 use std::marker::Model;
 
-/// The numbers of the calls that the lines so far used, the number of their events, and the time
-/// in seconds since 1970.
+/// The numbers of the calls that the lines so far used, whether one of them was an event other than a `have`, the
+/// number of their events, and the time in seconds since 1970.
 #[derive(Drop)]
 pub struct Used {
     calls: IndexSet<u32>,
+    started: bool,
     events: u32,
     time: u64,
 }
@@ -22,7 +24,7 @@ impl Model for Used {
 
     ghost Value = { UsedState };
 
-    ghost view = { λ u. record { calls = u.calls.keys; events = u.events; time = u.time } };
+    ghost view = { λ u. record { calls = u.calls.keys; started = u.started; events = u.events; time = u.time } };
 }
 
 impl Used {
@@ -32,6 +34,7 @@ impl Used {
     {
         Used {
             calls: IndexSet::new(alloc),
+            started: false,
             events: 0,
             time,
         }
@@ -61,7 +64,27 @@ impl Used {
         }
     }
 
-    /// Counts an event, and its call's number as used. On NoRoom nothing changes.
+    /// Whether the event is a `have` after an event of another kind.
+    pub(crate) fn is_late(&self, event: &Event) -> bool
+        ensures { result ≡ is_late self.now event.now }
+    {
+        match event {
+            Event::Have(_) => self.started,
+            _ => false,
+        }
+    }
+
+    /// Whether the event is an `at` whose time is below the time before it.
+    pub(crate) fn is_back(&self, event: &Event) -> bool
+        ensures { result ≡ is_back self.now event.now }
+    {
+        match event {
+            Event::At { time } => *time < self.time,
+            _ => false,
+        }
+    }
+
+    /// Counts an event, its call's number as used, and the time that it names. On NoRoom nothing changes.
     pub(crate) fn note(&mut self, event: &Event) -> Result<(), NoRoom>
         requires few { self.old.events < 1000000 }
         requires once { IsUnused self.old event.now }
@@ -71,8 +94,30 @@ impl Used {
         if let Event::Get { call, .. } = event {
             self.calls.insert(*call)?;
         }
+        self.started = started_after(event, self.started);
+        self.time = time_after(event, self.time);
         self.events += 1;
         Ok(())
+    }
+}
+
+// Whether an event other than a `have` came, after an event.
+fn started_after(event: &Event, started: bool) -> bool
+    ensures { result ≡ spec.started_after event.now started }
+{
+    match event {
+        Event::Have(_) => started,
+        _ => true,
+    }
+}
+
+// The time after an event.
+fn time_after(event: &Event, before: u64) -> u64
+    ensures { result ≡ spec.time_after event.now before }
+{
+    match event {
+        Event::At { time } => *time,
+        _ => before,
     }
 }
 

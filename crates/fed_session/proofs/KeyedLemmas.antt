@@ -94,7 +94,7 @@ entries_after-append same change (x ∷ xs) ys es = entries_after-append same ch
 
 -- ---- what is looked up is what was said last
 
-unwrap_or-option_or : {V : Type 0} (later said : Option V) (x : V) → unwrap_or (option_or later said) x ≡ unwrap_or later (unwrap_or said x)
+pub unwrap_or-option_or : {V : Type 0} (later said : Option V) (x : V) → unwrap_or (option_or later said) x ≡ unwrap_or later (unwrap_or said x)
 unwrap_or-option_or None said x = refl
 unwrap_or-option_or (Some y) said x = refl
 

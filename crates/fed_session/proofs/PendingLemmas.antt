@@ -2,7 +2,7 @@
 use Rattle.std.proofs.Common.{◌≡◌, ℕ, Bool, true, false, not, nat_eq, ◌==◌, ◌||◌, ◌⊎◌, inl, inr, List, [], ◌∷◌, ◌++◌, Some, None, map, refl, sym, ap, ◌∙◌, arith, cond}
 use Rattle.std.proofs.lemmas.Bool.Decides.{nat_tests}
 use Rattle.std.specs.Prelude.{filter, Option, is_some, Result as Answer, Ok, Err}
-use Rattle.std.specs.Option.{option_to_list}
+use Rattle.std.specs.Option.{option_to_list, option_or}
 use Rattle.std.specs.List.{list_any, filter_map}
 use Rattle.std.specs.Map.{lookup}
 use Rattle.indexmap.specs.IndexMap.{insert_entry, shift_remove_entry}
@@ -10,12 +10,13 @@ use Rattle.fed_origin.specs.declared.options.GetOptions.{GetOptions}
 use Rattle.fed_origin.specs.declared.options.ProviderOptions.{ProviderOptions}
 use Rattle.fed_origin.specs.declared.origin.Origin.{Origin}
 use Rattle.fed_origin.specs.declared.stage.Stage.TheVariants.{Reading, Ended}
-use Rattle.fed_session.specs.Effect.{Effect, Page, Begin, Move, Sent, Result, Ignored, page_change, call_change, begun_by}
-use Rattle.fed_session.specs.Keyed.{entries_after}
+use Rattle.fed_jar.specs.Cookie.{StoredCookie}
+use Rattle.fed_session.specs.Effect.{Effect, Time, Page, Cookie, Begin, Move, Sent, Result, Ignored, page_change, call_change, stage_change, begun_by, time_of, written_by, last_of}
+use Rattle.fed_session.specs.Keyed.{entries_after, last_said}
 use Rattle.fed_session.specs.Records.{records_of}
-use Rattle.fed_session.specs.Row.{ends_of, is_busy, by_scheme, taken_get, standing_get, get_effects}
+use Rattle.fed_session.specs.Row.{ends_of, cookie_effects, load_effects, is_busy, by_scheme, taken_get, standing_get, get_effects}
 use Rattle.fed_origin.specs.Origin.{is_trustworthy}
-use Rattle.fed_origin.specs.WebUrl.{scheme_of}
+use Rattle.fed_origin.specs.WebUrl.{origin_of, scheme_of}
 use Rattle.fed_origin.specs.declared.scheme.Scheme.{Scheme}
 use Rattle.fed_origin.specs.declared.scheme.Scheme.TheVariants.{Http, Https}
 use Rattle.fed_provider.specs.declared.step.ProviderStep.{ProviderStep}
@@ -78,30 +79,70 @@ calls_of-others_other q page (e ∷ es) ne =
     let rest = calls_of-others_other q page es ne in
     grind (arith, nat_tests, rest, ne)
 
+-- ---- cookies
+
+pub cookies_pages : (cookies : List StoredCookie) (es : List (ℕ × Origin)) → entries_after nat_eq page_change (cookie_effects cookies) es ≡ es
+cookies_pages [] es = refl
+cookies_pages (c ∷ cookies) es = cookies_pages cookies es
+
+pub cookies_calls : (cookies : List StoredCookie) (es : List (ℕ × ℕ)) → entries_after nat_eq call_change (cookie_effects cookies) es ≡ es
+cookies_calls [] es = refl
+cookies_calls (c ∷ cookies) es = cookies_calls cookies es
+
+pub cookies_begin_none : (cookies : List StoredCookie) → filter_map begun_by (cookie_effects cookies) ≡ []
+cookies_begin_none [] = refl
+cookies_begin_none (c ∷ cookies) = cookies_begin_none cookies
+
+pub cookies_are_written : (cookies : List StoredCookie) → filter_map written_by (cookie_effects cookies) ≡ cookies
+cookies_are_written [] = refl
+cookies_are_written (c ∷ cookies) = ap (λ cs. c ∷ cs) (cookies_are_written cookies)
+
+pub cookies_say_no_time : (cookies : List StoredCookie) → last_of time_of (cookie_effects cookies) ≡ None
+cookies_say_no_time [] = refl
+cookies_say_no_time (c ∷ cookies) = ap (λ o. option_or o None) (cookies_say_no_time cookies)
+
+pub cookies_move_none : (q : ℕ) (cookies : List StoredCookie) → last_said nat_eq stage_change q (cookie_effects cookies) ≡ None
+cookies_move_none q [] = refl
+cookies_move_none q (c ∷ cookies) = ap (λ o. option_or o None) (cookies_move_none q cookies)
+
+pub cookies_are_no_records : (line : ℕ) (cookies : List StoredCookie) → records_of line (cookie_effects cookies) ≡ []
+cookies_are_no_records line [] = refl
+cookies_are_no_records line (c ∷ cookies) = cookies_are_no_records line cookies
+
 -- ---- ends and loads
 
 ends_pages : (calls : List ℕ) (es : List (ℕ × Origin)) → entries_after nat_eq page_change (ends_of calls) es ≡ es
 ends_pages [] es = refl
 ends_pages (c ∷ calls) es = ends_pages calls es
 
-pub load_pages : (calls : List ℕ) (page : ℕ) (url : Parts) (origin : Origin) (es : List (ℕ × Origin))
-    → entries_after nat_eq page_change (ends_of calls ++ Page page origin ∷ []) es ≡ insert_entry nat_eq es page origin
-load_pages calls page url origin es =
-    entries_after-append nat_eq page_change (ends_of calls) (Page page origin ∷ []) es
-    ∙ ap (λ xs. insert_entry nat_eq xs page origin) (ends_pages calls es)
+pub load_pages : (calls : List ℕ) (page : ℕ) (url : Parts) (cookies : List StoredCookie) (es : List (ℕ × Origin))
+    → entries_after nat_eq page_change (load_effects calls page url cookies) es ≡ insert_entry nat_eq es page (origin_of url)
+load_pages calls page url cookies es =
+    entries_after-append nat_eq page_change (ends_of calls) (Page page (origin_of url) ∷ cookie_effects cookies) es
+    ∙ ap (λ xs. entries_after nat_eq page_change (cookie_effects cookies) (insert_entry nat_eq xs page (origin_of url))) (ends_pages calls es)
+    ∙ cookies_pages cookies (insert_entry nat_eq es page (origin_of url))
 
-pub load_calls : (page : ℕ) (origin : Origin) (es : List (ℕ × ℕ)) → AreDistinct es
-    → entries_after nat_eq call_change (ends_of (calls_of page es) ++ Page page origin ∷ []) es ≡ others page es
-load_calls page origin es h =
-    entries_after-append nat_eq call_change (ends_of (calls_of page es)) (Page page origin ∷ []) es ∙ ended page es h
+pub load_calls : (page : ℕ) (url : Parts) (cookies : List StoredCookie) (es : List (ℕ × ℕ)) → AreDistinct es
+    → entries_after nat_eq call_change (load_effects (calls_of page es) page url cookies) es ≡ others page es
+load_calls page url cookies es h =
+    entries_after-append nat_eq call_change (ends_of (calls_of page es)) (Page page (origin_of url) ∷ cookie_effects cookies) es
+    ∙ cookies_calls cookies (entries_after nat_eq call_change (ends_of (calls_of page es)) es) ∙ ended page es h
 
-pub load_begins_none : (calls : List ℕ) (page : ℕ) (origin : Origin) → filter_map begun_by (ends_of calls ++ Page page origin ∷ []) ≡ []
-load_begins_none [] page origin = refl
-load_begins_none (c ∷ calls) page origin = load_begins_none calls page origin
+pub load_begins_none : (calls : List ℕ) (page : ℕ) (url : Parts) (cookies : List StoredCookie) → filter_map begun_by (load_effects calls page url cookies) ≡ []
+load_begins_none [] page url cookies = cookies_begin_none cookies
+load_begins_none (c ∷ calls) page url cookies = load_begins_none calls page url cookies
 
-pub load_writes_none : (line : ℕ) (calls : List ℕ) (page : ℕ) (origin : Origin) → records_of line (ends_of calls ++ Page page origin ∷ []) ≡ []
-load_writes_none line [] page origin = refl
-load_writes_none line (c ∷ calls) page origin = load_writes_none line calls page origin
+pub load_writes : (calls : List ℕ) (page : ℕ) (url : Parts) (cookies : List StoredCookie) → filter_map written_by (load_effects calls page url cookies) ≡ cookies
+load_writes [] page url cookies = cookies_are_written cookies
+load_writes (c ∷ calls) page url cookies = load_writes calls page url cookies
+
+pub load_says_no_time : (calls : List ℕ) (page : ℕ) (url : Parts) (cookies : List StoredCookie) → last_of time_of (load_effects calls page url cookies) ≡ None
+load_says_no_time [] page url cookies = ap (λ o. option_or o None) (cookies_say_no_time cookies)
+load_says_no_time (c ∷ calls) page url cookies = ap (λ o. option_or o None) (load_says_no_time calls page url cookies)
+
+pub load_is_no_record : (line : ℕ) (calls : List ℕ) (page : ℕ) (url : Parts) (cookies : List StoredCookie) → records_of line (load_effects calls page url cookies) ≡ []
+load_is_no_record line [] page url cookies = cookies_are_no_records line cookies
+load_is_no_record line (c ∷ calls) page url cookies = load_is_no_record line calls page url cookies
 
 -- ---- a get begins at most its call
 
@@ -141,7 +182,9 @@ any_append c (x ∷ xs) ys h =
 absent_after : (c : ℕ) (effects : List Effect) (es : List (ℕ × ℕ)) → list_any (nat_eq c) (filter_map begun_by effects) ≡ false → IsAbsent c es
     → IsAbsent c (entries_after nat_eq call_change effects es)
 absent_after c [] es f h = h
+absent_after c (Time time ∷ effects) es f h = absent_after c effects es f h
 absent_after c (Page page origin ∷ effects) es f h = absent_after c effects es f h
+absent_after c (Cookie cookie ∷ effects) es f h = absent_after c effects es f h
 absent_after c (Begin call page ∷ effects) es f h =
     let here : nat_eq c call ≡ false = grind (arith, f) in
     let rest : list_any (nat_eq c) (filter_map begun_by effects) ≡ false = grind (arith, f) in

@@ -4,14 +4,19 @@ use Rattle.std.specs.Option.{option_or}
 use Rattle.fed_origin.specs.declared.origin.Origin.{Origin}
 use Rattle.fed_origin.specs.declared.stage.Stage.{Stage}
 use Rattle.fed_origin.specs.declared.stage.Stage.TheVariants.{Reading, Ended}
+use Rattle.fed_jar.specs.Cookie.{StoredCookie}
 use Rattle.fed_session.specs.declared.ask.Ask.{Ask}
 use Rattle.fed_session.specs.declared.ask.Finish.{Finish}
 use Rattle.fed_session.specs.declared.ask.Why.{Why}
 use Rattle.fed_session.specs.Keyed.{Change}
 
 pub data Effect : Type 0 where
+  -- the time is this, in seconds since 1970
+  Time : (time : ℕ) → Effect
   -- the page stands with this origin
   Page : (page : ℕ) → (origin : Origin) → Effect
+  -- the cookie is written
+  Cookie : (cookie : StoredCookie) → Effect
   -- the call of the page was taken
   Begin : (call : ℕ) → (page : ℕ) → Effect
   -- the call moved
@@ -43,6 +48,16 @@ abbrev pub stage_change : Effect → Option (Change ℕ Stage)
 stage_change (Move call stage) = Some (call, Some stage)
 stage_change _ = None
 
+-- the time that an effect brings
+abbrev pub time_of : Effect → Option ℕ
+time_of (Time time) = Some time
+time_of _ = None
+
+-- the cookie that an effect writes
+abbrev pub written_by : Effect → Option StoredCookie
+written_by (Cookie cookie) = Some cookie
+written_by _ = None
+
 -- the call that an effect begins
 abbrev pub begun_by : Effect → Option ℕ
 begun_by (Begin call page) = Some call
@@ -53,7 +68,11 @@ abbrev pub moved_to : Effect → Option Stage
 moved_to (Move call stage) = Some stage
 moved_to _ = None
 
+-- the last that effects say
+abbrev pub last_of : {A : Type 0} → (Effect → Option A) → List Effect → Option A
+last_of said [] = None
+last_of said (e ∷ es) = option_or (last_of said es) (said e)
+
 -- the stage that the last move brings
 abbrev pub last_moved : List Effect → Option Stage
-last_moved [] = None
-last_moved (e ∷ es) = option_or (last_moved es) (moved_to e)
+last_moved effects = last_of moved_to effects

@@ -1,6 +1,6 @@
 -- What each event does, by what is looked up: the tables, row by row.
-use Rattle.std.specs.Prelude.{◌≡◌, ℕ, Bool, true, false, ◌==◌, List, [], ◌∷◌, ◌++◌, map, Option, Some, None, Result as Answer, Ok, Err, ⊤}
-use Rattle.std.specs.List.{list_any}
+use Rattle.std.specs.Prelude.{◌≡◌, ℕ, Bool, true, false, nat_eq, ◌==◌, List, [], ◌∷◌, ◌++◌, map, codes, Option, Some, None, option_and_then, Result as Answer, Ok, Err, ⊤}
+use Rattle.std.specs.List.{list_any, filter_map}
 use Rattle.url.specs.Parts.{Parts}
 use Rattle.fed_origin.specs.declared.options.ProviderOptions.{ProviderOptions}
 use Rattle.fed_origin.specs.declared.options.GetOptions.{GetOptions}
@@ -13,16 +13,26 @@ use Rattle.fed_origin.specs.WebUrl.{origin_of, scheme_of}
 use Rattle.fed_provider.specs.declared.step.ProviderStep.{ProviderStep}
 use Rattle.fed_provider.specs.WellKnown.{WellKnownUrlOf}
 use Rattle.fed_script.specs.declared.event.Event.{Event}
-use Rattle.fed_script.specs.declared.event.Event.TheVariants.{Load, Get}
+use Rattle.fed_script.specs.declared.event.Event.TheVariants as events
+use Rattle.fed_script.specs.declared.event.Event.TheVariants.{At, Load, Get}
+use Rattle.fed_script.specs.declared.event.Have.{Have}
+use Rattle.fed_script.specs.declared.event.Have.TheVariants as haves
 use Rattle.fed_script.specs.declared.event.Header.{Header}
 use Rattle.fed_session.specs.declared.ask.Ask.TheVariants.{WellKnown, Config}
 use Rattle.fed_session.specs.declared.ask.FailStep.{FailStep}
 use Rattle.fed_session.specs.declared.ask.FailStep.TheVariants.{CallPending, ConfigScheme, NoSite}
 use Rattle.fed_session.specs.declared.ask.Finish.TheVariants.{Failed}
 use Rattle.fed_session.specs.declared.ask.Why.TheVariants.{NoPage, PageInsecure}
-use Rattle.fed_session.specs.Effect.{Effect, Page, Begin, Move, Sent, Result, Ignored}
+use Rattle.fed_cookie.specs.Fields.{set_cookie_of}
+use Rattle.fed_jar.specs.Cookie.{StoredCookie}
+use Rattle.fed_jar.specs.Store.{cookie_of}
+use Rattle.fed_reply.specs.declared.step.ReplyStep.{ReplyStep}
+use Rattle.fed_reply.specs.Fields.{values}
+use Rattle.fed_reply.specs.Parts.{ReplyParts}
+use Rattle.fed_reply.specs.Reply.{HeadOf}
+use Rattle.fed_session.specs.Effect.{Effect, Time, Page, Cookie, Begin, Move, Sent, Result, Ignored}
 use Rattle.fed_suffix.specs.Rule.{RuleSet}
-use Rattle.fed_session.specs.Trace.{Row, Trace, page_at, pending, pending_of}
+use Rattle.fed_session.specs.Trace.{Row, Trace, page_at, pending, pending_of, now_at, begun}
 
 -- a result with the step, and the end of the call: "fails" in the tables
 abbrev pub fails : ℕ → ℕ → FailStep → List Effect
@@ -64,13 +74,46 @@ get_effects rules (Some origin) busy call page options = standing_get rules (is_
 abbrev pub ends_of : List ℕ → List Effect
 ends_of calls = map (λ call. Move call Ended) calls
 
--- a load: the page's pending calls end, then the page stands with its URL's origin
-abbrev pub load_effects : List ℕ → ℕ → Parts → List Effect
-load_effects calls page url = ends_of calls ++ Page page (origin_of url) ∷ []
+-- the cookie that a Set-Cookie value from this URL writes at this time, unless it is ignored
+abbrev pub cookie_from : RuleSet → Parts → ℕ → List ℕ → Option StoredCookie
+cookie_from rules url now field = option_and_then (cookie_of rules url now) (set_cookie_of field)
+
+-- the cookies that Set-Cookie values write, in their order
+abbrev pub cookies_from : RuleSet → Parts → ℕ → List (List ℕ) → List StoredCookie
+cookies_from rules url now fields = filter_map (cookie_from rules url now) fields
+
+-- the name of the fields that carry cookies
+abbrev pub set_cookie_name : List ℕ
+set_cookie_name = codes "set-cookie"
+
+-- the Set-Cookie values of a head; an unreadable one has none
+abbrev pub set_cookies_of : Answer ReplyParts ReplyStep → List (List ℕ)
+set_cookies_of (Ok head) = values set_cookie_name head.fields
+set_cookies_of (Err step) = []
+
+-- the Set-Cookie values of a load's reply, if it has one
+abbrev pub set_cookies : Option (List ℕ) → List (List ℕ)
+set_cookies None = []
+set_cookies (Some raw) = set_cookies_of (HeadOf raw)
+
+-- cookies are written
+abbrev pub cookie_effects : List StoredCookie → List Effect
+cookie_effects cookies = map Cookie cookies
+
+-- a load: the page's pending calls end, then the page stands with its URL's origin, then cookies are written
+abbrev pub load_effects : List ℕ → ℕ → Parts → List StoredCookie → List Effect
+load_effects calls page url cookies = ends_of calls ++ Page page (origin_of url) ∷ cookie_effects cookies
+
+-- the cookies that a line of the kind `have` writes
+abbrev pub have_cookies : RuleSet → ℕ → Have → List StoredCookie
+have_cookies rules now (haves.Cookie url field) = cookies_from rules url now (field ∷ [])
 
 -- the effects of an event after what happened
 abbrev pub effects_of : Trace → Event → List Effect
-effects_of T (Load page url) = load_effects (pending_of T page) page url
+effects_of T (events.Have have) = cookie_effects (have_cookies T.header.rules (now_at T) have)
+effects_of T (At time) = Time time ∷ []
+effects_of T (Load page url raw) =
+    load_effects (pending_of T page) page url (cookies_from T.header.rules url (now_at T) (set_cookies raw))
 effects_of T (Get page call options) = get_effects T.header.rules (page_at T page) (is_busy page (pending T)) call page options
 
 -- the row of an event at this line after what happened
@@ -81,7 +124,13 @@ row_of T line event = record { line = line; event = event; effects = effects_of 
 abbrev pub with_event : Trace → ℕ → Event → Trace
 with_event T line event = record { header = T.header; rows = row_of T line event ∷ T.rows }
 
+-- the call of a get never began before
+abbrev pub IsNew : List Row → Event → Type 0
+IsNew rows (Get page call options) = list_any (nat_eq call) (begun rows) ≡ false
+IsNew rows _ = ⊤
+
 -- each row is that of its event after the rows before it
 abbrev pub IsRun : Header → List Row → Type 0
 IsRun header [] = ⊤
-IsRun header (row ∷ rows) = (row.effects ≡ effects_of (record { header = header; rows = rows }) row.event) × IsRun header rows
+IsRun header (row ∷ rows) =
+    (row.effects ≡ effects_of (record { header = header; rows = rows }) row.event) × IsNew rows row.event × IsRun header rows

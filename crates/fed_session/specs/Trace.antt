@@ -1,12 +1,15 @@
 -- What happened in a session, and the look-backs: the last thing of a kind.
 use Rattle.std.specs.Prelude.{ℕ, Bool, nat_eq, ◌==◌, List, [], ◌∷◌, ◌++◌, filter, map, Option, None, unwrap_or}
+use Rattle.std.specs.Option.{option_or}
 use Rattle.std.specs.List.{filter_map}
 use Rattle.fed_origin.specs.declared.origin.Origin.{Origin}
 use Rattle.fed_origin.specs.declared.stage.Stage.{Stage}
 use Rattle.fed_script.specs.declared.event.Event.{Event}
 use Rattle.fed_script.specs.declared.event.Header.{Header}
 use Rattle.fed_session.specs.Keyed.{Change, entries_after, last_said}
-use Rattle.fed_session.specs.Effect.{Effect, page_change, call_change, stage_change, begun_by}
+use Rattle.fed_jar.specs.Cookie.{StoredCookie}
+use Rattle.fed_jar.specs.Writes as jar
+use Rattle.fed_session.specs.Effect.{Effect, last_of, page_change, call_change, stage_change, time_of, written_by, begun_by}
 
 pub record Row : Type 0 where
   pub line : ℕ
@@ -28,6 +31,16 @@ standing same change (row ∷ rows) = entries_after same change row.effects (sta
 abbrev pub last_value : {K V : Type 0} → (K → K → Bool) → (Effect → Option (Change K V)) → K → List Row → Option V
 last_value same change k [] = None
 last_value same change k (row ∷ rows) = unwrap_or (last_said same change k row.effects) (last_value same change k rows)
+
+-- all that the rows say, in their order
+abbrev pub all_said : {A : Type 0} → (Effect → Option A) → List Row → List A
+all_said said [] = []
+all_said said (row ∷ rows) = all_said said rows ++ filter_map said row.effects
+
+-- the last that the rows say
+abbrev pub last_in : {A : Type 0} → (Effect → Option A) → List Row → Option A
+last_in said [] = None
+last_in said (row ∷ rows) = option_or (last_of said row.effects) (last_in said rows)
 
 -- the origin of a page, where it stands
 abbrev pub page_at : Trace → ℕ → Option Origin
@@ -53,11 +66,26 @@ calls_of page calls = map (λ call. call.0) (filter (λ call. call.1 == page) ca
 abbrev pub pending_of : Trace → ℕ → List ℕ
 pending_of T page = calls_of page (pending T)
 
+-- a call with its page and its stage
+abbrev pub staged_by : (ℕ → Option Stage) → ℕ × ℕ → ℕ × ℕ × Option Stage
+staged_by stage call = (call.0, call.1, stage call.0)
+
+-- the pending calls with their pages and stages, in order of beginning
+abbrev pub staged : Trace → List (ℕ × ℕ × Option Stage)
+staged T = map (staged_by (stage_at T)) (pending T)
+
 -- the numbers of the calls that were taken, in order of beginning
 abbrev pub begun : List Row → List ℕ
-begun [] = []
-begun (row ∷ rows) = begun rows ++ filter_map begun_by row.effects
+begun rows = all_said begun_by rows
 
--- the time
+-- the time: the last that was said, or else the header's
 abbrev pub now_at : Trace → ℕ
-now_at T = T.header.now
+now_at T = unwrap_or (last_in time_of T.rows) T.header.now
+
+-- the cookies that were written, in their order
+abbrev pub writes : Trace → List StoredCookie
+writes T = all_said written_by T.rows
+
+-- the cookies that no later write replaces, in order of first writing
+abbrev pub cookies : Trace → List StoredCookie
+cookies T = jar.standing (writes T)

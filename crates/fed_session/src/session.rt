@@ -1,21 +1,23 @@
 //! One event at a time.
-ghost use Rattle.std.specs.Prelude.{◌≡◌, ◌<◌, ◌++◌, [], ◌∷◌, true, false, is_some, nat_eq, length, Some, None, IfOk, OnOk, OnErr, IsErr};
+ghost use Rattle.std.specs.Prelude.{◌≡◌, ◌<◌, [], ◌∷◌, true, false, is_some, nat_eq, length, Some, None, IfOk, OnOk, OnErr, IsErr};
 ghost use Rattle.std.specs.Map.{lookup};
-ghost use Rattle.std.specs.List.{filter_map};
 ghost use Rattle.indexmap.specs.IndexMap.{insert_entry};
 ghost use Rattle.fed_origin.specs.WebUrl.{origin_of};
 ghost use Rattle.fed_script.specs.Used.{HasOneProvider};
-ghost use Rattle.fed_session.specs.Effect.{begun_by, last_moved, Sent, Ignored};
+ghost use Rattle.fed_session.specs.Effect.{last_moved, Sent, Ignored};
 ghost use Rattle.fed_session.specs.Records.{records_of, records, record_of};
 ghost use Rattle.fed_session.specs.Row.{taken_get, fails, row_of, with_event};
-ghost use Rattle.fed_session.specs.Session.{Stands, IsFresh, get_at, entered};
+ghost use Rattle.fed_session.specs.Session.{Stands, Shows, IsFresh, get_at, entered, with_call, with_ended, without_get, kept_call};
 ghost use Rattle.fed_session.specs.Trace.{Trace};
 
 use crate::ask::{Ask, FailStep, Failure, Finish, Why};
+use crate::load::{CookieSource, store_cookies, store_have};
 use crate::out::Out;
-use crate::page::Page;
+use crate::page::{Page, Pending};
 use crate::request::build;
+use crate::view::{View, shown_calls, shown_pages};
 use fed_io::{Fault, Items, NoRoom, Steps};
+use fed_jar::Jar;
 use fed_origin::{GetOptions, Origin, Scheme, Stage, WebUrl};
 use fed_provider::wellknown_url;
 use fed_script::{Event, Header};
@@ -32,10 +34,11 @@ pub struct Session {
     alloc: Global,
     alive: bool,
     steps: u32,
-    now: u64,
+    time: u64,
     rules: Suffixes,
+    jar: Jar,
     pages: IndexMap<u32, Page>,
-    taken: Vec<u32>,
+    calls: IndexMap<u32, Option<Pending>>,
 }
 
 impl Model for Session {
@@ -48,7 +51,7 @@ impl Model for Session {
 
     ghost coded = { Prim.hlevel (codes, set.code {R = rule_cmp} rule_code) };
 
-    ghost view = { λ s. record { alive = s.alive; steps = s.steps; now = s.now; rules = s.rules; pages = s.pages.entries; taken = s.taken.items } };
+    ghost view = { λ s. record { alive = s.alive; steps = s.steps; time = s.time; rules = s.rules; cookies = s.jar; pages = s.pages.entries; calls = s.calls.entries } };
 }
 
 impl Session {
@@ -60,11 +63,27 @@ impl Session {
             alloc,
             alive: true,
             steps: 0,
-            now: header.now,
+            time: header.now,
             rules: header.rules,
+            jar: Jar::new(alloc),
             pages: IndexMap::new(alloc),
-            taken: Vec::new(alloc),
+            calls: IndexMap::new(alloc),
         })
+    }
+
+    // A session with these cookies, in which nothing else stands.
+    #[cfg(test)]
+    pub(crate) fn with_cookies(alloc: Global, header: Header, jar: Jar) -> Session {
+        Session {
+            alloc,
+            alive: true,
+            steps: 0,
+            time: header.now,
+            rules: header.rules,
+            jar,
+            pages: IndexMap::new(alloc),
+            calls: IndexMap::new(alloc),
+        }
     }
 
     /// Takes one event, and answers its records in their order. After want of memory the session is dead: each further
@@ -89,11 +108,29 @@ impl Session {
         }
         self.alive = false;
         match event {
-            Event::Load { page, url } => {
-                let outs = load(self.alloc, &mut self.pages, *page, url)?;
+            Event::Have(have) => {
+                store_have(self.alloc, &mut self.jar, &self.rules, self.time, have)?;
                 self.steps += 1;
                 self.alive = true;
-                Ok(outs)
+                Ok(Items::new(self.alloc))
+            }
+            Event::At { time } => {
+                self.time = *time;
+                self.steps += 1;
+                self.alive = true;
+                Ok(Items::new(self.alloc))
+            }
+            Event::Load { page, url, raw } => {
+                load(self.alloc, &mut self.pages, &mut self.calls, *page, url)?;
+                let source = CookieSource {
+                    rules: &self.rules,
+                    url,
+                    time: self.time,
+                };
+                store_cookies(self.alloc, &mut self.jar, source, raw)?;
+                self.steps += 1;
+                self.alive = true;
+                Ok(Items::new(self.alloc))
             }
             Event::Get {
                 page,
@@ -105,7 +142,7 @@ impl Session {
                     line,
                     &self.rules,
                     &mut self.pages,
-                    &mut self.taken,
+                    &mut self.calls,
                     *page,
                     *call,
                     options,
@@ -116,30 +153,64 @@ impl Session {
             }
         }
     }
+
+    /// What stands now. A dead session answers want of memory.
+    pub fn view(&self) -> Result<View, NoRoom>
+        ensures shows { (T : Trace) → Stands self.now T → IfOk result (λ view. Shows view T) }
+        ensures stays_dead { self.now.alive ≡ false → IsErr result }
+    {
+        if !self.alive {
+            return Err(NoRoom);
+        }
+        Ok(View {
+            now: self.time,
+            login: Items::new(self.alloc),
+            kept: Items::new(self.alloc),
+            silent: Items::new(self.alloc),
+            cookies: Items::from_vec(self.jar.list(self.alloc)?),
+            pages: shown_pages(self.alloc, &self.pages)?,
+            calls: shown_calls(self.alloc, &self.calls)?,
+        })
+    }
 }
 
 // The page's pending get ends, and the page stands with the origin of the URL.
 fn load(
     alloc: Global,
     pages: &mut IndexMap<u32, Page>,
+    calls: &mut IndexMap<u32, Option<Pending>>,
     page: u32,
     url: &WebUrl,
-) -> Result<Items<Out>, NoRoom>
-    ensures outs { IfOk result (λ outs. outs ≡ []) }
+) -> Result<(), NoRoom>
     ensures pages { OnOk result (pages.new.entries ≡ insert_entry nat_eq pages.old.entries page (record { origin = origin_of url.now; get = None })) }
+    ensures calls { OnOk result (calls.new.entries ≡ without_get (lookup (nat_eq page) pages.old.entries) calls.old.entries) }
 {
+    if let Some(found) = pages.get(&page) {
+        if let Some(call) = found.get {
+            end(calls, call);
+        }
+    }
     let origin = Origin::of_url(alloc, url)?;
     pages.insert(page, Page { origin, get: None })?;
-    Ok(Items::new(alloc))
+    Ok(())
 }
 
-// A get: its records, and the pages and the taken numbers after it.
+// The call is over.
+fn end(calls: &mut IndexMap<u32, Option<Pending>>, call: u32)
+    ensures { calls.new.entries ≡ with_ended call calls.old.entries }
+{
+    if let Some(kept) = calls.get_mut(&call) {
+        *kept = None;
+    }
+}
+
+// A get: its records, and the pages and the calls after it.
 fn get(
     alloc: Global,
     line: u32,
     rules: &Suffixes,
     pages: &mut IndexMap<u32, Page>,
-    taken: &mut Vec<u32>,
+    calls: &mut IndexMap<u32, Option<Pending>>,
     page: u32,
     call: u32,
     options: &GetOptions,
@@ -147,7 +218,7 @@ fn get(
     requires { length options.now.providers ≡ 1 }
     ensures outs { IfOk result (λ outs. outs ≡ records_of line (get_at rules.now (lookup (nat_eq page) pages.old.entries) page call options.now)) }
     ensures pages { OnOk result (pages.new.entries ≡ entered page call (last_moved (get_at rules.now (lookup (nat_eq page) pages.old.entries) page call options.now)) pages.old.entries) }
-    ensures taken { OnOk result (taken.new.items ≡ taken.old.items ++ filter_map begun_by (get_at rules.now (lookup (nat_eq page) pages.old.entries) page call options.now)) }
+    ensures calls { OnOk result (calls.new.entries ≡ with_call page call (last_moved (get_at rules.now (lookup (nat_eq page) pages.old.entries) page call options.now)) calls.old.entries) }
 {
     let Some(found) = pages.get(&page) else {
         return ignored(alloc, line, Why::NoPage);
@@ -156,7 +227,7 @@ fn get(
         return ignored(alloc, line, Why::PageInsecure);
     }
     let (stage, outs) = start(alloc, line, rules, found.get.is_some(), page, call, options)?;
-    taken.push(call)?;
+    calls.insert(call, kept_at(page, stage))?;
     enter(pages, page, call, stage);
     Ok(outs)
 }
@@ -248,6 +319,16 @@ fn failed(
         finish: Finish::Failed(Failure { step }),
     })?;
     Ok((Stage::Ended, outs))
+}
+
+// What is kept of a call of the page at this stage.
+fn kept_at(page: u32, stage: Stage) -> Option<Pending>
+    ensures { result ≡ kept_call page stage }
+{
+    match stage {
+        Stage::Ended => None,
+        Stage::Reading => Some(Pending { page, stage }),
+    }
 }
 
 // A call of the page that goes on is its pending get from now on.

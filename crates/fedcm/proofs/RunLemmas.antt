@@ -3,20 +3,21 @@ use Rattle.std.proofs.Common.{◌≡◌, ℕ, ◌+◌, Bool, true, false, cond, 
 use Rattle.std.proofs.lemmas.List.Folds.{list_any-append}
 use Rattle.std.specs.List.{list_any, filter_map}
 use Rattle.std.specs.Prelude.{Option, Result}
-use Rattle.fed_origin.specs.WebUrl.{origin_of}
 use Rattle.fed_script.specs.declared.cause.LineCause.{LineCause}
 use Rattle.fed_script.specs.declared.event.Event.{Event}
-use Rattle.fed_script.specs.declared.event.Event.TheVariants.{Load, Get}
+use Rattle.fed_script.specs.declared.event.Event.TheVariants as events
+use Rattle.fed_script.specs.declared.event.Event.TheVariants.{At, Load, Get}
 use Rattle.fed_script.specs.declared.event.Header.{Header}
 use Rattle.fed_script.specs.declared.cause.LineCause.TheVariants.{NotJson}
 use Rattle.fed_script.specs.Line.{event_of, header_of}
 use Rattle.fed_script.specs.Script.{Numbered, events_of, after_line as further_after, is_blank, first_line, lines_of, script_of_lines, script_after, ended_by}
 use Rattle.fed_script.specs.Used.{UsedState, used_after, unused}
 use Rattle.fed_session.specs.Effect.{begun_by}
-use Rattle.fed_session.specs.Row.{with_event, effects_of, is_busy}
+use Rattle.fed_session.specs.Row.{with_event, effects_of, is_busy, cookies_from, have_cookies, set_cookies}
 use Rattle.fed_session.specs.Session.{State, Stands}
-use Rattle.fed_session.specs.Trace.{Trace, begun, page_at, pending, pending_of}
-use Rattle.fed_session.proofs.PendingLemmas.{load_begins_none, get_begins, any_append}
+use Rattle.fed_session.specs.Trace.{Trace, begun, page_at, pending, pending_of, now_at}
+use Rattle.fed_session.proofs.PendingLemmas.{load_begins_none, cookies_begin_none, get_begins, any_append}
+use Rattle.fed_session.proofs.CallsLemmas.{absent_from_numbers}
 use Rattle.fedcm.specs.declared.status.Status.TheVariants.{BadScript}
 use Rattle.fedcm.specs.Run.{IsAt, Follows, Outcome, outcome, after_read, after_line, used_after_read, used_after_line, cause_of, line_cause, bad_text, rows_text, run_text, text_of, outcome_by, with_events, start}
 use Rattle.fedcm.specs.Text.{line_of, bad_data}
@@ -28,7 +29,7 @@ follows session used written T at =
     let steps = at.stands.steps in
     record {
       steps = omega (arith, steps, at.count);
-      fresh = λ call h. ap (list_any (nat_eq call)) at.stands.taken ∙ at.fresh call h;
+      fresh = λ call h. absent_from_numbers call session.calls (ap (list_any (nat_eq call)) at.stands.taken ∙ at.fresh call h);
     }
 
 -- what is unused began in no row
@@ -42,12 +43,19 @@ untaken_push calls taken begins c h (inr one) call unused =
     let parts = any_append call calls (c ∷ []) unused in
     ap (λ xs. list_any (nat_eq call) (taken ++ xs)) one ∙ list_any-append (nat_eq call) taken (c ∷ []) ∙ rw (h call parts.0, parts.1) refl
 
+-- an event begins no call
+untaken_same : (calls taken begins : List ℕ) → begins ≡ [] → IsUntaken calls taken → IsUntaken calls (taken ++ begins)
+untaken_same calls taken begins none h call unused =
+    ap (λ xs. list_any (nat_eq call) (taken ++ xs)) none ∙ ap (list_any (nat_eq call)) (append-nil taken) ∙ h call unused
+
 pub untaken_after : (T : Trace) (line : ℕ) (event : Event) (used : UsedState) → IsUntaken used.calls (begun T.rows) → IsUntaken (used_after event used).calls (begun (with_event T line event).rows)
-untaken_after T line (Load page url) used h call unused =
-    ap (λ xs. list_any (nat_eq call) (begun T.rows ++ xs)) (load_begins_none (pending_of T page) page (origin_of url))
-    ∙ ap (list_any (nat_eq call)) (append-nil (begun T.rows)) ∙ h call unused
-untaken_after T line (Get page c options) used h call unused =
-    untaken_push used.calls (begun T.rows) (filter_map begun_by (effects_of T (Get page c options))) c h (get_begins T.header.rules (page_at T page) (is_busy page (pending T)) page c options) call unused
+untaken_after T line (events.Have have) used h =
+    untaken_same used.calls (begun T.rows) _ (cookies_begin_none (have_cookies T.header.rules (now_at T) have)) h
+untaken_after T line (At time) used h = untaken_same used.calls (begun T.rows) [] refl h
+untaken_after T line (Load page url raw) used h =
+    untaken_same used.calls (begun T.rows) _ (load_begins_none (pending_of T page) page url (cookies_from T.header.rules url (now_at T) (set_cookies raw))) h
+untaken_after T line (Get page c options) used h =
+    untaken_push used.calls (begun T.rows) (filter_map begun_by (effects_of T (Get page c options))) c h (get_begins T.header.rules (page_at T page) (is_busy page (pending T)) page c options)
 
 -- an event more
 pub at_after : (session session' : State) (used used' : UsedState) (written written' : List ℕ) (T : Trace) (n : ℕ) (line : List ℕ) (event : Event)

@@ -186,6 +186,11 @@ fn a_bad_line_ends_the_run(rt: HostRuntime) -> Result<(), Fail> {
             "{\"do\":\"load\",\"page\":2,\"url\":\"ftp://x/\"}",
             "{\"cause\":\"bad-url\",\"line\":2,\"out\":\"bad\"}\n",
         ),
+        (
+            HEADER,
+            "{\"do\":\"at\",\"time\":1699999999}",
+            "{\"cause\":\"time-back\",\"line\":2,\"out\":\"bad\"}\n",
+        ),
     ] {
         let given = gives(
             rt.alloc(),

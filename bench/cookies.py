@@ -1,0 +1,68 @@
+#!/usr/bin/env python3
+"""Runs the built program over page loads that store cookies: PARTIES parties with 180 cookies each, 90 of them a load, and the
+same loads once more, which replace each cookie in its place. Reports seconds, cookies a second and peak memory, for each number
+of parties.
+
+    bench/cookies.py [PARTIES ..]
+"""
+import os
+import subprocess
+import sys
+import tempfile
+import time
+
+TOP = os.path.dirname(os.path.dirname(os.path.abspath(__file__)))
+PROGRAM = os.path.join(TOP, "crates", "fedcm", "out", "fedcm")
+HEADER = '{"fedcm":1,"now":1700000000,"rules":"example"}\n'
+A_LOAD = 90
+
+
+def reply(first, value):
+    fields = "".join(
+        f"Set-Cookie: c{first + i}={value}; Path=/; Secure; SameSite=None\\r\\n" for i in range(A_LOAD)
+    )
+    return f"HTTP/1.1 200 OK\\r\\n{fields}\\r\\n"
+
+
+def script(parties):
+    for value in ("one", "two"):
+        for party in range(parties):
+            for first in (0, A_LOAD):
+                yield (
+                    f'{{"do":"load","page":1,"url":"https://p{party}.example/",'
+                    f'"text":"{reply(first, value)}"}}\n'
+                )
+
+
+def run(path):
+    begin = time.monotonic()
+    with open(path, "rb") as source, open(os.devnull, "wb") as out:
+        child = subprocess.Popen([PROGRAM, "run"], stdin=source, stdout=out)
+        _, status, usage = os.wait4(child.pid, 0)
+    if status != 0:
+        sys.exit(f"status {os.waitstatus_to_exitcode(status)} for {path}")
+    return time.monotonic() - begin, usage.ru_maxrss / 1024
+
+
+def main():
+    if not os.access(PROGRAM, os.X_OK):
+        sys.exit("build the program first: ./fedcm run < examples/first-run.jsonl")
+    counts = [int(word) for word in sys.argv[1:]] or [100, 1000]
+    print("| parties | cookies kept | cookies written | input MB | seconds | written a second | peak MB |")
+    print("|---|---|---|---|---|---|---|")
+    with tempfile.TemporaryDirectory() as folder:
+        path = os.path.join(folder, "script.jsonl")
+        for parties in counts:
+            with open(path, "w") as out:
+                out.write(HEADER)
+                out.writelines(script(parties))
+            seconds, peak = run(path)
+            written = parties * 360
+            print(
+                f"| {parties} | {parties * 180} | {written} | {os.path.getsize(path) / 1e6:.1f} "
+                f"| {seconds:.2f} | {written / seconds:,.0f} | {peak:.0f} |"
+            )
+
+
+if __name__ == "__main__":
+    main()

@@ -1,0 +1,32 @@
+-- What a line of the kind `have` is read as.
+use Rattle.std.specs.Prelude.{ℕ, List, codes, Result, Ok, Err, bytes_eq, if◌then◌else◌}
+use Rattle.serde_json.specs.Data.{Data}
+use Rattle.serde_json.specs.Find.{as_str}
+use Rattle.fed_script.specs.declared.cause.LineCause.{LineCause}
+use Rattle.fed_script.specs.declared.cause.LineCause.TheVariants.{Member}
+use Rattle.fed_script.specs.declared.cause.MemberName.TheVariants as names
+use Rattle.fed_script.specs.declared.event.Event.{Event}
+use Rattle.fed_script.specs.declared.event.Event.TheVariants as events
+use Rattle.fed_script.specs.declared.event.Have.{Have}
+use Rattle.fed_script.specs.declared.event.Have.TheVariants.{Cookie}
+use Rattle.fed_script.specs.Member.{◌>>=◌, required, url_of}
+use Rattle.fed_script.specs.Raw.{required_bytes}
+
+-- the cookie that a line names: a URL, and the value of a Set-Cookie field
+abbrev pub cookie_of : Data → Result Have LineCause
+cookie_of d = do
+  text ← required as_str names.Url d
+  field ← required_bytes d
+  url ← url_of text
+  Ok (Cookie url field)
+
+-- what a line of this `what` says; other words are not read
+abbrev pub said : List ℕ → Data → Result Have LineCause
+said what d = if bytes_eq what (codes "cookie") then cookie_of d else Err (Member names.What)
+
+-- the have that a line names
+abbrev pub have_of : Data → Result Event LineCause
+have_of d = do
+  what ← required as_str names.What d
+  have ← said what d
+  Ok (events.Have have)

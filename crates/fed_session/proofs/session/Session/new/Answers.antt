@@ -1,0 +1,6 @@
+use Rattle.std.proofs.Common.{refl}
+use Rattle.fed_session.proofs.StandsLemmas.{stands_new}
+use Rattle.fed_session.proofs.session.Session.new.Goals as goal
+
+pub returns : goal.returns
+returns c = stands_new _ c.args.header refl refl refl refl c.new.ensures c.new-2.ensures.empty c.new-3.ensures.empty

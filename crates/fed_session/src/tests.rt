@@ -1,0 +1,116 @@
+//! What a session shows.
+use crate::load::{CookieSource, store_cookies};
+use crate::{Session, View};
+use fed_io::Bytes;
+use fed_jar::Jar;
+use fed_origin::WebUrl;
+use fed_script::Header;
+use fed_suffix::Suffixes;
+use std::alloc::Global;
+use std::test::Fail;
+
+const NOW: u64 = 1_700_000_000;
+
+// A cookie that is written again keeps its place.
+const IN_ORDER: &str = "HTTP/1.1 200 OK\r
+Set-Cookie: a=1; Path=/; SameSite=None; Secure\r
+Set-Cookie: b=2; Path=/accounts; SameSite=None; Secure\r
+Set-Cookie: c=3; Path=/\r
+Set-Cookie: d=4; Domain=idp.example; Path=/; SameSite=None; Secure\r
+Set-Cookie: e=6; SameSite=None; Secure\r
+Set-Cookie: a=5; Path=/; SameSite=None; Secure\r
+\r
+";
+
+const OF_A_PARENT: &str = "HTTP/1.1 200 OK\r
+Set-Cookie: x=1; Domain=example.com; Path=/; SameSite=None; Secure\r
+\r
+";
+
+// The second field has no name that `http_header` takes, so the head is not read.
+const UNREADABLE: &str = "HTTP/1.1 200 OK\r
+Set-Cookie: a=1\r
+Set Cookie: b=2\r
+\r
+";
+
+// The cookies after a load of the URL with this reply.
+fn jar_after(
+    alloc: Global,
+    rules: &Suffixes,
+    url: &str,
+    reply: Option<Bytes>,
+) -> Result<Jar, Fail> {
+    let url = WebUrl::read(alloc, url)?;
+    let mut jar = Jar::new(alloc);
+    let source = CookieSource {
+        rules,
+        url: &url,
+        time: NOW,
+    };
+    store_cookies(alloc, &mut jar, source, &reply)?;
+    Ok(jar)
+}
+
+// The rules `com` and `blog.example.com`.
+fn nested_rules(alloc: Global) -> Result<Suffixes, Fail> {
+    let mut rules = Suffixes::new(alloc);
+    rules.read_line(alloc, "com")?;
+    rules.read_line(alloc, "blog.example.com")?;
+    Ok(rules)
+}
+
+// What a session shows after a load of the URL with this reply.
+fn view_after(alloc: Global, url: &str, reply: Option<Bytes>) -> Result<View, Fail> {
+    let rules = nested_rules(alloc)?;
+    let jar = jar_after(alloc, &rules, url, reply)?;
+    Ok(Session::with_cookies(alloc, Header { rules, now: NOW }, jar).view()?)
+}
+
+// Each cookie as its name, value and path.
+fn cookies_text(alloc: Global, view: &View) -> Result<Vec<u8>, Fail> {
+    let mut text = Vec::new(alloc);
+    for cookie in view.cookies.as_slice() {
+        text.extend_from_slice(cookie.name.as_slice())?;
+        text.extend_from_slice(b"=")?;
+        text.extend_from_slice(cookie.value.as_slice())?;
+        text.extend_from_slice(b" ")?;
+        text.extend_from_slice(cookie.path.as_slice())?;
+        text.extend_from_slice(b";")?;
+    }
+    Ok(text)
+}
+
+// Whether a session shows these cookies after a load.
+fn shows(alloc: Global, url: &str, reply: &str, expected: &str) -> Result<bool, Fail> {
+    let raw = Bytes::of(alloc, reply.as_bytes())?;
+    let view = view_after(alloc, url, Some(raw))?;
+    let text = cookies_text(alloc, &view)?;
+    Ok(text.as_slice() == expected.as_bytes())
+}
+
+#[test]
+fn cookies_of_a_load_stand_in_order(rt: HostRuntime) -> Result<(), Fail> {
+    let url = "https://accounts.idp.example/login/start";
+    let expected = "a=5 /;b=2 /accounts;c=3 /;d=4 /;e=6 /login;";
+    assert!(rt; shows(rt.alloc(), url, IN_ORDER, expected)?);
+    assert!(rt; shows(rt.alloc(), url, UNREADABLE, "")?);
+    Ok(())
+}
+
+#[test]
+fn cookies_of_a_load_stay_with_their_party(rt: HostRuntime) -> Result<(), Fail> {
+    assert!(rt; shows(rt.alloc(), "https://foo.blog.example.com/", OF_A_PARENT, "")?);
+    assert!(rt; shows(rt.alloc(), "https://a.example.com/", OF_A_PARENT, "x=1 /;")?);
+    Ok(())
+}
+
+#[test]
+fn a_new_session_shows_its_time(rt: HostRuntime) -> Result<(), Fail> {
+    let view = view_after(rt.alloc(), "https://a.example/", None)?;
+    assert_eq!(rt; view.now, NOW);
+    assert_eq!(rt; view.cookies.len(), 0);
+    assert_eq!(rt; view.pages.len(), 0);
+    assert_eq!(rt; view.calls.len(), 0);
+    Ok(())
+}
