@@ -6,13 +6,11 @@ of parties.
     bench/cookies.py [PARTIES ..]
 """
 import os
-import subprocess
 import sys
 import tempfile
-import time
 
-TOP = os.path.dirname(os.path.dirname(os.path.abspath(__file__)))
-PROGRAM = os.path.join(TOP, "crates", "fedcm", "out", "fedcm")
+from measure import run
+
 HEADER = '{"fedcm":1,"now":1700000000,"rules":"example"}\n'
 A_LOAD = 90
 
@@ -34,19 +32,7 @@ def script(parties):
                 )
 
 
-def run(path):
-    begin = time.monotonic()
-    with open(path, "rb") as source, open(os.devnull, "wb") as out:
-        child = subprocess.Popen([PROGRAM, "run"], stdin=source, stdout=out)
-        _, status, usage = os.wait4(child.pid, 0)
-    if status != 0:
-        sys.exit(f"status {os.waitstatus_to_exitcode(status)} for {path}")
-    return time.monotonic() - begin, usage.ru_maxrss / 1024
-
-
 def main():
-    if not os.access(PROGRAM, os.X_OK):
-        sys.exit("build the program first: ./fedcm run < examples/first-run.jsonl")
     counts = [int(word) for word in sys.argv[1:]] or [100, 1000]
     print("| parties | cookies kept | cookies written | input MB | seconds | written a second | peak MB |")
     print("|---|---|---|---|---|---|---|")

@@ -8,14 +8,11 @@ page that is loaded again and again, with a get in between that each load ends.
     bench/first_path.py [EVENTS ..]
 """
 import os
-import resource
-import subprocess
 import sys
 import tempfile
-import time
 
-TOP = os.path.dirname(os.path.dirname(os.path.abspath(__file__)))
-PROGRAM = os.path.join(TOP, "crates", "fedcm", "out", "fedcm")
+from measure import run
+
 HEADER = '{"fedcm":1,"now":0,"rules":""}\n'
 # URLs as short as `url` reads them: 1,000,000 events have to fit into the 67,108,864 bytes of an input.
 LOAD = '{"do":"load","page":%d,"url":"https:r"}\n'
@@ -40,19 +37,7 @@ def write(lines, path):
     return os.path.getsize(path)
 
 
-def run(path):
-    begin = time.monotonic()
-    with open(path, "rb") as script, open(os.devnull, "wb") as out:
-        child = subprocess.Popen([PROGRAM, "run"], stdin=script, stdout=out)
-        _, status, usage = os.wait4(child.pid, 0)
-    if status != 0:
-        sys.exit(f"status {os.waitstatus_to_exitcode(status)} for {path}")
-    return time.monotonic() - begin, usage.ru_maxrss / 1024
-
-
 def main():
-    if not os.access(PROGRAM, os.X_OK):
-        sys.exit("build the program first: ./fedcm run < examples/first-run.jsonl")
     counts = [int(word) for word in sys.argv[1:]] or [10_000, 100_000, 1_000_000]
     print("| shape | events | input MB | seconds | events a second | MB a second | peak MB |")
     print("|---|---|---|---|---|---|---|")

@@ -7,13 +7,11 @@ without the rules.
 """
 import json
 import os
-import subprocess
 import sys
 import tempfile
-import time
 
-TOP = os.path.dirname(os.path.dirname(os.path.abspath(__file__)))
-PROGRAM = os.path.join(TOP, "crates", "fedcm", "out", "fedcm")
+from measure import run
+
 LIST = "/usr/share/publicsuffix/public_suffix_list.dat"
 CALLS = 10_000
 
@@ -44,12 +42,7 @@ def seconds(folder, rules, lines):
     with open(path, "w", encoding="utf-8") as script:
         script.write(line({"fedcm": 1, "now": 0, "rules": rules}))
         script.writelines(lines)
-    begin = time.monotonic()
-    with open(path, "rb") as script:
-        run = subprocess.run([PROGRAM, "run"], stdin=script, stdout=subprocess.DEVNULL)
-    if run.returncode != 0:
-        sys.exit(f"status {run.returncode}")
-    return time.monotonic() - begin
+    return run(path)[0]
 
 
 def main():

@@ -8,6 +8,7 @@ use fed_origin::{ReplyKind, WebUrl};
 use std::alloc::Global;
 
 impl Ask {
+    /// The kind of reply that is asked for. It takes no memory.
     pub fn kind(&self) -> ReplyKind
         ensures { result ≡ kind_of self.now }
     {
@@ -17,6 +18,7 @@ impl Ask {
         }
     }
 
+    /// The URL that the request goes to. It takes no memory.
     pub fn to(&self) -> &WebUrl
         ensures { result.now ≡ url_of self.now }
     {
@@ -63,6 +65,7 @@ fn get_text(alloc: Global, target: &str, host: &str) -> Result<Bytes, NoRoom>
     Ok(Bytes::from_vec(bytes))
 }
 
+/// The bytes of a request, whole (RFC 9112, 2.1; which fields stand, and in which order, is this profile's own).
 pub fn build(alloc: Global, ask: &Ask) -> Result<Bytes, NoRoom>
     ensures { IfOk result (λ bytes. bytes ≡ request_bytes ask.now) }
 {

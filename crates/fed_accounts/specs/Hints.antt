@@ -1,0 +1,31 @@
+-- The accounts that the hints of a call ask for (FedCM, "login_hint" and "domain_hint").
+use Rattle.std.specs.Prelude.{ℕ, Bool, true, not, ◌&&◌, ◌==◌, List, [], ◌∷◌, length, filter, codes, bytes_eq, Option, Some, None, Result, Ok, Err, if◌then◌else◌}
+use Rattle.fed_accounts.specs.declared.account.Account.{Account}
+use Rattle.fed_accounts.specs.declared.step.AccountsStep.{AccountsStep}
+use Rattle.fed_accounts.specs.declared.step.AccountsStep.TheVariants.{HintsNone}
+use Rattle.fed_accounts.specs.Connection.{has_text}
+
+-- the login hint, where it is given, is one of the account's
+abbrev pub has_login : Option (List ℕ) → Account → Bool
+has_login None account = true
+has_login (Some hint) account = has_text hint account.login_hints
+
+-- the domain hint, where it is given, is one of the account's; `any` is each
+abbrev pub has_domain : Option (List ℕ) → Account → Bool
+has_domain None account = true
+has_domain (Some hint) account =
+    if bytes_eq hint (codes "any") then not (length account.domain_hints == 0)
+    else has_text hint account.domain_hints
+
+-- both hints ask for the account
+abbrev pub is_hinted : Option (List ℕ) → Option (List ℕ) → Account → Bool
+is_hinted login domain account = has_login login account && has_domain domain account
+
+-- accounts of which some are left
+abbrev pub some_left : List Account → Result (List Account) AccountsStep
+some_left [] = Err HintsNone
+some_left (a ∷ accounts) = Ok (a ∷ accounts)
+
+-- the accounts that both hints ask for, in their order, or the step where there is none
+unfoldable pub Hinted : List Account → Option (List ℕ) → Option (List ℕ) → Result (List Account) AccountsStep
+Hinted accounts login domain = some_left (filter (is_hinted login domain) accounts)

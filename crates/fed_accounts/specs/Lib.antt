@@ -1,0 +1,4 @@
+pub mod Accounts
+pub mod Connection
+pub mod Hints
+pub mod Read

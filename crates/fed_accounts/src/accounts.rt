@@ -1,0 +1,53 @@
+//! Lists of accounts.
+ghost use Rattle.std.specs.Prelude.{◌≡◌};
+ghost use Rattle.fed_accounts.specs.Accounts.{AreAccounts};
+
+use crate::Account;
+use fed_io::Items;
+use std::marker::Model;
+
+/// The accounts of a user at a provider, in the provider's order. There is at least one, and their
+/// ids differ. Contracts see them as the list of the accounts.
+#[derive(Drop)]
+pub struct Accounts {
+    list: Items<Account>,
+}
+
+impl Model for Accounts {
+    ghost use Rattle.std.specs.Prelude.{List};
+    ghost use Rattle.fed_accounts.specs.declared.account.Account.{Account};
+    ghost use Rattle.fed_accounts.specs.Accounts.{AreAccounts};
+
+    ghost Value = { List Account };
+
+    ghost view = { λ a. a.list };
+
+    ghost invariant = { λ a. AreAccounts a.list };
+}
+
+impl Accounts {
+    // The accounts of a list of some, whose ids differ.
+    pub(crate) fn new(list: Items<Account>) -> Accounts
+        requires { AreAccounts list }
+        ensures { result ≡ list }
+    {
+        Accounts { list }
+    }
+
+    /// The accounts, in the provider's order. There is at least one, and their ids differ.
+    pub fn list(&self) -> &[Account]
+        ensures value { result.now ≡ self.now }
+        ensures accounts { AreAccounts self.now }
+    {
+        self.list.as_slice()
+    }
+
+    // The list of the accounts.
+    pub(crate) fn into_items(self) -> Items<Account>
+        ensures value { result ≡ self }
+        ensures accounts { AreAccounts result }
+    {
+        let Accounts { list } = self;
+        list
+    }
+}

@@ -1,0 +1,20 @@
+//! The accounts of a user at a provider: reading them, and which of them a call is about.
+#![tactic(auto)]
+
+mod account;
+mod accounts;
+mod connection;
+mod firsts;
+mod hints;
+mod read;
+mod step;
+
+pub use account::Account;
+pub use accounts::Accounts;
+pub use connection::{connected, eligible, reselect};
+pub use hints::keep_hinted;
+pub use read::read_accounts;
+pub use step::AccountsStep;
+
+#[cfg(test)]
+mod tests;

@@ -1,0 +1,2 @@
+pub mod Cors
+pub mod Read

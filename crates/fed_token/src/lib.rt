@@ -1,0 +1,13 @@
+//! Replies of the assertion and the disconnect endpoints, and the CORS check that they have to pass.
+#![tactic(auto)]
+
+mod cors;
+mod read;
+mod step;
+
+pub use cors::cors_passes;
+pub use read::{read_assertion, read_disconnect};
+pub use step::TokenStep;
+
+#[cfg(test)]
+mod tests;

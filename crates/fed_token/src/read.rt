@@ -1,0 +1,112 @@
+//! Reading replies of the assertion and the disconnect endpoints.
+ghost use Rattle.std.specs.Prelude.{◌≡◌, IfOk};
+ghost use Rattle.serde_json.specs.View.{view};
+ghost use Rattle.fed_io.specs.Fault.{Answers, AnswersBy};
+ghost use Rattle.fed_origin.specs.Origin.{origin_text};
+ghost use Rattle.fed_reply.specs.Members.{member_map};
+ghost use Rattle.fed_token.specs.Read as spec;
+
+use crate::{TokenStep, cors_passes};
+use fed_io::{Fault, NoRoom, Text};
+use fed_origin::Origin;
+use fed_reply::{Member, json_of, object_member, read_reply, text_member};
+use serde_json::Value;
+use std::alloc::Global;
+
+/// Reads the token in a reply of the identity assertion endpoint (FedCM, "The identity assertion
+/// endpoint") to a page of the origin. The steps are those of a reply, with `Cors` after `Short` and
+/// before `Status`; then `ProviderError` where there is no token and the value has an error, and
+/// `Shape` where it has neither.
+#[tactic(auto, unfolding(crate::specs::Read::AssertionOf))]
+pub fn read_assertion(alloc: Global, raw: &[u8], origin: &Origin) -> Result<Text, Fault<TokenStep>>
+    ensures { Answers result (spec.AssertionOf raw.now (origin_text origin.now)) }
+{
+    match checked_json(alloc, raw, origin) {
+        Ok(value) => token(alloc, &value),
+        Err(fault) => Err(fault),
+    }
+}
+
+/// Reads the account id in a reply of the disconnect endpoint (FedCM, "The disconnect endpoint") to
+/// a page of the origin. The steps are those of `read_assertion` up to `Json`, and `Shape` where
+/// there is no id.
+#[tactic(auto, unfolding(crate::specs::Read::DisconnectOf))]
+pub fn read_disconnect(alloc: Global, raw: &[u8], origin: &Origin) -> Result<Text, Fault<TokenStep>>
+    ensures { Answers result (spec.DisconnectOf raw.now (origin_text origin.now)) }
+{
+    match checked_json(alloc, raw, origin) {
+        Ok(value) => account_id(alloc, &value),
+        Err(fault) => Err(fault),
+    }
+}
+
+// The JSON value of a reply that a page of the origin may read.
+#[tactic(auto, unfolding(crate::specs::Read::CheckedJsonOf))]
+fn checked_json(alloc: Global, raw: &[u8], origin: &Origin) -> Result<Value, Fault<TokenStep>>
+    ensures { AnswersBy view result (spec.CheckedJsonOf raw.now (origin_text origin.now)) }
+{
+    let reply = match read_reply(alloc, raw) {
+        Ok(reply) => reply,
+        Err(Fault::Step(step)) => return Err(Fault::Step(TokenStep::Reply(step))),
+        Err(Fault::NoRoom) => return Err(Fault::NoRoom),
+    };
+    let origin = origin.serialize(alloc)?;
+    if !cors_passes(&reply, origin.as_str().as_bytes()) {
+        return Err(Fault::Step(TokenStep::Cors));
+    }
+    match json_of(alloc, &reply) {
+        Ok(value) => Ok(value),
+        Err(Fault::Step(step)) => Err(Fault::Step(TokenStep::Reply(step))),
+        Err(Fault::NoRoom) => Err(Fault::NoRoom),
+    }
+}
+
+// The token of a value.
+fn token(alloc: Global, value: &Value) -> Result<Text, Fault<TokenStep>>
+    ensures { Answers result (spec.token_of (view value.now)) }
+{
+    match text_member(value, "token") {
+        Member::Is(token) => Ok(Text::of(alloc, token)?),
+        Member::Absent | Member::Wrong => {
+            let step = error_step(alloc, object_member(value, "error"))?;
+            Err(Fault::Step(step))
+        }
+    }
+}
+
+// The account id of a value.
+fn account_id(alloc: Global, value: &Value) -> Result<Text, Fault<TokenStep>>
+    ensures { Answers result (spec.account_id_of (view value.now)) }
+{
+    match text_member(value, "account_id") {
+        Member::Is(id) => Ok(Text::of(alloc, id)?),
+        Member::Absent | Member::Wrong => Err(Fault::Step(TokenStep::Shape)),
+    }
+}
+
+// The step of a value without a token, by its error.
+fn error_step(alloc: Global, error: Member<&Value>) -> Result<TokenStep, NoRoom>
+    ensures { IfOk result (λ step. step ≡ spec.error_step (member_map (λ v. view v.now) error.entry)) }
+{
+    match error {
+        Member::Is(error) => {
+            let code = match text_in(alloc, text_member(error, "code"))? {
+                Some(code) => code,
+                None => Text::of(alloc, "")?,
+            };
+            let url = text_in(alloc, text_member(error, "url"))?;
+            Ok(TokenStep::ProviderError { code, url })
+        }
+        Member::Absent | Member::Wrong => Ok(TokenStep::Shape),
+    }
+}
+
+// A copy of the text that a member is, where it is one.
+fn text_in(alloc: Global, member: Member<&str>) -> Result<Option<Text>, NoRoom>
+    ensures { IfOk result (λ text. text ≡ spec.present (member_map (λ s. s.now) member.entry)) }
+{
+    match member {
+        Member::Is(text) => Ok(Some(Text::of(alloc, text)?)),
+        Member::Absent | Member::Wrong => Ok(None),
+    }
+}
