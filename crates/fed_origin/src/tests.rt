@@ -1,5 +1,6 @@
 use crate::{
-    Context, GetOptions, HostKind, Mediation, Mode, Origin, ProviderOptions, UrlRefusal, WebUrl,
+    Context, GetOptions, HostKind, Mediation, Mode, Origin, ProviderOptions, Triple, UrlRefusal,
+    WebUrl,
 };
 use fed_io::{Fault, Items, NoRoom, Text};
 use std::alloc::Global;
@@ -177,5 +178,32 @@ fn options_are_copied(rt: HostRuntime) -> Result<(), Fail> {
     let copy = options.copy(rt.alloc())?;
     assert_eq!(rt; copy.context, Context::UseHere);
     assert_eq!(rt; copy.providers.len(), 1);
+    Ok(())
+}
+
+fn origin_of(alloc: Global, text: &str) -> Result<Origin, NoRoom> {
+    let url = read(alloc, text)?;
+    Origin::of_url(alloc, &url)
+}
+
+// Whether a permission of these parts is equal to its copy.
+fn is_copied(alloc: Global, page: &str, provider: &str, account: &str) -> Result<bool, NoRoom> {
+    let triple = Triple {
+        page: origin_of(alloc, page)?,
+        provider: origin_of(alloc, provider)?,
+        account: Text::of(alloc, account)?,
+    };
+    Ok(triple.copy(alloc)? == triple)
+}
+
+#[test]
+fn a_permission_is_copied(rt: HostRuntime) -> Result<(), Fail> {
+    let same = is_copied(
+        rt.alloc(),
+        "https://rp.example/",
+        "https://accounts.idp.example/",
+        "u1",
+    )?;
+    assert!(rt; same);
     Ok(())
 }
