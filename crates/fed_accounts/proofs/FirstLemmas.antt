@@ -3,7 +3,7 @@ use Rattle.std.proofs.Common.{◌≡◌, ◌≢◌, ℕ, Bool, true, false, cond
 use Rattle.std.specs.Prelude.{bytes_eq, filter}
 use Rattle.std.specs.List.{list_any, AllByRecursion, IsDistinct}
 use Rattle.std.proofs.lemmas.Bool.Decides.{same_from_decides}
-use Rattle.std.proofs.lemmas.List.{append-nil, map-append}
+use Rattle.std.proofs.lemmas.List.{map-append}
 use Rattle.std.proofs.lemmas.List.Elements.{filter_agree}
 use Rattle.std.proofs.lemmas.List.Folds.{list_any-append}
 use Rattle.std.proofs.lemmas.Slice.Eq.{bytes_eq-Decides}
@@ -35,14 +35,14 @@ filter_twice p q (x ∷ xs) = pick (q x) (p x) (filter_twice p q xs)
 -- ---- the loop
 
 -- the accounts whose id is none of those found
-abbrev pub others : List Account → List Account → List Account
+abbrev others : List Account → List Account → List Account
 others found accounts = filter (λ b. not (list_any (same_id b) found)) accounts
 
 -- the first accounts of all are those found, and then those of the rest with other ids
 pub record LeavesFirsts (all found rest : List Account) : Type 0 where
   pub is : first_of_each_id all ≡ found ++ others found (first_of_each_id rest)
 
-pub firsts_start : (all : List Account) → LeavesFirsts all [] all
+firsts_start : (all : List Account) → LeavesFirsts all [] all
 firsts_start all = record { is = every (first_of_each_id all) }
   where
     every : (accounts : List Account) → accounts ≡ others [] accounts
@@ -62,7 +62,7 @@ new false true = refl
 new false false = refl
 
 -- an account whose id was found is left out
-pub firsts_known : (all found rest : List Account) (a : Account) → LeavesFirsts all found (a ∷ rest) → list_any (same_id a) found ≡ true → LeavesFirsts all found rest
+firsts_known : (all found rest : List Account) (a : Account) → LeavesFirsts all found (a ∷ rest) → list_any (same_id a) found ≡ true → LeavesFirsts all found rest
 firsts_known all found rest a left t =
     record { is = left.is ∙ (ap (λ b. found ++ cond (not b) (a ∷ kept) kept) t ∙ ap (λ l. found ++ l) (filter_twice unknown other firsts ∙ filter_agree _ unknown (λ b. known (list_any (same_id b) found) (same_id b a) (λ s. same_among a b found s ∙ t)) firsts)) }
   where
@@ -79,7 +79,7 @@ firsts_known all found rest a left t =
     kept = filter unknown (filter other firsts)
 
 -- an account whose id was not found is found
-pub firsts_new : (all found rest : List Account) (a : Account) → LeavesFirsts all found (a ∷ rest) → list_any (same_id a) found ≡ false → LeavesFirsts all (found ++ a ∷ []) rest
+firsts_new : (all found rest : List Account) (a : Account) → LeavesFirsts all found (a ∷ rest) → list_any (same_id a) found ≡ false → LeavesFirsts all (found ++ a ∷ []) rest
 firsts_new all found rest a left t =
     record { is = left.is ∙ (ap (λ b. found ++ cond (not b) (a ∷ kept) kept) t ∙ (sym (append_assoc found (a ∷ []) kept) ∙ ap (λ l. (found ++ a ∷ []) ++ l) (filter_twice unknown other firsts ∙ filter_agree _ _ agree firsts))) }
   where
@@ -98,11 +98,8 @@ firsts_new all found rest a left t =
     agree : (b : Account) → (other b && unknown b) ≡ not (list_any (same_id b) (found ++ a ∷ []))
     agree b = new (list_any (same_id b) found) (same_id b a) ∙ ap not (sym (list_any-append (same_id b) found (a ∷ [])))
 
-pub firsts_end : (all found : List Account) → LeavesFirsts all found [] → first_of_each_id all ≡ found
-firsts_end all found left = left.is ∙ append-nil found
-
 -- an id is among the ids of accounts where an account has it
-pub among_ids : (a : Account) (found : List Account) → list_any (bytes_eq a.id) (map (λ f. f.id) found) ≡ list_any (same_id a) found
+among_ids : (a : Account) (found : List Account) → list_any (bytes_eq a.id) (map (λ f. f.id) found) ≡ list_any (same_id a) found
 among_ids a [] = refl
 among_ids a (f ∷ found) = ap (λ b. bytes_eq a.id f.id || b) (among_ids a found)
 
@@ -117,7 +114,7 @@ all_left P p (x ∷ xs) all = pick (p x) (all_left P p xs all.1)
     pick false h = h
 
 -- of different items some are left
-pub distinct_left : {X : Type 0} (e : X → X → Bool) (p : X → Bool) (xs : List X) → IsDistinct e xs → IsDistinct e (filter p xs)
+distinct_left : {X : Type 0} (e : X → X → Bool) (p : X → Bool) (xs : List X) → IsDistinct e xs → IsDistinct e (filter p xs)
 unfolding IsDistinct
 distinct_left e p [] d = tt
 distinct_left e p (x ∷ xs) d = pick (p x) (distinct_left e p xs d.1)
@@ -141,7 +138,7 @@ firsts_distinct [] = tt
 firsts_distinct (a ∷ accounts) = (other_ids a (first_of_each_id accounts), distinct_left same_id _ (first_of_each_id accounts) (firsts_distinct accounts))
 
 -- the first accounts of some are some, and their ids differ
-pub firsts_are : (a : Account) (accounts : List Account) → AreAccounts (first_of_each_id (a ∷ accounts))
+firsts_are : (a : Account) (accounts : List Account) → AreAccounts (first_of_each_id (a ∷ accounts))
 firsts_are a accounts = record { some = omega arith; distinct = firsts_distinct (a ∷ accounts) }
 
 -- ---- the set of ids

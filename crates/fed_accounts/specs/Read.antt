@@ -8,6 +8,7 @@ use Rattle.fed_reply.specs.declared.member.Member.TheVariants.{Absent, Wrong, Is
 use Rattle.fed_reply.specs.Steps.{◌>>=◌, with_ok, with_step}
 use Rattle.fed_reply.specs.Json.{ReplyJsonOf}
 use Rattle.fed_reply.specs.Members.{text_under, list_under}
+use Rattle.fed_reply.specs.Shape.{required, optional}
 use Rattle.fed_accounts.specs.declared.account.Account.{Account}
 use Rattle.fed_accounts.specs.declared.read.Texts.{Texts}
 use Rattle.fed_accounts.specs.declared.step.AccountsStep.{AccountsStep}
@@ -15,18 +16,6 @@ use Rattle.fed_accounts.specs.declared.step.AccountsStep.TheVariants.{Reply, Sha
 use Rattle.fed_accounts.specs.Accounts.{first_of_each_id}
 
 -- ---- members
-
--- a member that has to be there
-abbrev pub required : {A : Type 0} → Member A → Result A AccountsStep
-required Absent = Err Shape
-required Wrong = Err Shape
-required (Is a) = Ok a
-
--- a member that may be left out
-abbrev pub optional : {A : Type 0} → Member A → Result (Option A) AccountsStep
-optional Absent = Ok None
-optional Wrong = Err Shape
-optional (Is a) = Ok (Some a)
 
 -- what f makes of each item, or the step at the first where it makes none
 abbrev pub each : {A : Type 0} → (Data → Result A AccountsStep) → Items → Result (List A) AccountsStep
@@ -75,11 +64,11 @@ seen texts =
 -- the texts of an entry, or the step where one is missing or no text
 unfoldable pub texts_of : Data → Result AccountTexts AccountsStep
 texts_of entry = do
-  id ← required (text_under (codes "id") entry)
-  name ← required (text_under (codes "name") entry)
-  email ← required (text_under (codes "email") entry)
-  given_name ← optional (text_under (codes "given_name") entry)
-  picture ← optional (text_under (codes "picture") entry)
+  id ← required Shape (text_under (codes "id") entry)
+  name ← required Shape (text_under (codes "name") entry)
+  email ← required Shape (text_under (codes "email") entry)
+  given_name ← optional Shape (text_under (codes "given_name") entry)
+  picture ← optional Shape (text_under (codes "picture") entry)
   Ok (record { id = id; name = name; email = email; given_name = given_name; picture = picture })
 
 -- the account with those texts and the lists of the entry
@@ -116,6 +105,6 @@ with_some (a ∷ accounts) = Ok (first_of_each_id (a ∷ accounts))
 unfoldable pub AccountsOf : List ℕ → Result (List Account) AccountsStep
 AccountsOf raw = do
   file ← with_step Reply (ReplyJsonOf raw)
-  entries ← required (list_under (codes "accounts") file)
+  entries ← required Shape (list_under (codes "accounts") file)
   accounts ← each account_of entries
   with_some accounts

@@ -5,6 +5,7 @@ ghost use Rattle.std.specs.Result.{result_map_both};
 ghost use Rattle.serde_json.specs.View.{view, items_view};
 ghost use Rattle.fed_io.specs.Fault.{Answers};
 ghost use Rattle.fed_reply.specs.Members.{member_map, text_under, list_under};
+ghost use Rattle.fed_reply.specs.Shape.{required, optional};
 ghost use Rattle.fed_accounts.specs.Read as spec;
 
 use crate::firsts::first_of_each_id;
@@ -101,7 +102,7 @@ fn read_texts(entry: &Value) -> Result<Texts<'_>, AccountsStep>
 
 // A text that has to be there.
 fn required_text<'a>(entry: &'a Value, name: &str) -> Result<&'a str, AccountsStep>
-    ensures { result_map_both (λ text. text.now) (λ e. e) result ≡ spec.required (text_under name.now (view entry.now)) }
+    ensures { result_map_both (λ text. text.now) (λ e. e) result ≡ required AccountsStep.Shape (text_under name.now (view entry.now)) }
 {
     match text_member(entry, name) {
         Member::Is(text) => Ok(text),
@@ -111,7 +112,7 @@ fn required_text<'a>(entry: &'a Value, name: &str) -> Result<&'a str, AccountsSt
 
 // A text that may be left out.
 fn optional_text<'a>(entry: &'a Value, name: &str) -> Result<Option<&'a str>, AccountsStep>
-    ensures { result_map_both option_copied (λ e. e) result ≡ spec.optional (text_under name.now (view entry.now)) }
+    ensures { result_map_both option_copied (λ e. e) result ≡ optional AccountsStep.Shape (text_under name.now (view entry.now)) }
 {
     match text_member(entry, name) {
         Member::Is(text) => Ok(Some(text)),

@@ -1,3 +1,4 @@
 pub mod Host
 pub mod Origin
+pub mod Status
 pub mod WebUrl

@@ -3,19 +3,29 @@
 /// How far a call has come.
 #[derive(Clone, Copy, Debug, PartialEq, Eq)]
 pub enum Stage {
-    /// The first two replies are awaited.
+    /// The well-known file and the configuration are awaited.
     Reading,
+    /// The accounts are awaited.
+    Listing,
     /// The call is over.
     Ended,
 }
 
-/// What a request asks for, and its reply holds.
+/// What a request asks for, and its reply holds (FedCM, "Identity provider HTTP API").
 #[derive(Clone, Copy, Debug, PartialEq, Eq)]
 pub enum ReplyKind {
     /// The well-known file of the provider's site.
     WellKnown,
     /// The provider's configuration.
     Config,
+    /// The user's accounts at the provider.
+    Accounts,
+    /// The links that a client of the provider has for its users.
+    Metadata,
+    /// The token for an account.
+    Assertion,
+    /// The account that was disconnected from a client.
+    Disconnect,
 }
 
 /// An endpoint that a configuration names (FedCM, "The config file").

@@ -1,5 +1,6 @@
 //! URLs whose scheme is http or https, without a user.
 ghost use Rattle.std.specs.Prelude.{◌≡◌, IfOk};
+ghost use Rattle.std.specs.Option.{option_copied};
 ghost use Rattle.fed_io.specs.Fault.{Answers};
 ghost use Rattle.url.specs.Parts.{serialize};
 
@@ -121,6 +122,13 @@ impl WebUrl {
         ensures { result.now ≡ self.now.path }
     {
         self.url.path()
+    }
+
+    /// The query, without its `?`, where there is one. It takes no memory.
+    pub fn query(&self) -> Option<&str>
+        ensures { option_copied result ≡ self.now.query }
+    {
+        self.url.query()
     }
 
     /// The path, and `?` with the query where there is one, without the fragment.

@@ -15,7 +15,7 @@ use Rattle.fed_provider.specs.declared.config.Config.{Config}
 use Rattle.fed_provider.specs.declared.config.Texts.{Texts}
 use Rattle.fed_provider.specs.declared.step.ProviderStep.{ProviderStep}
 use Rattle.fed_provider.specs.declared.step.ProviderStep.TheVariants.{ConfigReply, ConfigShape, EndpointOrigin}
-use Rattle.fed_provider.specs.Shape.{required, optional}
+use Rattle.fed_reply.specs.Shape.{required, optional}
 
 -- ---- the texts of the file
 

@@ -1,5 +1,4 @@
 pub mod Config
 pub mod Laws
 pub mod Metadata
-pub mod Shape
 pub mod WellKnown

@@ -8,7 +8,7 @@ use Rattle.fed_reply.specs.declared.step.ReplyStep.{ReplyStep}
 use Rattle.fed_reply.specs.Json.{ReplyJsonOf}
 use Rattle.fed_reply.specs.Members.{text_under}
 use Rattle.fed_provider.specs.declared.metadata.PolicyLinks.{PolicyLinks}
-use Rattle.fed_provider.specs.Shape.{present}
+use Rattle.fed_reply.specs.Shape.{present}
 
 -- the URL that a text gives
 unfoldable pub url_in : List ℕ → Option Parts

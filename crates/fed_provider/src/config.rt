@@ -6,7 +6,7 @@ ghost use Rattle.serde_json.specs.View.{view};
 ghost use Rattle.fed_io.specs.Fault.{Answers};
 ghost use Rattle.fed_reply.specs.Members.{text_under};
 ghost use Rattle.fed_provider.specs.Config as spec;
-ghost use Rattle.fed_provider.specs.Shape.{required, optional};
+ghost use Rattle.fed_reply.specs.Shape.{required, optional};
 
 use crate::ProviderStep;
 use fed_io::{Fault, NoRoom};

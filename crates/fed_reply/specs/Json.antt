@@ -17,7 +17,7 @@ use Rattle.fed_reply.specs.Reply.{ReplyOf}
 abbrev pub is_success : ℕ → Bool
 is_success status = nat_le 200 status && nat_lt status 300
 
--- the media type of a `content-type` value, without its parameters
+-- what a field's value says before its parameters: of `content-type` the media type
 abbrev pub essence : List ℕ → List ℕ
 essence value = trim_ows (before_first (λ b. b == 59) value)
 

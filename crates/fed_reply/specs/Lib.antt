@@ -6,4 +6,5 @@ pub mod Laws
 pub mod Members
 pub mod Parts
 pub mod Reply
+pub mod Shape
 pub mod Steps

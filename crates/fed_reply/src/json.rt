@@ -71,13 +71,14 @@ fn is_json_type(value: Option<&[u8]>) -> bool
     ensures { result ≡ spec.is_json_type (option_copied value.entry) }
 {
     match value {
-        Some(value) => is_json_media(media_type(value)),
+        Some(value) => is_json_media(essence(value)),
         None => false,
     }
 }
 
-// The media type without its parameters.
-fn media_type(value: &[u8]) -> &[u8]
+/// What a field's value says before its parameters: the part up to the first `;`, without spaces and tabs at its ends
+/// (RFC 9110, 5.6.6). It takes no memory.
+pub fn essence(value: &[u8]) -> &[u8]
     ensures { result.now ≡ spec.essence value.now }
 {
     match place_of(b';', value) {

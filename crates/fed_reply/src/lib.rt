@@ -11,7 +11,7 @@ mod read;
 mod reply;
 mod step;
 
-pub use json::{json_of, read_json};
+pub use json::{essence, json_of, read_json};
 pub use member::{Member, list_member, object_member, text_member};
 pub use read::{read_head, read_reply};
 pub use reply::Reply;

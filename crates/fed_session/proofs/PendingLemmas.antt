@@ -9,7 +9,7 @@ use Rattle.indexmap.specs.IndexMap.{insert_entry, shift_remove_entry}
 use Rattle.fed_origin.specs.declared.options.GetOptions.{GetOptions}
 use Rattle.fed_origin.specs.declared.options.ProviderOptions.{ProviderOptions}
 use Rattle.fed_origin.specs.declared.origin.Origin.{Origin}
-use Rattle.fed_origin.specs.declared.stage.Stage.TheVariants.{Reading, Ended}
+use Rattle.fed_origin.specs.declared.stage.Stage.TheVariants.{Reading, Listing, Ended}
 use Rattle.fed_jar.specs.Cookie.{StoredCookie}
 use Rattle.fed_session.specs.Effect.{Effect, Time, Page, Cookie, Begin, Move, Sent, Result, Ignored, page_change, call_change, stage_change, begun_by, time_of, written_by, last_of}
 use Rattle.fed_session.specs.Keyed.{entries_after, last_said}
@@ -191,6 +191,7 @@ absent_after c (Begin call page ∷ effects) es f h =
     absent_after c effects (insert_entry nat_eq es call page) rest (absent_after_insert c call page es here h)
 absent_after c (Move call Ended ∷ effects) es f h = absent_after c effects (shift_remove_entry (nat_eq call) es) f (absent_after_remove c call es h)
 absent_after c (Move call Reading ∷ effects) es f h = absent_after c effects es f h
+absent_after c (Move call Listing ∷ effects) es f h = absent_after c effects es f h
 absent_after c (Sent call provider ask cookies ∷ effects) es f h = absent_after c effects es f h
 absent_after c (Result call page finish ∷ effects) es f h = absent_after c effects es f h
 absent_after c (Ignored why ∷ effects) es f h = absent_after c effects es f h

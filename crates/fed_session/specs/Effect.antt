@@ -3,7 +3,7 @@ use Rattle.std.specs.Prelude.{ℕ, List, [], ◌∷◌, Option, Some, None}
 use Rattle.std.specs.Option.{option_or}
 use Rattle.fed_origin.specs.declared.origin.Origin.{Origin}
 use Rattle.fed_origin.specs.declared.stage.Stage.{Stage}
-use Rattle.fed_origin.specs.declared.stage.Stage.TheVariants.{Reading, Ended}
+use Rattle.fed_origin.specs.declared.stage.Stage.TheVariants.{Ended}
 use Rattle.fed_jar.specs.Cookie.{StoredCookie}
 use Rattle.fed_session.specs.declared.ask.Ask.{Ask}
 use Rattle.fed_session.specs.declared.ask.Finish.{Finish}
@@ -35,7 +35,7 @@ page_change _ = None
 
 abbrev pub unless_ended : ℕ → Stage → Option (Change ℕ ℕ)
 unless_ended call Ended = Some (call, None)
-unless_ended call Reading = None
+unless_ended call _ = None
 
 -- what an effect says of pending calls, with the pages that they are of
 abbrev pub call_change : Effect → Option (Change ℕ ℕ)

@@ -7,7 +7,7 @@ use Rattle.indexmap.specs.IndexMap.{insert_entry}
 use Rattle.fed_origin.specs.declared.options.GetOptions.{GetOptions}
 use Rattle.fed_origin.specs.declared.origin.Origin.{Origin}
 use Rattle.fed_origin.specs.declared.stage.Stage.{Stage}
-use Rattle.fed_origin.specs.declared.stage.Stage.TheVariants.{Reading, Ended}
+use Rattle.fed_origin.specs.declared.stage.Stage.TheVariants.{Reading, Listing, Ended}
 use Rattle.fed_script.specs.declared.event.Event.{Event}
 use Rattle.fed_script.specs.declared.event.Event.TheVariants.{Get}
 use Rattle.fed_jar.specs.Cookie.{StoredCookie}
@@ -112,11 +112,13 @@ abbrev pub entered : ℕ → ℕ → Option Stage → List (ℕ × Page) → Lis
 entered page call None pages = pages
 entered page call (Some Ended) pages = pages
 entered page call (Some Reading) pages = with_get page call pages
+entered page call (Some Listing) pages = with_get page call pages
 
 -- what is kept of a call of the page at a stage
 abbrev pub kept_call : ℕ → Stage → Option Pending
 kept_call page Ended = None
 kept_call page Reading = Some (record { page = page; stage = Reading })
+kept_call page Listing = Some (record { page = page; stage = Listing })
 
 -- the calls after a call of the page has come to a stage
 abbrev pub with_call : ℕ → ℕ → Option Stage → List (ℕ × Option Pending) → List (ℕ × Option Pending)

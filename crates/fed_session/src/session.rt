@@ -327,7 +327,7 @@ fn kept_at(page: u32, stage: Stage) -> Option<Pending>
 {
     match stage {
         Stage::Ended => None,
-        Stage::Reading => Some(Pending { page, stage }),
+        Stage::Reading | Stage::Listing => Some(Pending { page, stage }),
     }
 }
 
@@ -337,7 +337,7 @@ fn enter(pages: &mut IndexMap<u32, Page>, page: u32, call: u32, stage: Stage)
 {
     match stage {
         Stage::Ended => {}
-        Stage::Reading => {
+        Stage::Reading | Stage::Listing => {
             if let Some(found) = pages.get_mut(&page) {
                 found.get = Some(call);
             }

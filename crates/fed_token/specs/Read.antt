@@ -1,5 +1,5 @@
 -- Replies of the assertion and the disconnect endpoints (FedCM).
-use Rattle.std.specs.Prelude.{ℕ, List, [], codes, Option, Some, None, unwrap_or, Result, Ok, Err, if◌then◌else◌}
+use Rattle.std.specs.Prelude.{ℕ, List, [], codes, unwrap_or, Result, Ok, Err, if◌then◌else◌}
 use Rattle.serde_json.specs.Data.{Data}
 use Rattle.fed_reply.specs.declared.member.Member.{Member}
 use Rattle.fed_reply.specs.declared.member.Member.TheVariants.{Absent, Wrong, Is}
@@ -8,6 +8,7 @@ use Rattle.fed_reply.specs.Parts.{ReplyParts}
 use Rattle.fed_reply.specs.Reply.{ReplyOf}
 use Rattle.fed_reply.specs.Json.{JsonOf}
 use Rattle.fed_reply.specs.Members.{text_under, object_under}
+use Rattle.fed_reply.specs.Shape.{required, present}
 use Rattle.fed_token.specs.declared.step.TokenStep.{TokenStep}
 use Rattle.fed_token.specs.declared.step.TokenStep.TheVariants.{Reply, Cors, Shape, ProviderError}
 use Rattle.fed_token.specs.Cors.{CorsPasses}
@@ -24,12 +25,6 @@ CheckedJsonOf raw origin = do
   checked ← readable origin reply
   with_step Reply (JsonOf checked)
 
--- a member that counts where it is there
-abbrev pub present : {A : Type 0} → Member A → Option A
-present Absent = None
-present Wrong = None
-present (Is a) = Some a
-
 -- the step of a value without a token, by its error
 abbrev pub error_step : Member Data → TokenStep
 error_step Absent = Shape
@@ -37,19 +32,13 @@ error_step Wrong = Shape
 error_step (Is error) =
     ProviderError (unwrap_or (present (text_under (codes "code") error)) []) (present (text_under (codes "url") error))
 
--- the token, and else the step by the error
-abbrev pub token_or : TokenStep → Member (List ℕ) → Result (List ℕ) TokenStep
-token_or step Absent = Err step
-token_or step Wrong = Err step
-token_or step (Is text) = Ok text
-
--- the token of a value
+-- the token of a value, and else the step by its error
 abbrev pub token_of : Data → Result (List ℕ) TokenStep
-token_of value = token_or (error_step (object_under (codes "error") value)) (text_under (codes "token") value)
+token_of value = required (error_step (object_under (codes "error") value)) (text_under (codes "token") value)
 
 -- the account id of a value
 abbrev pub account_id_of : Data → Result (List ℕ) TokenStep
-account_id_of value = token_or Shape (text_under (codes "account_id") value)
+account_id_of value = required Shape (text_under (codes "account_id") value)
 
 -- the token in the reply `raw` to a page of the serialized origin, or the first step
 unfoldable pub AssertionOf : List ℕ → List ℕ → Result (List ℕ) TokenStep

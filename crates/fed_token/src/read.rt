@@ -4,6 +4,7 @@ ghost use Rattle.serde_json.specs.View.{view};
 ghost use Rattle.fed_io.specs.Fault.{Answers, AnswersBy};
 ghost use Rattle.fed_origin.specs.Origin.{origin_text};
 ghost use Rattle.fed_reply.specs.Members.{member_map};
+ghost use Rattle.fed_reply.specs.Shape.{present};
 ghost use Rattle.fed_token.specs.Read as spec;
 
 use crate::{TokenStep, cors_passes};
@@ -103,7 +104,7 @@ fn error_step(alloc: Global, error: Member<&Value>) -> Result<TokenStep, NoRoom>
 
 // A copy of the text that a member is, where it is one.
 fn text_in(alloc: Global, member: Member<&str>) -> Result<Option<Text>, NoRoom>
-    ensures { IfOk result (λ text. text ≡ spec.present (member_map (λ s. s.now) member.entry)) }
+    ensures { IfOk result (λ text. text ≡ present (member_map (λ s. s.now) member.entry)) }
 {
     match member {
         Member::Is(text) => Ok(Some(Text::of(alloc, text)?)),

@@ -6,7 +6,7 @@ use Rattle.base64.specs.GeneralPurpose.{encode_of}
 use Rattle.serde_json.specs.Data.{Data, number, unsigned, string, object, Members, no_members, member}
 use Rattle.serde_json.specs.Written.{compact_text}
 use Rattle.fed_origin.specs.declared.stage.ReplyKind.{ReplyKind}
-use Rattle.fed_origin.specs.declared.stage.ReplyKind.TheVariants.{WellKnown, Config}
+use Rattle.fed_origin.specs.declared.stage.ReplyKind.TheVariants.{WellKnown, Config, Accounts, Metadata, Assertion, Disconnect}
 use Rattle.fed_script.specs.declared.cause.LineCause.{LineCause}
 use Rattle.fed_script.specs.declared.cause.MemberName.{MemberName}
 use Rattle.fed_script.specs.Cause.{cause_text, member_named, name_text}
@@ -21,6 +21,10 @@ use Rattle.fed_session.specs.declared.out.Out.TheVariants.{Request, Answer, Igno
 abbrev pub kind_text : ReplyKind → List ℕ
 kind_text WellKnown = codes "wellknown"
 kind_text Config = codes "config"
+kind_text Accounts = codes "accounts"
+kind_text Metadata = codes "metadata"
+kind_text Assertion = codes "assertion"
+kind_text Disconnect = codes "disconnect"
 
 abbrev pub step_text : FailStep → List ℕ
 step_text CallPending = codes "call-pending"

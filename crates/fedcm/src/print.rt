@@ -20,6 +20,10 @@ fn kind_text(kind: ReplyKind) -> &'static str
     match kind {
         ReplyKind::WellKnown => "wellknown",
         ReplyKind::Config => "config",
+        ReplyKind::Accounts => "accounts",
+        ReplyKind::Metadata => "metadata",
+        ReplyKind::Assertion => "assertion",
+        ReplyKind::Disconnect => "disconnect",
     }
 }
 

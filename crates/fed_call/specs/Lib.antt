@@ -1,0 +1,4 @@
+pub mod Begun
+pub mod Facts
+pub mod Row
+pub mod State

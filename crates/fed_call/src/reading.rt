@@ -1,0 +1,182 @@
+//! A call whose well-known file and configuration are awaited.
+ghost use Rattle.std.specs.Prelude.{◌≡◌, true, IfOk, unwrap_or};
+ghost use Rattle.std.specs.Result.{result_ok};
+ghost use Rattle.fed_consent.specs.declared.input.Input.TheVariants as inputs;
+ghost use Rattle.fed_call.specs.Facts.{facts_after, at_stage, provider_at, config_read};
+ghost use Rattle.fed_call.specs.Row as spec;
+ghost use Rattle.fed_call.specs.State.{facts_of, reading_facts};
+ghost use Rattle.fed_status.specs.Shared.{world_of};
+
+use crate::begun::Call;
+use crate::effects::{fails, ignored, moved, plain, provider_failure};
+use crate::{CallState, Listing};
+use fed_consent::{Ask, Effect, FailStep, Input, Why};
+use fed_io::{Items, NoRoom};
+use fed_origin::{ReplyKind, Stage};
+use fed_provider::{Config, ProviderStep};
+use fed_status::Shared;
+use fed_suffix::Suffixes;
+use std::alloc::Global;
+
+/// A call whose well-known file and configuration are awaited.
+#[derive(Drop)]
+pub struct Reading {
+    pub(crate) begun: Call,
+    /// Whether a well-known reply was taken.
+    pub(crate) heard: bool,
+    /// The configuration in the config reply that was taken.
+    pub(crate) config: Option<Config>,
+}
+
+impl Reading {
+    /// The call after an input, and what it does there.
+    pub(crate) fn advance(
+        self,
+        alloc: Global,
+        input: &Input,
+        shared: &Shared<'_>,
+    ) -> Result<(CallState, Items<Effect>), NoRoom>
+        ensures effects { IfOk result (λ r. r.1 ≡ (spec.input_row (world_of shared.now) (reading_facts self) input.now).effects) }
+        ensures state { IfOk result (λ r. facts_of r.0 ≡ facts_after (reading_facts self) input.now (spec.input_row (world_of shared.now) (reading_facts self) input.now)) }
+    {
+        match input {
+            Input::Reply {
+                provider,
+                kind,
+                raw,
+            } => self.reply(alloc, shared.rules, *provider, *kind, raw.as_slice()),
+            Input::Abort => fails(alloc, plain(FailStep::Aborted)),
+            Input::Choose { .. }
+            | Input::GoOn
+            | Input::Cancel
+            | Input::SignIn
+            | Input::Shut
+            | Input::Resume => ignored(alloc, CallState::Reading(self), Why::NotOffered),
+        }
+    }
+
+    // A reply for the provider at this place.
+    fn reply(
+        self,
+        alloc: Global,
+        rules: &Suffixes,
+        place: u32,
+        kind: ReplyKind,
+        raw: &[u8],
+    ) -> Result<(CallState, Items<Effect>), NoRoom>
+        ensures effects { IfOk result (λ r. r.1 ≡ (spec.stage_reply rules.now (reading_facts self) Stage.Reading place kind raw.now).effects) }
+        ensures state { IfOk result (λ r. facts_of r.0 ≡ facts_after (reading_facts self) (inputs.Reply place kind raw.now) (spec.stage_reply rules.now (reading_facts self) Stage.Reading place kind raw.now)) }
+    {
+        match kind {
+            ReplyKind::WellKnown => self.wellknown_reply(alloc, rules, place, raw),
+            ReplyKind::Config => self.config_reply(alloc, place, raw),
+            ReplyKind::Accounts
+            | ReplyKind::Metadata
+            | ReplyKind::Assertion
+            | ReplyKind::Disconnect => ignored(alloc, CallState::Reading(self), Why::NotWaited),
+        }
+    }
+
+    // A well-known reply: one is taken, of the provider that the call has.
+    fn wellknown_reply(
+        self,
+        alloc: Global,
+        rules: &Suffixes,
+        place: u32,
+        raw: &[u8],
+    ) -> Result<(CallState, Items<Effect>), NoRoom>
+        ensures effects { IfOk result (λ r. r.1 ≡ (spec.wellknown_reply self.heard self.config (spec.wellknown_of rules.now raw.now (provider_at place self.begun.options))).effects) }
+        ensures state { IfOk result (λ r. facts_of r.0 ≡ facts_after (reading_facts self) (inputs.Reply place ReplyKind.WellKnown raw.now) (spec.wellknown_reply self.heard self.config (spec.wellknown_of rules.now raw.now (provider_at place self.begun.options)))) }
+    {
+        if self.heard {
+            return ignored(alloc, CallState::Reading(self), Why::NotWaited);
+        }
+        match self.begun.wellknown_file(alloc, rules, place, raw)? {
+            Some(read) => self.first_wellknown(alloc, read),
+            None => ignored(alloc, CallState::Reading(self), Why::NotWaited),
+        }
+    }
+
+    // A config reply: one is taken, of the provider that the call has.
+    fn config_reply(
+        self,
+        alloc: Global,
+        place: u32,
+        raw: &[u8],
+    ) -> Result<(CallState, Items<Effect>), NoRoom>
+        ensures effects { IfOk result (λ r. r.1 ≡ (spec.config_reply self.heard self.config (config_read raw.now (provider_at place self.begun.options))).effects) }
+        ensures state { IfOk result (λ r. facts_of r.0 ≡ facts_after (reading_facts self) (inputs.Reply place ReplyKind.Config raw.now) (spec.config_reply self.heard self.config (config_read raw.now (provider_at place self.begun.options)))) }
+    {
+        if self.config.is_some() {
+            return ignored(alloc, CallState::Reading(self), Why::NotWaited);
+        }
+        match self.begun.config_file(alloc, place, raw)? {
+            Some(read) => self.first_config(alloc, read),
+            None => ignored(alloc, CallState::Reading(self), Why::NotWaited),
+        }
+    }
+
+    // The first well-known reply, of which this was read.
+    fn first_wellknown(
+        self,
+        alloc: Global,
+        read: Result<(), ProviderStep>,
+    ) -> Result<(CallState, Items<Effect>), NoRoom>
+        ensures effects { IfOk result (λ r. r.1 ≡ (spec.first_wellknown self.config read).effects) }
+        ensures state { IfOk result (λ r. facts_of r.0 ≡ at_stage (unwrap_or (spec.first_wellknown self.config read).stage Stage.Reading) (record (reading_facts self) { heard = true })) }
+    {
+        if let Err(step) = read {
+            return fails(alloc, provider_failure(step));
+        }
+        let Reading { begun, config, .. } = self;
+        match config {
+            Some(config) => asks_accounts(alloc, begun, config),
+            None => {
+                let state = Reading {
+                    begun,
+                    heard: true,
+                    config: None,
+                };
+                Ok((CallState::Reading(state), Items::new(alloc)))
+            }
+        }
+    }
+
+    // The first config reply, of which this was read.
+    fn first_config(
+        self,
+        alloc: Global,
+        read: Result<Config, ProviderStep>,
+    ) -> Result<(CallState, Items<Effect>), NoRoom>
+        ensures effects { IfOk result (λ r. r.1 ≡ (spec.first_config self.heard read).effects) }
+        ensures state { IfOk result (λ r. facts_of r.0 ≡ at_stage (unwrap_or (spec.first_config self.heard read).stage Stage.Reading) (record (reading_facts self) { config = result_ok read })) }
+    {
+        let config = match read {
+            Ok(config) => config,
+            Err(step) => return fails(alloc, provider_failure(step)),
+        };
+        if self.heard {
+            return asks_accounts(alloc, self.begun, config);
+        }
+        let state = Reading {
+            begun: self.begun,
+            heard: false,
+            config: Some(config),
+        };
+        Ok((CallState::Reading(state), Items::new(alloc)))
+    }
+}
+
+// Both files are good, and the accounts are asked for.
+fn asks_accounts(
+    alloc: Global,
+    begun: Call,
+    config: Config,
+) -> Result<(CallState, Items<Effect>), NoRoom>
+    ensures effects { IfOk result (λ r. r.1 ≡ (spec.asks_accounts config).effects) }
+    ensures state { IfOk result (λ r. r.0 ≡ CallState.Listing (record { begun = begun; config = config })) }
+{
+    let to = config.accounts.copy(alloc)?;
+    let state = CallState::Listing(Listing { begun, config });
+    moved(alloc, state, Effect::Send(0, Ask::Accounts { to }))
+}

@@ -1,0 +1,105 @@
+//! The states of a call.
+ghost use Rattle.std.specs.Prelude.{◌≡◌, IfOk, Some, length, option_map};
+ghost use Rattle.fed_status.specs.Shared.{world_of};
+ghost use Rattle.fed_call.specs.Facts.{started, stage_of, next_facts};
+ghost use Rattle.fed_call.specs.Row.{start_row, call_row};
+ghost use Rattle.fed_call.specs.State.{facts_of};
+
+use crate::begun::Call;
+use crate::effects::{fails, ignored, plain};
+use crate::start::first_requests;
+use crate::{Listing, Reading};
+use fed_consent::{Effect, Input, Why};
+use fed_io::{Items, NoRoom};
+use fed_origin::{GetOptions, Origin, Stage};
+use fed_status::Shared;
+use std::alloc::Global;
+
+/// A call that is over.
+#[derive(Drop)]
+pub struct Ended;
+
+/// A get call: its stage, with what is kept of it there. Contracts see the facts of the call (`facts_of`), none where it is
+/// over.
+#[derive(Drop)]
+pub enum CallState {
+    Reading(Reading),
+    Listing(Listing),
+    Ended(Ended),
+}
+
+impl CallState {
+    /// A call that begins, and what it does: it fails by the rows C2, C4 or C6, or sends its first requests by row C7. The
+    /// call has exactly one provider.
+    pub fn start(
+        alloc: Global,
+        call: u32,
+        page: u32,
+        origin: Origin,
+        options: GetOptions,
+        shared: &Shared<'_>,
+    ) -> Result<(CallState, Items<Effect>), NoRoom>
+        requires { length options.providers ≡ 1 }
+        ensures effects { IfOk result (λ r. r.1 ≡ (start_row (world_of shared.now) options).effects) }
+        ensures state { IfOk result (λ r. facts_of r.0 ≡ started call page origin options (start_row (world_of shared.now) options)) }
+        ensures stage { IfOk result (λ r. Some (stage_of (facts_of r.0)) ≡ (start_row (world_of shared.now) options).stage) }
+    {
+        match first_requests(alloc, &options, shared)? {
+            Ok(effects) => {
+                let begun = Call {
+                    call,
+                    page,
+                    origin,
+                    options,
+                };
+                let state = Reading {
+                    begun,
+                    heard: false,
+                    config: None,
+                };
+                Ok((CallState::Reading(state), effects))
+            }
+            Err(step) => fails(alloc, plain(step)),
+        }
+    }
+
+    /// The call after an input, and what it does there: rows C8 to C13, C34 and C36. A call that is over ignores each input.
+    /// On want of memory the call is gone.
+    pub fn advance(
+        self,
+        alloc: Global,
+        input: &Input,
+        shared: &Shared<'_>,
+    ) -> Result<(CallState, Items<Effect>), NoRoom>
+        ensures effects { IfOk result (λ r. r.1 ≡ (call_row (world_of shared.now) (facts_of self) input.now).effects) }
+        ensures state { IfOk result (λ r. facts_of r.0 ≡ next_facts (facts_of self) input.now (call_row (world_of shared.now) (facts_of self) input.now)) }
+    {
+        match self {
+            CallState::Reading(state) => state.advance(alloc, input, shared),
+            CallState::Listing(state) => state.advance(alloc, input, shared),
+            CallState::Ended(state) => ignored(alloc, CallState::Ended(state), Why::CallEnded),
+        }
+    }
+
+    /// How far the call has come. It takes no memory.
+    pub fn stage(&self) -> Stage
+        ensures { result ≡ stage_of (facts_of self.now) }
+    {
+        match self {
+            CallState::Reading(_) => Stage::Reading,
+            CallState::Listing(_) => Stage::Listing,
+            CallState::Ended(_) => Stage::Ended,
+        }
+    }
+
+    /// The page of the call; none where it is over. It takes no memory.
+    pub fn page(&self) -> Option<u32>
+        ensures { result ≡ option_map (λ facts. facts.page) (facts_of self.now) }
+    {
+        match self {
+            CallState::Reading(state) => Some(state.begun.page),
+            CallState::Listing(state) => Some(state.begun.page),
+            CallState::Ended(_) => None,
+        }
+    }
+}

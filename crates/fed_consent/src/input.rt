@@ -1,0 +1,33 @@
+//! What a call takes.
+
+use fed_io::{Bytes, Text};
+use fed_origin::ReplyKind;
+
+/// What a call that began can take (this profile's own).
+#[derive(Drop)]
+pub enum Input {
+    /// The bytes that came for a request of this kind to the provider at this place in the call's list. No bytes stand for a
+    /// connection that gave nothing.
+    Reply {
+        provider: u32,
+        kind: ReplyKind,
+        raw: Bytes,
+    },
+    /// The user chose the account with this id.
+    Choose {
+        provider: u32,
+        account: Text,
+    },
+    /// The user went on with the account that is shown.
+    GoOn,
+    /// The user closed the dialog.
+    Cancel,
+    /// The user asked for the login window.
+    SignIn,
+    /// The user closed the login window.
+    Shut,
+    /// The provider said that the sign-in in its window is done.
+    Resume,
+    /// The page aborted the call.
+    Abort,
+}

@@ -1,0 +1,6 @@
+pub mod Flags
+pub mod Kept
+pub mod Login
+pub mod Place
+pub mod Shared
+pub mod Table
