@@ -8,10 +8,21 @@ TOP = os.path.dirname(os.path.dirname(os.path.abspath(__file__)))
 PROGRAM = os.path.join(TOP, "crates", "fedcm", "out", "fedcm")
 
 
-def run(path):
-    """The seconds that a run over the script at this path takes, and its peak of memory in MB."""
+def need_program():
     if not os.access(PROGRAM, os.X_OK):
         sys.exit("build the program first: ./fedcm run < examples/first-run.jsonl")
+
+
+def transcript(path):
+    """The transcript of the script at this path."""
+    need_program()
+    with open(path, "rb") as script:
+        return subprocess.run([PROGRAM, "run"], stdin=script, stdout=subprocess.PIPE, check=True).stdout.decode()
+
+
+def run(path):
+    """The seconds that a run over the script at this path takes, and its peak of memory in MB."""
+    need_program()
     begin = time.monotonic()
     with open(path, "rb") as script, open(os.devnull, "wb") as out:
         child = subprocess.Popen([PROGRAM, "run"], stdin=script, stdout=out)

@@ -12,6 +12,8 @@ name_text names.Fedcm = codes "fedcm"
 name_text names.Now = codes "now"
 name_text names.Rules = codes "rules"
 name_text names.What = codes "what"
+name_text names.Origin = codes "origin"
+name_text names.Status = codes "status"
 name_text names.Time = codes "time"
 name_text names.Page = codes "page"
 name_text names.Url = codes "url"
@@ -29,6 +31,8 @@ name_text names.Nonce = codes "nonce"
 name_text names.LoginHint = codes "login_hint"
 name_text names.DomainHint = codes "domain_hint"
 name_text names.Params = codes "params"
+name_text names.Provider = codes "provider"
+name_text names.To = codes "to"
 
 -- the word of a cause
 abbrev pub cause_text : LineCause → List ℕ

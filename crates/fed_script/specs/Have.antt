@@ -2,15 +2,25 @@
 use Rattle.std.specs.Prelude.{ℕ, List, codes, Result, Ok, Err, bytes_eq, if◌then◌else◌}
 use Rattle.serde_json.specs.Data.{Data}
 use Rattle.serde_json.specs.Find.{as_str}
+use Rattle.fed_origin.specs.WebUrl.{origin_of}
 use Rattle.fed_script.specs.declared.cause.LineCause.{LineCause}
 use Rattle.fed_script.specs.declared.cause.LineCause.TheVariants.{Member}
 use Rattle.fed_script.specs.declared.cause.MemberName.TheVariants as names
 use Rattle.fed_script.specs.declared.event.Event.{Event}
 use Rattle.fed_script.specs.declared.event.Event.TheVariants as events
 use Rattle.fed_script.specs.declared.event.Have.{Have}
-use Rattle.fed_script.specs.declared.event.Have.TheVariants.{Cookie}
-use Rattle.fed_script.specs.Member.{◌>>=◌, required, url_of}
+use Rattle.fed_script.specs.declared.event.Have.TheVariants.{Login, Cookie}
+use Rattle.fed_script.specs.Member.{◌>>=◌, required, as_word, url_of}
 use Rattle.fed_script.specs.Raw.{required_bytes}
+use Rattle.fed_script.specs.Status.{login_status}
+
+-- the login status that a line names; of the URL its origin alone counts
+abbrev pub login_of : Data → Result Have LineCause
+login_of d = do
+  text ← required as_str names.Origin d
+  status ← required (as_word login_status) names.Status d
+  url ← url_of text
+  Ok (Login (origin_of url) status)
 
 -- the cookie that a line names: a URL, and the value of a Set-Cookie field
 abbrev pub cookie_of : Data → Result Have LineCause
@@ -20,9 +30,11 @@ cookie_of d = do
   url ← url_of text
   Ok (Cookie url field)
 
--- what a line of this `what` says; other words are not read
+-- what a line of this `what` says; other words are not read yet
 abbrev pub said : List ℕ → Data → Result Have LineCause
-said what d = if bytes_eq what (codes "cookie") then cookie_of d else Err (Member names.What)
+said what d =
+    if bytes_eq what (codes "login") then login_of d
+    else (if bytes_eq what (codes "cookie") then cookie_of d else Err (Member names.What))
 
 -- the have that a line names
 abbrev pub have_of : Data → Result Event LineCause

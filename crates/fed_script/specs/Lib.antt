@@ -2,8 +2,10 @@ pub mod Cause
 pub mod Member
 pub mod Header
 pub mod Raw
+pub mod Status
 pub mod Have
-pub mod At
+pub mod Single
+pub mod Reply
 pub mod Load
 pub mod Get
 pub mod Used

@@ -11,9 +11,11 @@ use Rattle.fed_script.specs.declared.event.Header.{Header}
 use Rattle.fed_script.specs.Member.{◌>>=◌, unless, or_cause, json_of, member_of}
 use Rattle.fed_script.specs.Header.{header_named}
 use Rattle.fed_script.specs.Have.{have_of}
-use Rattle.fed_script.specs.At.{at_of}
+use Rattle.fed_script.specs.Single.{at_of, closepage_of, abort_of}
 use Rattle.fed_script.specs.Load.{load_of}
 use Rattle.fed_script.specs.Get.{get_of}
+use Rattle.fed_script.specs.Reply.{reply_of}
+use Rattle.fed_script.specs.Status.{setstatus_of}
 use Rattle.fed_script.specs.Used.{UsedState, is_used, is_late, is_back}
 
 -- what the first line is read as
@@ -23,8 +25,8 @@ header_of line = json_of line >>= header_named
 -- the kinds of event that are not read yet
 abbrev pub kinds_to_come : List (List ℕ)
 kinds_to_come =
-    codes "closepage" ∷ codes "abort" ∷ codes "continue" ∷ codes "cancel" ∷ codes "signin"
-    ∷ codes "shutwindow" ∷ codes "reply" ∷ codes "choose" ∷ codes "idpclose" ∷ codes "prevent" ∷ codes "setstatus" ∷ codes "disconnect" ∷ []
+    codes "continue" ∷ codes "cancel" ∷ codes "signin" ∷ codes "shutwindow" ∷ codes "choose" ∷ codes "idpclose" ∷ codes "prevent"
+    ∷ codes "disconnect" ∷ []
 
 -- why no event is read of a line of this kind
 abbrev pub unread_kind : List ℕ → LineCause
@@ -36,8 +38,12 @@ event_of_kind kind d =
     if bytes_eq kind (codes "have") then have_of d
     else (if bytes_eq kind (codes "at") then at_of d
     else (if bytes_eq kind (codes "load") then load_of d
+    else (if bytes_eq kind (codes "closepage") then closepage_of d
     else (if bytes_eq kind (codes "get") then get_of d
-    else Err (unread_kind kind))))
+    else (if bytes_eq kind (codes "abort") then abort_of d
+    else (if bytes_eq kind (codes "reply") then reply_of d
+    else (if bytes_eq kind (codes "setstatus") then setstatus_of d
+    else Err (unread_kind kind))))))))
 
 -- the kind that a line names
 abbrev pub kind_of : Data → Result (List ℕ) LineCause

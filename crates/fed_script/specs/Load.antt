@@ -1,5 +1,5 @@
 -- What a line of the kind `load` is read as.
-use Rattle.std.specs.Prelude.{ℕ, List, Result, Ok}
+use Rattle.std.specs.Prelude.{Result, Ok}
 use Rattle.serde_json.specs.Data.{Data}
 use Rattle.serde_json.specs.Find.{as_str}
 use Rattle.fed_script.specs.declared.cause.LineCause.{LineCause}
@@ -9,17 +9,11 @@ use Rattle.fed_script.specs.declared.event.Event.TheVariants.{Load}
 use Rattle.fed_script.specs.Member.{◌>>=◌, required, as_u32, url_of}
 use Rattle.fed_script.specs.Raw.{optional_bytes}
 
--- the page, and the text of its URL
-abbrev pub load_members : Data → Result (ℕ × List ℕ) LineCause
-load_members d = do
-  page ← required as_u32 names.Page d
-  url ← required as_str names.Url d
-  Ok (page, url)
-
 -- the load that a line names, with the bytes of a reply if it gives them
 abbrev pub load_of : Data → Result Event LineCause
 load_of d = do
-  named ← load_members d
+  page ← required as_u32 names.Page d
+  text ← required as_str names.Url d
   raw ← optional_bytes d
-  url ← url_of named.1
-  Ok (Load named.0 url raw)
+  url ← url_of text
+  Ok (Load page url raw)

@@ -2,7 +2,7 @@
 use Rattle.std.specs.Prelude.{⊤, ℕ, Bool, true, false, ◌^◌, nat_lt, List, Option, Some, None, option_and_then, Result, Ok, Err, if◌then◌else◌}
 use Rattle.std.specs.Str.{is_utf8}
 use Rattle.serde_json.specs.Data.{Data, null}
-use Rattle.serde_json.specs.Find.{get, as_number, as_u64}
+use Rattle.serde_json.specs.Find.{get, as_str, as_number, as_u64}
 use Rattle.serde_json.specs.Read.{read}
 use Rattle.url.specs.Parts.{Parts}
 use Rattle.fed_origin.specs.declared.refusal.UrlRefusal.{UrlRefusal}
@@ -60,6 +60,10 @@ optional kind name (Some d) = some_of (or_cause (Member name) (kind d))
 abbrev pub not_built : MemberName → Option Data → Result ⊤ LineCause
 not_built name None = Ok tt
 not_built name (Some d) = Err (Member name)
+
+-- a text that is one of some words, and what the word stands for
+abbrev pub as_word : {A : Type 0} → (List ℕ → Option A) → Data → Option A
+as_word words d = option_and_then words (as_str d)
 
 -- a whole number of 64 bits: an integer literal, without a sign
 abbrev pub as_whole : Data → Option ℕ

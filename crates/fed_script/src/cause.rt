@@ -8,6 +8,8 @@ pub enum MemberName {
     Now,
     Rules,
     What,
+    Origin,
+    Status,
     Time,
     Page,
     Url,
@@ -25,6 +27,8 @@ pub enum MemberName {
     LoginHint,
     DomainHint,
     Params,
+    Provider,
+    To,
 }
 
 /// Why a line is bad, in the order in which the causes are tested.
@@ -62,6 +66,8 @@ impl MemberName {
             MemberName::Now => "now",
             MemberName::Rules => "rules",
             MemberName::What => "what",
+            MemberName::Origin => "origin",
+            MemberName::Status => "status",
             MemberName::Time => "time",
             MemberName::Page => "page",
             MemberName::Url => "url",
@@ -79,6 +85,8 @@ impl MemberName {
             MemberName::LoginHint => "login_hint",
             MemberName::DomainHint => "domain_hint",
             MemberName::Params => "params",
+            MemberName::Provider => "provider",
+            MemberName::To => "to",
         }
     }
 }

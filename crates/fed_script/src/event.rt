@@ -2,7 +2,7 @@
 ghost use Rattle.std.specs.Prelude.{◌≡◌, IfOk};
 
 use fed_io::{Bytes, NoRoom};
-use fed_origin::{GetOptions, WebUrl};
+use fed_origin::{GetOptions, LoginStatus, Origin, ReplyKind, WebUrl};
 use fed_suffix::Suffixes;
 use std::alloc::Global;
 
@@ -30,6 +30,8 @@ impl Header {
 /// What a script says of the time before its first event of another kind.
 #[derive(Drop)]
 pub enum Have {
+    /// The provider of this origin said this login status, which is not Unknown (Login Status API).
+    Login { origin: Origin, status: LoginStatus },
     /// A reply from the URL carried a Set-Cookie field with this value.
     Cookie { url: WebUrl, field: Bytes },
 }
@@ -50,10 +52,31 @@ pub enum Event {
         url: WebUrl,
         raw: Option<Bytes>,
     },
+    /// A page is closed, and stands no more.
+    ClosePage {
+        page: u32,
+    },
     /// A page calls `navigator.credentials.get` (FedCM), under a number that names the call from then on.
     Get {
         page: u32,
         call: u32,
         options: GetOptions,
+    },
+    /// The page aborts its call (DOM, "AbortSignal").
+    Abort {
+        call: u32,
+    },
+    /// The bytes that came back for the call's request of this kind to the provider at this place in its list; none
+    /// where the connection gave nothing.
+    Reply {
+        call: u32,
+        provider: u32,
+        kind: ReplyKind,
+        raw: Bytes,
+    },
+    /// A page calls `navigator.login.setStatus` (Login Status API). The status is not Unknown.
+    SetStatus {
+        page: u32,
+        status: LoginStatus,
     },
 }

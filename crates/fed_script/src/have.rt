@@ -1,6 +1,5 @@
 //! Lines of the kind `have`.
 ghost use Rattle.std.specs.Prelude.{◌≡◌};
-ghost use Rattle.std.specs.Result.{result_map_both};
 ghost use Rattle.serde_json.specs.View.{view};
 ghost use Rattle.fed_io.specs.Fault.{Answers};
 ghost use Rattle.fed_script.specs.Have as spec;
@@ -9,22 +8,31 @@ use crate::cause::{LineCause, MemberName};
 use crate::event::{Event, Have};
 use crate::member::{text, web_url};
 use crate::raw::required_bytes;
+use crate::status::status;
 use fed_io::Fault;
+use fed_origin::Origin;
 use serde_json::Value;
 use std::alloc::Global;
+
+// A login status that a line names.
+fn login(alloc: Global, d: &Value) -> Result<Have, Fault<LineCause>>
+    ensures { Answers result (spec.login_of (view d.now)) }
+{
+    let origin = text(d, MemberName::Origin).map_err(Fault::Step)?;
+    let status = status(d).map_err(Fault::Step)?;
+    let url = web_url(alloc, origin)?;
+    let origin = Origin::of_url(alloc, &url)?;
+    Ok(Have::Login { origin, status })
+}
 
 // A cookie that a line names.
 fn cookie(alloc: Global, d: &Value) -> Result<Have, Fault<LineCause>>
     ensures { Answers result (spec.cookie_of (view d.now)) }
 {
-    match text(d, MemberName::Url) {
-        Err(cause) => Err(Fault::Step(cause)),
-        Ok(url) => {
-            let field = required_bytes(alloc, d)?;
-            let url = web_url(alloc, url)?;
-            Ok(Have::Cookie { url, field })
-        }
-    }
+    let url = text(d, MemberName::Url).map_err(Fault::Step)?;
+    let field = required_bytes(alloc, d)?;
+    let url = web_url(alloc, url)?;
+    Ok(Have::Cookie { url, field })
 }
 
 // What a line of this `what` says.
@@ -32,6 +40,7 @@ fn said(alloc: Global, what: &str, d: &Value) -> Result<Have, Fault<LineCause>>
     ensures { Answers result (spec.said what.now (view d.now)) }
 {
     match what {
+        "login" => login(alloc, d),
         "cookie" => cookie(alloc, d),
         _ => Err(Fault::Step(LineCause::Member(MemberName::What))),
     }
@@ -41,8 +50,7 @@ fn said(alloc: Global, what: &str, d: &Value) -> Result<Have, Fault<LineCause>>
 pub(crate) fn have_named(alloc: Global, d: &Value) -> Result<Event, Fault<LineCause>>
     ensures { Answers result (spec.have_of (view d.now)) }
 {
-    match text(d, MemberName::What) {
-        Err(cause) => Err(Fault::Step(cause)),
-        Ok(what) => Ok(Event::Have(said(alloc, what, d)?)),
-    }
+    let what = text(d, MemberName::What).map_err(Fault::Step)?;
+    let have = said(alloc, what, d)?;
+    Ok(Event::Have(have))
 }

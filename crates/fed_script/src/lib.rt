@@ -1,10 +1,11 @@
 //! The lines of a script: its header, its events, and why a line is bad.
 #![tactic(auto)]
 
-mod at;
 mod bytes;
 mod cause;
 mod event;
+#[cfg(test)]
+mod event_tests;
 mod get;
 mod have;
 mod header;
@@ -12,6 +13,9 @@ mod line;
 mod load;
 mod member;
 mod raw;
+mod reply;
+mod single;
+mod status;
 #[cfg(test)]
 mod tests;
 mod used;

@@ -4,16 +4,18 @@ ghost use Rattle.serde_json.specs.View.{view};
 ghost use Rattle.fed_io.specs.Fault.{Answers};
 ghost use Rattle.fed_script.specs.Line as spec;
 ghost use Rattle.fed_script.specs.Line.{event_of};
-ghost use Rattle.fed_script.specs.Used.{used_after, IsUnused, HasOneProvider};
+ghost use Rattle.fed_script.specs.Used.{used_after, IsUnused, HasOneProvider, HasKnownStatus};
 ghost use Rattle.std.specs.Result.{result_map_both};
 
-use crate::at::at;
 use crate::cause::{LineCause, MemberName};
 use crate::event::Event;
 use crate::get::get;
 use crate::have::have_named;
 use crate::load::load;
 use crate::member::{json, member};
+use crate::reply::reply;
+use crate::single::{abort, at, close_page};
+use crate::status::set_status;
 use crate::used::Used;
 use fed_io::Fault;
 use serde_json::Value;
@@ -37,17 +39,13 @@ fn unread_kind(kind: &str) -> LineCause
     ensures { result ≡ spec.unread_kind kind.now }
 {
     match kind {
-        "closepage"
-        | "abort"
-        | "continue"
+        "continue"
         | "cancel"
         | "signin"
         | "shutwindow"
-        | "reply"
         | "choose"
         | "idpclose"
         | "prevent"
-        | "setstatus"
         | "disconnect" => { LineCause::Member(MemberName::Do) }
         _ => LineCause::NoKind,
     }
@@ -61,7 +59,11 @@ fn event_of_kind(alloc: Global, kind: &str, d: &Value) -> Result<Event, Fault<Li
         "have" => have_named(alloc, d),
         "at" => at(d).map_err(Fault::Step),
         "load" => load(alloc, d),
+        "closepage" => close_page(d).map_err(Fault::Step),
         "get" => get(alloc, d),
+        "abort" => abort(d).map_err(Fault::Step),
+        "reply" => reply(alloc, d),
+        "setstatus" => set_status(d).map_err(Fault::Step),
         _ => Err(Fault::Step(unread_kind(kind))),
     }
 }
@@ -106,6 +108,7 @@ pub fn read_event(alloc: Global, line: &[u8], used: &mut Used) -> Result<Event, 
     ensures few { OnOk result (used.old.events < 1000000) }
     ensures once { IfOk result (IsUnused used.old) }
     ensures provider { IfOk result HasOneProvider }
+    ensures status { IfOk result HasKnownStatus }
 {
     let event = event_named(alloc, line)?;
     match allowed(used, &event) {

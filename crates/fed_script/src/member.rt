@@ -92,6 +92,16 @@ pub(crate) fn optional_text(d: &Value, name: MemberName) -> Result<Option<&str>,
     }
 }
 
+/// A whole number of 32 bits that may be absent.
+pub(crate) fn optional_number(d: &Value, name: MemberName) -> Result<Option<u32>, LineCause>
+    ensures { result ≡ spec.optional spec.as_u32 name (spec.member_of name (view d.now)) }
+{
+    if member(d, name).is_none() {
+        return Ok(None);
+    }
+    Ok(Some(number(d, name)?))
+}
+
 /// A member that is not read yet.
 pub(crate) fn not_built(d: &Value, name: MemberName) -> Result<(), LineCause>
     ensures { result ≡ spec.not_built name (spec.member_of name (view d.now)) }

@@ -1,12 +1,10 @@
-use crate::{
-    Event, Have, LineCause, MemberName, Used, is_blank, next_line, read_event, read_header,
-};
-use fed_io::{Bytes, Fault};
+use crate::{LineCause, MemberName, Used, is_blank, next_line, read_event, read_header};
+use fed_io::Fault;
 use std::alloc::{AllocError, Global};
 
-const LOAD: &str = r#"{"do":"load","page":1,"url":"https://rp.example/"}"#;
+pub const LOAD: &str = r#"{"do":"load","page":1,"url":"https://rp.example/"}"#;
 
-const GET: &str =
+pub const GET: &str =
     r#"{"do":"get","page":1,"call":1,"providers":[{"config":"https://accounts.idp.example/fedcm.json","client":"c1","nonce":"n1"}]}"#;
 
 // The time of a header, or why it is bad.
@@ -19,7 +17,7 @@ fn time_of(alloc: Global, line: &[u8]) -> Result<u64, Option<LineCause>> {
 }
 
 // Whether a line is read, or why it is bad.
-fn reads(alloc: Global, line: &[u8], used: &mut Used) -> Result<(), Option<LineCause>> {
+pub fn reads(alloc: Global, line: &[u8], used: &mut Used) -> Result<(), Option<LineCause>> {
     match read_event(alloc, line, used) {
         Ok(_) => Ok(()),
         Err(Fault::Step(cause)) => Err(Some(cause)),
@@ -138,36 +136,10 @@ fn rules_of_a_header(rt: HostRuntime) -> Result<(), Fault<LineCause>> {
 }
 
 #[test]
-fn good_lines(rt: HostRuntime) -> Result<(), Fault<LineCause>> {
+fn good_lines(rt: HostRuntime) {
     let mut used = Used::new(rt.alloc(), 1_700_000_000);
-    let load = read_event(rt.alloc(), LOAD.as_bytes(), &mut used)?;
-    match &load {
-        Event::Load { page, url, raw } => {
-            assert_eq!(rt; *page, 1);
-            assert_eq!(rt; url.as_str(), "https://rp.example/");
-            assert!(rt; raw.is_none());
-        }
-        _ => assert!(rt; false),
-    }
-    let get = read_event(rt.alloc(), GET.as_bytes(), &mut used)?;
-    match &get {
-        Event::Get {
-            page,
-            call,
-            options,
-        } => {
-            assert_eq!(rt; (*page, *call), (1, 1));
-            let providers = options.providers.as_slice();
-            assert_eq!(rt; providers.len(), 1);
-            assert_eq!(rt;
-                providers[0].config.as_str(),
-                "https://accounts.idp.example/fedcm.json"
-            );
-            assert_eq!(rt; providers[0].client.as_str(), "c1");
-            assert!(rt; providers[0].nonce.is_some() && providers[0].params.is_none());
-        }
-        _ => assert!(rt; false),
-    }
+    assert_eq!(rt; reads(rt.alloc(), LOAD.as_bytes(), &mut used), Ok(()));
+    assert_eq!(rt; reads(rt.alloc(), GET.as_bytes(), &mut used), Ok(()));
     let good = [
         // A configuration URL without a registrable domain is a good line.
         r#"{"do":"get","page":1,"call":2,"providers":[{"config":"https://localhost/f","client":""}]}"#,
@@ -188,7 +160,6 @@ fn good_lines(rt: HostRuntime) -> Result<(), Fault<LineCause>> {
         );
     }
     assert_eq!(rt; used.events(), 8);
-    Ok(())
 }
 
 #[test]
@@ -339,207 +310,6 @@ fn causes_in_their_order(rt: HostRuntime) {
         );
     }
     assert_eq!(rt; used.events(), 1);
-}
-
-// The line of a load that ends with these members.
-fn load_with(alloc: Global, members: &str) -> Result<String, AllocError> {
-    let mut line = String::from_str(alloc, r#"{"do":"load","page":1,"url":"https://a""#)?;
-    line.push_str(members)?;
-    line.push('}')?;
-    Ok(line)
-}
-
-// The bytes of the reply of a load that ends with these members, or why the line is bad.
-fn reply_of(alloc: Global, members: &str) -> Result<Option<Bytes>, Option<LineCause>> {
-    let Ok(line) = load_with(alloc, members) else {
-        return Err(None);
-    };
-    let mut used = Used::new(alloc, 0);
-    match read_event(alloc, line.as_bytes(), &mut used) {
-        Ok(Event::Load { raw, .. }) => Ok(raw),
-        Ok(_) => Err(None),
-        Err(Fault::Step(cause)) => Err(Some(cause)),
-        Err(Fault::NoRoom) => Err(None),
-    }
-}
-
-#[test]
-fn bytes_of_a_reply(rt: HostRuntime) {
-    let good: [(&str, &[u8]); 7] = [
-        (r#","text":"""#, b""),
-        (r#","text":"a\u0000\u00e9","raw":null"#, b"a\x00\xc3\xa9"),
-        (r#","raw":"""#, b""),
-        (r#","raw":"aGk=","text":null"#, b"hi"),
-        (r#","raw":"YQ==""#, b"a"),
-        (r#","raw":"+/\/+""#, b"\xfb\xff\xfe"),
-        (r#","raw":"AP8A""#, b"\x00\xff\x00"),
-    ];
-    for (members, want) in good {
-        match reply_of(rt.alloc(), members) {
-            Ok(Some(bytes)) => assert_eq!(rt; bytes.as_slice(), want, "at {members}"),
-            _ => assert!(rt; false, "at {members}"),
-        }
-    }
-    let absent = [r#""#, r#","text":null"#, r#","raw":null,"text":null"#];
-    for members in absent {
-        match reply_of(rt.alloc(), members) {
-            Ok(found) => assert!(rt; found.is_none(), "at {members}"),
-            Err(_) => assert!(rt; false, "at {members}"),
-        }
-    }
-    let bad = [
-        (r#","text":5"#, MemberName::Text),
-        (r#","text":[],"raw":"aGk=""#, MemberName::Text),
-        (r#","text":"hi","raw":"aGk=""#, MemberName::Text),
-        (r#","text":"hi","raw":5"#, MemberName::Text),
-        (r#","text":"","raw":"""#, MemberName::Text),
-        (r#","raw":5"#, MemberName::Raw),
-        // Without its padding, with too much of it, and with bits left over.
-        (r#","raw":"aGk""#, MemberName::Raw),
-        (r#","raw":"aGk==""#, MemberName::Raw),
-        (r#","raw":"aGl=""#, MemberName::Raw),
-        (r#","raw":"=""#, MemberName::Raw),
-        // Letters of another alphabet, and white space.
-        (r#","raw":"A-__""#, MemberName::Raw),
-        (r#","raw":"aGk= ""#, MemberName::Raw),
-        (r#","raw":"aGk=\n""#, MemberName::Raw),
-    ];
-    for (members, name) in bad {
-        match reply_of(rt.alloc(), members) {
-            Err(cause) => { assert_eq!(rt; cause, Some(LineCause::Member(name)), "at {members}") }
-            Ok(_) => assert!(rt; false, "at {members}"),
-        }
-    }
-}
-
-const COOKIE: &str =
-    r#"{"do":"have","what":"cookie","url":"https://rp.example/a","text":"x=1; Secure"}"#;
-
-#[test]
-fn cookies(rt: HostRuntime) -> Result<(), Fault<LineCause>> {
-    let mut used = Used::new(rt.alloc(), 0);
-    let have = read_event(rt.alloc(), COOKIE.as_bytes(), &mut used)?;
-    match &have {
-        Event::Have(Have::Cookie { url, field }) => {
-            assert_eq!(rt; url.as_str(), "https://rp.example/a");
-            assert_eq!(rt; field.as_slice(), b"x=1; Secure".as_slice());
-        }
-        _ => assert!(rt; false),
-    }
-    let bad = [
-        (r#"{"do":"have"}"#, LineCause::Member(MemberName::What)),
-        (
-            r#"{"do":"have","what":null}"#,
-            LineCause::Member(MemberName::What),
-        ),
-        (
-            r#"{"do":"have","what":5}"#,
-            LineCause::Member(MemberName::What),
-        ),
-        (
-            r#"{"do":"have","what":"Cookie"}"#,
-            LineCause::Member(MemberName::What),
-        ),
-        (
-            r#"{"do":"have","what":"kept"}"#,
-            LineCause::Member(MemberName::What),
-        ),
-        (
-            r#"{"do":"have","what":"silent"}"#,
-            LineCause::Member(MemberName::What),
-        ),
-        (
-            r#"{"do":"have","what":"cookie","text":5}"#,
-            LineCause::Member(MemberName::Url),
-        ),
-        (
-            r#"{"do":"have","what":"cookie","url":null,"text":5}"#,
-            LineCause::Member(MemberName::Url),
-        ),
-        (
-            r#"{"do":"have","what":"cookie","url":"ftp://x/"}"#,
-            LineCause::Member(MemberName::Text),
-        ),
-        (
-            r#"{"do":"have","what":"cookie","url":"ftp://x/","text":"","raw":""}"#,
-            LineCause::Member(MemberName::Text),
-        ),
-        (
-            r#"{"do":"have","what":"cookie","url":"ftp://x/","raw":"="}"#,
-            LineCause::Member(MemberName::Raw),
-        ),
-        (
-            r#"{"do":"have","what":"cookie","url":"ftp://x/","text":""}"#,
-            LineCause::BadUrl,
-        ),
-    ];
-    for (line, cause) in bad {
-        assert_eq!(rt;
-            reads(rt.alloc(), line.as_bytes(), &mut used),
-            Err(Some(cause)),
-            "at {line}"
-        );
-    }
-    Ok(())
-}
-
-// What follows a header of the time 1,700,000,000: whether each line is read, or why it is bad.
-#[test]
-fn late_and_back(rt: HostRuntime) {
-    let mut used = Used::new(rt.alloc(), 1_700_000_000);
-    let lines = [
-        (COOKIE, Ok(())),
-        (
-            r#"{"do":"at","time":1699999999}"#,
-            Err(Some(LineCause::TimeBack)),
-        ),
-        // What is refused changes nothing, and a `have` is an event that no `have` comes too late for.
-        (COOKIE, Ok(())),
-        (
-            r#"{"do":"at"}"#,
-            Err(Some(LineCause::Member(MemberName::Time))),
-        ),
-        (
-            r#"{"do":"at","time":null}"#,
-            Err(Some(LineCause::Member(MemberName::Time))),
-        ),
-        (
-            r#"{"do":"at","time":1.7e9}"#,
-            Err(Some(LineCause::Member(MemberName::Time))),
-        ),
-        (
-            r#"{"do":"at","time":18446744073709551616}"#,
-            Err(Some(LineCause::Member(MemberName::Time))),
-        ),
-        (r#"{"do":"at","time":1700000000}"#, Ok(())),
-        (COOKIE, Err(Some(LineCause::HaveLate))),
-        (
-            r#"{"do":"have","what":"cookie","url":"ftp://x/","text":""}"#,
-            Err(Some(LineCause::BadUrl)),
-        ),
-        (r#"{"do":"at","time":1700000005}"#, Ok(())),
-        (
-            r#"{"do":"at","time":1700000004}"#,
-            Err(Some(LineCause::TimeBack)),
-        ),
-        (LOAD, Ok(())),
-        (r#"{"do":"at","time":18446744073709551615}"#, Ok(())),
-        (r#"{"do":"at","time":0}"#, Err(Some(LineCause::TimeBack))),
-    ];
-    for (line, want) in lines {
-        assert_eq!(rt;
-            reads(rt.alloc(), line.as_bytes(), &mut used),
-            want,
-            "at {line}"
-        );
-    }
-    assert_eq!(rt; used.events(), 6);
-    let mut used = Used::new(rt.alloc(), 0);
-    assert_eq!(rt; reads(rt.alloc(), LOAD.as_bytes(), &mut used), Ok(()));
-    assert_eq!(rt;
-        reads(rt.alloc(), COOKIE.as_bytes(), &mut used),
-        Err(Some(LineCause::HaveLate))
-    );
 }
 
 // A load with a member that nests so many lists.

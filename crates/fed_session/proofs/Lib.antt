@@ -1,5 +1,12 @@
 pub mod CallsLemmas
+pub mod EventLemmas
+pub mod GetLemmas
+pub mod InputLemmas
 pub mod KeyedLemmas
+pub mod OutcomeLemmas
+pub mod PagesLemmas
 pub mod PendingLemmas
+pub mod SightLemmas
+pub mod SilentLemmas
 pub mod StandsLemmas
 pub mod ViewLemmas

@@ -1,30 +1,37 @@
 -- The pending calls, and those of a page.
-use Rattle.std.proofs.Common.{◌≡◌, ℕ, Bool, true, false, not, nat_eq, ◌==◌, ◌||◌, ◌⊎◌, inl, inr, List, [], ◌∷◌, ◌++◌, Some, None, map, refl, sym, ap, ◌∙◌, arith, cond}
+use Rattle.std.proofs.Common.{◌≡◌, ℕ, Bool, true, false, not, nat_eq, ◌==◌, ◌||◌, ◌⊎◌, inl, inr, List, [], ◌∷◌, ◌++◌, Some, None, map, refl, sym, ap, ◌∙◌, arith, cond, append-nil}
 use Rattle.std.proofs.lemmas.Bool.Decides.{nat_tests}
-use Rattle.std.specs.Prelude.{filter, Option, is_some, Result as Answer, Ok, Err}
-use Rattle.std.specs.Option.{option_to_list, option_or}
+use Rattle.std.proofs.lemmas.List.Elements.{filter_map-append}
+use Rattle.std.specs.Prelude.{filter, Option, is_some}
+use Rattle.std.specs.Option.{option_to_list}
 use Rattle.std.specs.List.{list_any, filter_map}
 use Rattle.std.specs.Map.{lookup}
 use Rattle.indexmap.specs.IndexMap.{insert_entry, shift_remove_entry}
+use Rattle.url.specs.Parts.{Parts}
 use Rattle.fed_origin.specs.declared.options.GetOptions.{GetOptions}
-use Rattle.fed_origin.specs.declared.options.ProviderOptions.{ProviderOptions}
 use Rattle.fed_origin.specs.declared.origin.Origin.{Origin}
+use Rattle.fed_origin.specs.declared.stage.Stage.{Stage}
 use Rattle.fed_origin.specs.declared.stage.Stage.TheVariants.{Reading, Listing, Ended}
+use Rattle.fed_origin.specs.declared.status.LoginStatus.{LoginStatus}
+use Rattle.fed_origin.specs.Origin.{is_trustworthy, same_origin}
+use Rattle.fed_origin.specs.WebUrl.{origin_of}
 use Rattle.fed_jar.specs.Cookie.{StoredCookie}
-use Rattle.fed_session.specs.Effect.{Effect, Time, Page, Cookie, Begin, Move, Sent, Result, Ignored, page_change, call_change, stage_change, begun_by, time_of, written_by, last_of}
-use Rattle.fed_session.specs.Keyed.{entries_after, last_said}
-use Rattle.fed_session.specs.Records.{records_of}
-use Rattle.fed_session.specs.Row.{ends_of, cookie_effects, load_effects, is_busy, by_scheme, taken_get, standing_get, get_effects}
-use Rattle.fed_origin.specs.Origin.{is_trustworthy}
-use Rattle.fed_origin.specs.WebUrl.{origin_of, scheme_of}
-use Rattle.fed_origin.specs.declared.scheme.Scheme.{Scheme}
-use Rattle.fed_origin.specs.declared.scheme.Scheme.TheVariants.{Http, Https}
-use Rattle.fed_provider.specs.declared.step.ProviderStep.{ProviderStep}
-use Rattle.fed_provider.specs.WellKnown.{WellKnownUrlOf}
-use Rattle.fed_suffix.specs.Rule.{RuleSet}
+use Rattle.fed_status.specs.Login.{Logins, with_status}
+use Rattle.fed_status.specs.Shared.{World}
+use Rattle.fed_consent.specs.declared.ask.Ask.{Ask}
+use Rattle.fed_consent.specs.declared.finish.Finish.{Finish}
+use Rattle.fed_consent.specs.declared.input.Input.{Input}
+use Rattle.fed_consent.specs.declared.why.Why.{Why}
+use Rattle.fed_call.specs.Begun.{Begun}
+use Rattle.fed_call.specs.Facts.{Facts, Outcome}
+use Rattle.fed_call.specs.Row.{call_row}
+use Rattle.fed_session.specs.Effect.{Effect, Time, Page, Closed, Cookie, Login, Begin, Move, Sent, Result, Ignored, page_change, login_change, call_change, begun_by, written_by}
+use Rattle.fed_session.specs.Keyed.{entries_after}
+use Rattle.fed_session.specs.Row.{ends_of, cookie_effects, login_effects, load_effects, is_busy, standing_get, get_effects, get_outcome, outcome_effects, call_effect, moves, input_effects, page_of}
+use Rattle.fed_session.specs.Session.{with_statuses}
 use Rattle.fed_session.specs.Trace.{Row, standing, calls_of, begun}
 use Rattle.fed_session.proofs.KeyedLemmas.{IsAbsent, AreDistinct, absent_after_insert, absent_after_remove, entries_after-append}
-use Rattle.url.specs.Parts.{Parts}
+use Rattle.fed_session.proofs.SilentLemmas.{AllSilent, entries_silent, said_silent, silent_map, silent_append, silent_call}
 
 -- ---- the calls of a page end
 
@@ -79,94 +86,121 @@ calls_of-others_other q page (e ∷ es) ne =
     let rest = calls_of-others_other q page es ne in
     grind (arith, nat_tests, rest, ne)
 
--- ---- cookies
+-- ---- ends of calls
 
-pub cookies_pages : (cookies : List StoredCookie) (es : List (ℕ × Origin)) → entries_after nat_eq page_change (cookie_effects cookies) es ≡ es
-cookies_pages [] es = refl
-cookies_pages (c ∷ cookies) es = cookies_pages cookies es
+ends_pages : (calls : List ℕ) → AllSilent page_change (ends_of calls)
+ends_pages calls = silent_map page_change (λ call. Move call Ended) (λ call. refl) calls
 
-pub cookies_calls : (cookies : List StoredCookie) (es : List (ℕ × ℕ)) → entries_after nat_eq call_change (cookie_effects cookies) es ≡ es
-cookies_calls [] es = refl
-cookies_calls (c ∷ cookies) es = cookies_calls cookies es
+-- what is silent on a move is silent on ends
+pub ends_silent : {A : Type 0} (said : Effect → Option A) → ((call : ℕ) → said (Move call Ended) ≡ None) → (calls : List ℕ) → AllSilent said (ends_of calls)
+ends_silent said h calls = silent_map said (λ call. Move call Ended) h calls
 
-pub cookies_begin_none : (cookies : List StoredCookie) → filter_map begun_by (cookie_effects cookies) ≡ []
-cookies_begin_none [] = refl
-cookies_begin_none (c ∷ cookies) = cookies_begin_none cookies
+-- ---- loads
 
+-- what follows the page's place in a load says nothing of what is no cookie and no status
+pub load_rest_silent : {A : Type 0} (said : Effect → Option A) → ((cookie : StoredCookie) → said (Cookie cookie) ≡ None) → ((origin : Origin) (status : LoginStatus) → said (Login origin status) ≡ None)
+    → (cookies : List StoredCookie) (origin : Origin) (statuses : List LoginStatus) → AllSilent said (cookie_effects cookies ++ login_effects origin statuses)
+load_rest_silent said cookie login cookies origin statuses =
+    silent_append said (cookie_effects cookies) (login_effects origin statuses) (silent_map said Cookie cookie cookies) (silent_map said (Login origin) (login origin) statuses)
+
+pub load_pages : (calls : List ℕ) (page : ℕ) (url : Parts) (cookies : List StoredCookie) (statuses : List LoginStatus) (es : List (ℕ × Origin))
+    → entries_after nat_eq page_change (load_effects calls page url cookies statuses) es ≡ insert_entry nat_eq es page (origin_of url)
+load_pages calls page url cookies statuses es =
+    let rest = cookie_effects cookies ++ login_effects (origin_of url) statuses in
+    entries_after-append nat_eq page_change (ends_of calls) (Page page (origin_of url) ∷ rest) es
+    ∙ ap (λ xs. entries_after nat_eq page_change rest (insert_entry nat_eq xs page (origin_of url))) (entries_silent nat_eq page_change (ends_of calls) es (ends_pages calls))
+    ∙ entries_silent nat_eq page_change rest (insert_entry nat_eq es page (origin_of url)) (load_rest_silent page_change (λ c. refl) (λ o s. refl) cookies (origin_of url) statuses)
+
+pub load_calls : (page : ℕ) (url : Parts) (cookies : List StoredCookie) (statuses : List LoginStatus) (es : List (ℕ × ℕ)) → AreDistinct es
+    → entries_after nat_eq call_change (load_effects (calls_of page es) page url cookies statuses) es ≡ others page es
+load_calls page url cookies statuses es h =
+    let rest = cookie_effects cookies ++ login_effects (origin_of url) statuses in
+    entries_after-append nat_eq call_change (ends_of (calls_of page es)) (Page page (origin_of url) ∷ rest) es
+    ∙ entries_silent nat_eq call_change rest (entries_after nat_eq call_change (ends_of (calls_of page es)) es) (load_rest_silent call_change (λ c. refl) (λ o s. refl) cookies (origin_of url) statuses)
+    ∙ ended page es h
+
+-- a load is silent on what ends, pages, cookies and statuses do not say
+pub load_silent : {A : Type 0} (said : Effect → Option A) → ((call : ℕ) → said (Move call Ended) ≡ None) → ((page : ℕ) (origin : Origin) → said (Page page origin) ≡ None)
+    → ((cookie : StoredCookie) → said (Cookie cookie) ≡ None) → ((origin : Origin) (status : LoginStatus) → said (Login origin status) ≡ None)
+    → (calls : List ℕ) (page : ℕ) (url : Parts) (cookies : List StoredCookie) (statuses : List LoginStatus) → AllSilent said (load_effects calls page url cookies statuses)
+load_silent said move page_is cookie login calls page url cookies statuses =
+    silent_append said (ends_of calls) (Page page (origin_of url) ∷ (cookie_effects cookies ++ login_effects (origin_of url) statuses)) (ends_silent said move calls)
+    (page_is page (origin_of url), load_rest_silent said cookie login cookies (origin_of url) statuses)
+
+-- the cookies that effects of cookies write
 pub cookies_are_written : (cookies : List StoredCookie) → filter_map written_by (cookie_effects cookies) ≡ cookies
 cookies_are_written [] = refl
 cookies_are_written (c ∷ cookies) = ap (λ cs. c ∷ cs) (cookies_are_written cookies)
 
-pub cookies_say_no_time : (cookies : List StoredCookie) → last_of time_of (cookie_effects cookies) ≡ None
-cookies_say_no_time [] = refl
-cookies_say_no_time (c ∷ cookies) = ap (λ o. option_or o None) (cookies_say_no_time cookies)
+-- cookies, and then what writes none
+pub written_then : (cookies : List StoredCookie) (effects : List Effect) → AllSilent written_by effects → filter_map written_by (cookie_effects cookies ++ effects) ≡ cookies
+written_then cookies effects h =
+    filter_map-append written_by (cookie_effects cookies) effects ∙ ap (λ xs. filter_map written_by (cookie_effects cookies) ++ xs) (said_silent written_by effects h)
+    ∙ append-nil (filter_map written_by (cookie_effects cookies)) ∙ cookies_are_written cookies
 
-pub cookies_move_none : (q : ℕ) (cookies : List StoredCookie) → last_said nat_eq stage_change q (cookie_effects cookies) ≡ None
-cookies_move_none q [] = refl
-cookies_move_none q (c ∷ cookies) = ap (λ o. option_or o None) (cookies_move_none q cookies)
+pub load_writes : (calls : List ℕ) (page : ℕ) (url : Parts) (cookies : List StoredCookie) (statuses : List LoginStatus) → filter_map written_by (load_effects calls page url cookies statuses) ≡ cookies
+load_writes calls page url cookies statuses =
+    let rest = Page page (origin_of url) ∷ (cookie_effects cookies ++ login_effects (origin_of url) statuses) in
+    filter_map-append written_by (ends_of calls) rest ∙ ap (λ xs. xs ++ filter_map written_by rest) (said_silent written_by (ends_of calls) (ends_silent written_by (λ c. refl) calls))
+    ∙ written_then cookies (login_effects (origin_of url) statuses) (silent_map written_by (Login (origin_of url)) (λ s. refl) statuses)
 
-pub cookies_are_no_records : (line : ℕ) (cookies : List StoredCookie) → records_of line (cookie_effects cookies) ≡ []
-cookies_are_no_records line [] = refl
-cookies_are_no_records line (c ∷ cookies) = cookies_are_no_records line cookies
+-- the statuses that effects of statuses set
+pub statuses_are_set : (origin : Origin) (statuses : List LoginStatus) (logins : Logins) → entries_after same_origin login_change (login_effects origin statuses) logins ≡ with_statuses origin statuses logins
+statuses_are_set origin [] logins = refl
+statuses_are_set origin (status ∷ statuses) logins = statuses_are_set origin statuses (with_status logins origin status)
 
--- ---- ends and loads
+-- cookies, and then statuses
+pub set_after : (cookies : List StoredCookie) (effects : List Effect) (logins : Logins)
+    → entries_after same_origin login_change (cookie_effects cookies ++ effects) logins ≡ entries_after same_origin login_change effects logins
+set_after cookies effects logins =
+    entries_after-append same_origin login_change (cookie_effects cookies) effects logins
+    ∙ ap (entries_after same_origin login_change effects) (entries_silent same_origin login_change (cookie_effects cookies) logins (silent_map login_change Cookie (λ c. refl) cookies))
 
-ends_pages : (calls : List ℕ) (es : List (ℕ × Origin)) → entries_after nat_eq page_change (ends_of calls) es ≡ es
-ends_pages [] es = refl
-ends_pages (c ∷ calls) es = ends_pages calls es
+pub load_sets : (calls : List ℕ) (page : ℕ) (url : Parts) (cookies : List StoredCookie) (statuses : List LoginStatus) (logins : Logins)
+    → entries_after same_origin login_change (load_effects calls page url cookies statuses) logins ≡ with_statuses (origin_of url) statuses logins
+load_sets calls page url cookies statuses logins =
+    let rest = cookie_effects cookies ++ login_effects (origin_of url) statuses in
+    entries_after-append same_origin login_change (ends_of calls) (Page page (origin_of url) ∷ rest) logins
+    ∙ ap (λ xs. entries_after same_origin login_change rest xs) (entries_silent same_origin login_change (ends_of calls) logins (ends_silent login_change (λ c. refl) calls))
+    ∙ set_after cookies (login_effects (origin_of url) statuses) logins
+    ∙ statuses_are_set (origin_of url) statuses logins
 
-pub load_pages : (calls : List ℕ) (page : ℕ) (url : Parts) (cookies : List StoredCookie) (es : List (ℕ × Origin))
-    → entries_after nat_eq page_change (load_effects calls page url cookies) es ≡ insert_entry nat_eq es page (origin_of url)
-load_pages calls page url cookies es =
-    entries_after-append nat_eq page_change (ends_of calls) (Page page (origin_of url) ∷ cookie_effects cookies) es
-    ∙ ap (λ xs. entries_after nat_eq page_change (cookie_effects cookies) (insert_entry nat_eq xs page (origin_of url))) (ends_pages calls es)
-    ∙ cookies_pages cookies (insert_entry nat_eq es page (origin_of url))
+-- ---- what a call does says of stages alone
 
-pub load_calls : (page : ℕ) (url : Parts) (cookies : List StoredCookie) (es : List (ℕ × ℕ)) → AreDistinct es
-    → entries_after nat_eq call_change (load_effects (calls_of page es) page url cookies) es ≡ others page es
-load_calls page url cookies es h =
-    entries_after-append nat_eq call_change (ends_of (calls_of page es)) (Page page (origin_of url) ∷ cookie_effects cookies) es
-    ∙ cookies_calls cookies (entries_after nat_eq call_change (ends_of (calls_of page es)) es) ∙ ended page es h
-
-pub load_begins_none : (calls : List ℕ) (page : ℕ) (url : Parts) (cookies : List StoredCookie) → filter_map begun_by (load_effects calls page url cookies) ≡ []
-load_begins_none [] page url cookies = cookies_begin_none cookies
-load_begins_none (c ∷ calls) page url cookies = load_begins_none calls page url cookies
-
-pub load_writes : (calls : List ℕ) (page : ℕ) (url : Parts) (cookies : List StoredCookie) → filter_map written_by (load_effects calls page url cookies) ≡ cookies
-load_writes [] page url cookies = cookies_are_written cookies
-load_writes (c ∷ calls) page url cookies = load_writes calls page url cookies
-
-pub load_says_no_time : (calls : List ℕ) (page : ℕ) (url : Parts) (cookies : List StoredCookie) → last_of time_of (load_effects calls page url cookies) ≡ None
-load_says_no_time [] page url cookies = ap (λ o. option_or o None) (cookies_say_no_time cookies)
-load_says_no_time (c ∷ calls) page url cookies = ap (λ o. option_or o None) (load_says_no_time calls page url cookies)
-
-pub load_is_no_record : (line : ℕ) (calls : List ℕ) (page : ℕ) (url : Parts) (cookies : List StoredCookie) → records_of line (load_effects calls page url cookies) ≡ []
-load_is_no_record line [] page url cookies = cookies_are_no_records line cookies
-load_is_no_record line (c ∷ calls) page url cookies = load_is_no_record line calls page url cookies
-
--- ---- a get begins at most its call
-
-first_begins_none : (page call : ℕ) (config : Parts) (scheme : Scheme) (wellknown : Answer Parts ProviderStep) → filter_map begun_by (by_scheme scheme call page config wellknown) ≡ []
-first_begins_none page call config Http wellknown = refl
-first_begins_none page call config Https (Err step) = refl
-first_begins_none page call config Https (Ok wellknown) = refl
-
-taken_begins_none : (rules : RuleSet) (page call : ℕ) (busy : Bool) (providers : List ProviderOptions) → filter_map begun_by (taken_get rules busy call page providers) ≡ []
-taken_begins_none rules page call true providers = refl
-taken_begins_none rules page call false [] = refl
-taken_begins_none rules page call false (provider ∷ others) = first_begins_none page call provider.config (scheme_of provider.config) (WellKnownUrlOf rules provider.config)
+-- the outcome of a call says nothing of what requests, results, reasons and moves do not say
+pub outcome_silent : {A : Type 0} (said : Effect → Option A) → ((call provider : ℕ) (ask : Ask) (cookies : List ℕ) → said (Sent call provider ask cookies) ≡ None)
+    → ((call page : ℕ) (finish : Finish) → said (Result call page finish) ≡ None) → ((why : Why) → said (Ignored why) ≡ None) → ((call : ℕ) (stage : Stage) → said (Move call stage) ≡ None)
+    → (cookies : Ask → List ℕ) (call page : ℕ) (outcome : Outcome) → AllSilent said (outcome_effects cookies call page outcome)
+outcome_silent said sent result ignored move cookies call page outcome =
+    silent_append said (filter_map (call_effect cookies call page) outcome.effects) (moves call outcome.stage)
+    (silent_call said sent result ignored cookies call page outcome.effects) (go outcome.stage)
+  where
+    go : (stage : Option Stage) → AllSilent said (moves call stage)
+    go None = tt
+    go (Some stage) = (move call stage, tt)
 
 -- effects that begin none, or this call
 abbrev pub BeginsAtMost : ℕ → List Effect → Type 0
 BeginsAtMost call effects = (filter_map begun_by effects ≡ []) ⊎ (filter_map begun_by effects ≡ call ∷ [])
 
-standing_begins : (rules : RuleSet) (trusted busy : Bool) (page call : ℕ) (providers : List ProviderOptions) → BeginsAtMost call (standing_get rules trusted busy call page providers)
-standing_begins rules false busy page call providers = inl refl
-standing_begins rules true busy page call providers = inr (ap (λ xs. call ∷ xs) (taken_begins_none rules page call busy providers))
+pub outcome_begins_none : (cookies : Ask → List ℕ) (call page : ℕ) (outcome : Outcome) → AllSilent begun_by (outcome_effects cookies call page outcome)
+outcome_begins_none cookies call page outcome =
+    outcome_silent begun_by (λ c p a k. refl) (λ c p f. refl) (λ w. refl) (λ c s. refl) cookies call page outcome
 
-pub get_begins : (rules : RuleSet) (o : Option Origin) (busy : Bool) (page call : ℕ) (options : GetOptions) → BeginsAtMost call (get_effects rules o busy call page options)
-get_begins rules None busy page call options = inl refl
-get_begins rules (Some origin) busy page call options = standing_begins rules (is_trustworthy origin) busy page call options.providers
+standing_begins : (world : World) (cookies : Ask → List ℕ) (trusted busy : Bool) (b : Begun) → BeginsAtMost b.call (standing_get world cookies trusted busy b)
+standing_begins world cookies false busy b = inl refl
+standing_begins world cookies true busy b =
+    let outcome = get_outcome world busy b.options in
+    inr (ap (λ xs. b.call ∷ xs) (said_silent begun_by (outcome_effects cookies b.call b.page outcome) (outcome_begins_none cookies b.call b.page outcome)))
+
+pub get_begins : (world : World) (cookies : Ask → List ℕ) (o : Option Origin) (busy : Bool) (page call : ℕ) (options : GetOptions) → BeginsAtMost call (get_effects world cookies o busy page call options)
+get_begins world cookies None busy page call options = inl refl
+get_begins world cookies (Some origin) busy page call options =
+    standing_begins world cookies (is_trustworthy origin) busy (record { call = call; page = page; origin = origin; options = options })
+
+pub input_begins_none : (world : World) (cookies : Ask → List ℕ) (begun : Bool) (call : ℕ) (facts : Option Facts) (input : Input) → AllSilent begun_by (input_effects world cookies begun call facts input)
+input_begins_none world cookies false call facts input = (refl, tt)
+input_begins_none world cookies true call facts input = outcome_begins_none cookies call (page_of facts) (call_row world facts input)
 
 -- ---- a call that never began is not pending
 
@@ -182,16 +216,18 @@ any_append c (x ∷ xs) ys h =
 absent_after : (c : ℕ) (effects : List Effect) (es : List (ℕ × ℕ)) → list_any (nat_eq c) (filter_map begun_by effects) ≡ false → IsAbsent c es
     → IsAbsent c (entries_after nat_eq call_change effects es)
 absent_after c [] es f h = h
-absent_after c (Time time ∷ effects) es f h = absent_after c effects es f h
-absent_after c (Page page origin ∷ effects) es f h = absent_after c effects es f h
-absent_after c (Cookie cookie ∷ effects) es f h = absent_after c effects es f h
-absent_after c (Begin call page ∷ effects) es f h =
-    let here : nat_eq c call ≡ false = grind (arith, f) in
+absent_after c (Begin b ∷ effects) es f h =
+    let here : nat_eq c b.call ≡ false = grind (arith, f) in
     let rest : list_any (nat_eq c) (filter_map begun_by effects) ≡ false = grind (arith, f) in
-    absent_after c effects (insert_entry nat_eq es call page) rest (absent_after_insert c call page es here h)
+    absent_after c effects (insert_entry nat_eq es b.call b.page) rest (absent_after_insert c b.call b.page es here h)
 absent_after c (Move call Ended ∷ effects) es f h = absent_after c effects (shift_remove_entry (nat_eq call) es) f (absent_after_remove c call es h)
 absent_after c (Move call Reading ∷ effects) es f h = absent_after c effects es f h
 absent_after c (Move call Listing ∷ effects) es f h = absent_after c effects es f h
+absent_after c (Time time ∷ effects) es f h = absent_after c effects es f h
+absent_after c (Page page origin ∷ effects) es f h = absent_after c effects es f h
+absent_after c (Closed page ∷ effects) es f h = absent_after c effects es f h
+absent_after c (Cookie cookie ∷ effects) es f h = absent_after c effects es f h
+absent_after c (Login origin status ∷ effects) es f h = absent_after c effects es f h
 absent_after c (Sent call provider ask cookies ∷ effects) es f h = absent_after c effects es f h
 absent_after c (Result call page finish ∷ effects) es f h = absent_after c effects es f h
 absent_after c (Ignored why ∷ effects) es f h = absent_after c effects es f h

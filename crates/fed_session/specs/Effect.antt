@@ -1,13 +1,15 @@
 -- What an event does.
-use Rattle.std.specs.Prelude.{ℕ, List, [], ◌∷◌, Option, Some, None}
+use Rattle.std.specs.Prelude.{ℕ, Bool, true, false, nat_eq, List, [], ◌∷◌, Option, Some, None, if◌then◌else◌}
 use Rattle.std.specs.Option.{option_or}
 use Rattle.fed_origin.specs.declared.origin.Origin.{Origin}
 use Rattle.fed_origin.specs.declared.stage.Stage.{Stage}
 use Rattle.fed_origin.specs.declared.stage.Stage.TheVariants.{Ended}
+use Rattle.fed_origin.specs.declared.status.LoginStatus.{LoginStatus}
 use Rattle.fed_jar.specs.Cookie.{StoredCookie}
-use Rattle.fed_session.specs.declared.ask.Ask.{Ask}
-use Rattle.fed_session.specs.declared.ask.Finish.{Finish}
-use Rattle.fed_session.specs.declared.ask.Why.{Why}
+use Rattle.fed_consent.specs.declared.ask.Ask.{Ask}
+use Rattle.fed_consent.specs.declared.finish.Finish.{Finish}
+use Rattle.fed_consent.specs.declared.why.Why.{Why}
+use Rattle.fed_call.specs.Begun.{Begun}
 use Rattle.fed_session.specs.Keyed.{Change}
 
 pub data Effect : Type 0 where
@@ -15,10 +17,14 @@ pub data Effect : Type 0 where
   Time : (time : ℕ) → Effect
   -- the page stands with this origin
   Page : (page : ℕ) → (origin : Origin) → Effect
+  -- the page no longer stands
+  Closed : (page : ℕ) → Effect
   -- the cookie is written
   Cookie : (cookie : StoredCookie) → Effect
-  -- the call of the page was taken
-  Begin : (call : ℕ) → (page : ℕ) → Effect
+  -- the provider's origin has this status
+  Login : (origin : Origin) → (status : LoginStatus) → Effect
+  -- the call was taken
+  Begin : (begun : Begun) → Effect
   -- the call moved
   Move : (call : ℕ) → (stage : Stage) → Effect
   -- a request of the call to a provider, with the text of its cookies
@@ -31,15 +37,22 @@ pub data Effect : Type 0 where
 -- what an effect says of pages
 abbrev pub page_change : Effect → Option (Change ℕ Origin)
 page_change (Page page origin) = Some (page, Some origin)
+page_change (Closed page) = Some (page, None)
 page_change _ = None
 
+-- what an effect says of login statuses
+abbrev pub login_change : Effect → Option (Change Origin LoginStatus)
+login_change (Login origin status) = Some (origin, Some status)
+login_change _ = None
+
+-- a call is pending until it has ended
 abbrev pub unless_ended : ℕ → Stage → Option (Change ℕ ℕ)
 unless_ended call Ended = Some (call, None)
 unless_ended call _ = None
 
 -- what an effect says of pending calls, with the pages that they are of
 abbrev pub call_change : Effect → Option (Change ℕ ℕ)
-call_change (Begin call page) = Some (call, Some page)
+call_change (Begin begun) = Some (begun.call, Some begun.page)
 call_change (Move call stage) = unless_ended call stage
 call_change _ = None
 
@@ -60,19 +73,20 @@ written_by _ = None
 
 -- the call that an effect begins
 abbrev pub begun_by : Effect → Option ℕ
-begun_by (Begin call page) = Some call
+begun_by (Begin begun) = Some begun.call
 begun_by _ = None
 
--- the stage that an effect brings
-abbrev pub moved_to : Effect → Option Stage
-moved_to (Move call stage) = Some stage
-moved_to _ = None
+-- how the call began, if an effect begins it
+abbrev pub begins : ℕ → Effect → Option Begun
+begins call (Begin begun) = if nat_eq call begun.call then Some begun else None
+begins call _ = None
+
+-- the event was not taken
+abbrev pub is_ignored : Effect → Bool
+is_ignored (Ignored why) = true
+is_ignored _ = false
 
 -- the last that effects say
 abbrev pub last_of : {A : Type 0} → (Effect → Option A) → List Effect → Option A
 last_of said [] = None
 last_of said (e ∷ es) = option_or (last_of said es) (said e)
-
--- the stage that the last move brings
-abbrev pub last_moved : List Effect → Option Stage
-last_moved effects = last_of moved_to effects

@@ -1,7 +1,7 @@
 pub mod Effect
 pub mod Keyed
+pub mod Known
 pub mod Records
-pub mod Request
 pub mod Row
 pub mod Session
 pub mod Trace

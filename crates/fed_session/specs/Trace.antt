@@ -1,15 +1,17 @@
 -- What happened in a session, and the look-backs: the last thing of a kind.
-use Rattle.std.specs.Prelude.{ℕ, Bool, nat_eq, ◌==◌, List, [], ◌∷◌, ◌++◌, filter, map, Option, None, unwrap_or}
+use Rattle.std.specs.Prelude.{ℕ, Bool, nat_eq, ◌==◌, List, [], ◌∷◌, ◌++◌, filter, map, Option, Some, None, unwrap_or}
 use Rattle.std.specs.Option.{option_or}
 use Rattle.std.specs.List.{filter_map}
 use Rattle.fed_origin.specs.declared.origin.Origin.{Origin}
 use Rattle.fed_origin.specs.declared.stage.Stage.{Stage}
+use Rattle.fed_origin.specs.Origin.{same_origin}
+use Rattle.fed_status.specs.Login.{Logins}
 use Rattle.fed_script.specs.declared.event.Event.{Event}
 use Rattle.fed_script.specs.declared.event.Header.{Header}
 use Rattle.fed_session.specs.Keyed.{Change, entries_after, last_said}
 use Rattle.fed_jar.specs.Cookie.{StoredCookie}
 use Rattle.fed_jar.specs.Writes as jar
-use Rattle.fed_session.specs.Effect.{Effect, last_of, page_change, call_change, stage_change, time_of, written_by, begun_by}
+use Rattle.fed_session.specs.Effect.{Effect, last_of, page_change, login_change, call_change, stage_change, time_of, written_by, begun_by}
 
 pub record Row : Type 0 where
   pub line : ℕ
@@ -46,13 +48,13 @@ last_in said (row ∷ rows) = option_or (last_of said row.effects) (last_in said
 abbrev pub page_at : Trace → ℕ → Option Origin
 page_at T page = last_value nat_eq page_change page T.rows
 
--- the stage of a call, where it began
-abbrev pub stage_at : Trace → ℕ → Option Stage
-stage_at T call = last_value nat_eq stage_change call T.rows
-
 -- the pages that stand
 abbrev pub pages : Trace → List (ℕ × Origin)
 pages T = standing nat_eq page_change T.rows
+
+-- the login statuses that were set, in order of first setting
+abbrev pub logins : Trace → Logins
+logins T = standing same_origin login_change T.rows
 
 -- the pending calls and their pages, in order of beginning
 abbrev pub pending : Trace → List (ℕ × ℕ)
@@ -65,6 +67,10 @@ calls_of page calls = map (λ call. call.0) (filter (λ call. call.1 == page) ca
 -- the pending calls of a page, in order of beginning
 abbrev pub pending_of : Trace → ℕ → List ℕ
 pending_of T page = calls_of page (pending T)
+
+-- the stage of a call, where it began
+abbrev pub stage_at : Trace → ℕ → Option Stage
+stage_at T call = last_value nat_eq stage_change call T.rows
 
 -- a call with its page and its stage
 abbrev pub staged_by : (ℕ → Option Stage) → ℕ × ℕ → ℕ × ℕ × Option Stage

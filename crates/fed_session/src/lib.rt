@@ -1,18 +1,19 @@
 //! One event of a session at a time.
 #![tactic(auto)]
 
-mod ask;
+mod apply;
+mod calls;
+mod get;
+mod input;
 mod load;
 mod out;
 mod page;
-mod request;
 mod session;
 #[cfg(test)]
 mod tests;
 mod view;
 
-pub use ask::{Ask, FailStep, Failure, Finish, Why};
 pub use out::Out;
-pub use page::{Page, Pending};
+pub use page::Page;
 pub use session::Session;
 pub use view::View;

@@ -1,8 +1,8 @@
 //! Records of a step.
 
-use crate::ask::{Finish, Why};
+use fed_consent::{Dialog, Finish, Why};
 use fed_io::Bytes;
-use fed_origin::ReplyKind;
+use fed_origin::{ReplyKind, WebUrl};
 
 /// A record, with the number of the line whose event it comes from.
 #[derive(Drop)]
@@ -14,6 +14,19 @@ pub enum Out {
         provider: u32,
         kind: ReplyKind,
         bytes: Bytes,
+    },
+    /// A dialog of a call is shown.
+    Dialog {
+        line: u32,
+        call: u32,
+        dialog: Dialog,
+    },
+    /// The login window of the provider at this place in the call's list opens at this URL.
+    Window {
+        line: u32,
+        call: u32,
+        provider: u32,
+        url: WebUrl,
     },
     /// What the promise of a call of the page gets.
     Answer {

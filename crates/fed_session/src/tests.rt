@@ -1,10 +1,11 @@
 //! What a session shows.
-use crate::load::{CookieSource, store_cookies};
+use crate::load::{CookieSource, take_head};
 use crate::{Session, View};
 use fed_io::Bytes;
 use fed_jar::Jar;
-use fed_origin::WebUrl;
+use fed_origin::{LoginStatus, WebUrl};
 use fed_script::Header;
+use fed_status::LoginMap;
 use fed_suffix::Suffixes;
 use std::alloc::Global;
 use std::test::Fail;
@@ -22,6 +23,14 @@ Set-Cookie: a=5; Path=/; SameSite=None; Secure\r
 \r
 ";
 
+// The last status that counts stands.
+const STATUSES: &str = "HTTP/1.1 200 OK\r
+Set-Login: logged-in\r
+Set-Login: logged-out; a\r
+Set-Login: LOGGED-IN\r
+\r
+";
+
 const OF_A_PARENT: &str = "HTTP/1.1 200 OK\r
 Set-Cookie: x=1; Domain=example.com; Path=/; SameSite=None; Secure\r
 \r
@@ -34,22 +43,23 @@ Set Cookie: b=2\r
 \r
 ";
 
-// The cookies after a load of the URL with this reply.
-fn jar_after(
+// The cookies and the statuses after a load of the URL with this reply.
+fn read_load(
     alloc: Global,
     rules: &Suffixes,
     url: &str,
     reply: Option<Bytes>,
-) -> Result<Jar, Fail> {
+) -> Result<(Jar, LoginMap), Fail> {
     let url = WebUrl::read(alloc, url)?;
     let mut jar = Jar::new(alloc);
+    let mut login = LoginMap::new(alloc);
     let source = CookieSource {
         rules,
         url: &url,
         time: NOW,
     };
-    store_cookies(alloc, &mut jar, source, &reply)?;
-    Ok(jar)
+    take_head(alloc, &mut jar, &mut login, source, &reply)?;
+    Ok((jar, login))
 }
 
 // The rules `com` and `blog.example.com`.
@@ -63,8 +73,8 @@ fn nested_rules(alloc: Global) -> Result<Suffixes, Fail> {
 // What a session shows after a load of the URL with this reply.
 fn view_after(alloc: Global, url: &str, reply: Option<Bytes>) -> Result<View, Fail> {
     let rules = nested_rules(alloc)?;
-    let jar = jar_after(alloc, &rules, url, reply)?;
-    Ok(Session::with_cookies(alloc, Header { rules, now: NOW }, jar).view()?)
+    let (jar, login) = read_load(alloc, &rules, url, reply)?;
+    Ok(Session::with_cookies(alloc, Header { rules, now: NOW }, jar, login).view()?)
 }
 
 // Each cookie as its name, value and path.
@@ -102,6 +112,24 @@ fn cookies_of_a_load_stand_in_order(rt: HostRuntime) -> Result<(), Fail> {
 fn cookies_of_a_load_stay_with_their_party(rt: HostRuntime) -> Result<(), Fail> {
     assert!(rt; shows(rt.alloc(), "https://foo.blog.example.com/", OF_A_PARENT, "")?);
     assert!(rt; shows(rt.alloc(), "https://a.example.com/", OF_A_PARENT, "x=1 /;")?);
+    Ok(())
+}
+
+// Whether the first status that a view shows is this one.
+fn is_first_status(view: &View, status: LoginStatus) -> bool {
+    match view.login.as_slice().first() {
+        Some(entry) => entry.1 == status,
+        None => false,
+    }
+}
+
+#[test]
+fn statuses_of_a_load_are_set_in_order(rt: HostRuntime) -> Result<(), Fail> {
+    let alloc = rt.alloc();
+    let raw = Bytes::of(alloc, STATUSES.as_bytes())?;
+    let view = view_after(alloc, "https://accounts.idp.example/", Some(raw))?;
+    assert_eq!(rt; view.login.len(), 1);
+    assert!(rt; is_first_status(&view, LoginStatus::LoggedOut));
     Ok(())
 }
 

@@ -3,10 +3,12 @@ ghost use Rattle.std.specs.Prelude.{◌≡◌, IfOk};
 ghost use Rattle.std.specs.List.{filter_map};
 ghost use Rattle.fed_session.specs.Session.{origins_of, shown_call};
 
-use crate::page::{Page, Pending};
+use crate::calls::Calls;
+use crate::page::Page;
 use fed_io::{Items, NoRoom};
 use fed_jar::Cookie;
 use fed_origin::{LoginStatus, Origin, Stage, Triple};
+use fed_status::LoginMap;
 use indexmap::IndexMap;
 use std::alloc::Global;
 
@@ -15,7 +17,7 @@ use std::alloc::Global;
 pub struct View {
     /// The time, in seconds since 1970.
     pub now: u64,
-    /// The login statuses of providers. No event sets one yet.
+    /// The login statuses of providers that were set.
     pub login: Items<(Origin, LoginStatus)>,
     /// The kept permissions. No event keeps one yet.
     pub kept: Items<Triple>,
@@ -27,6 +29,22 @@ pub struct View {
     pub pages: Items<(u32, Origin)>,
     /// The calls that are pending: the number, the page and the stage of each.
     pub calls: Items<(u32, u32, Stage)>,
+}
+
+/// The login statuses that were set.
+pub(crate) fn shown_logins(
+    alloc: Global,
+    login: &LoginMap,
+) -> Result<Items<(Origin, LoginStatus)>, NoRoom>
+    ensures { IfOk result (λ shown. shown ≡ login.now) }
+{
+    let mut shown = Items::new(alloc);
+    for place in 0..login.len() {
+        if let Some((origin, status)) = login.item(place) {
+            shown.push((origin.copy(alloc)?, status))?;
+        }
+    }
+    Ok(shown)
 }
 
 /// The pages with their origins.
@@ -44,16 +62,15 @@ pub(crate) fn shown_pages(
 }
 
 /// The calls that are pending.
-pub(crate) fn shown_calls(
-    alloc: Global,
-    calls: &IndexMap<u32, Option<Pending>>,
-) -> Result<Items<(u32, u32, Stage)>, NoRoom>
+pub(crate) fn shown_calls(alloc: Global, calls: &Calls) -> Result<Items<(u32, u32, Stage)>, NoRoom>
     ensures { IfOk result (λ shown. shown ≡ filter_map shown_call calls.now.entries) }
 {
     let mut shown = Items::new(alloc);
     for (number, kept) in calls.iter() {
-        if let Some(call) = kept {
-            shown.push((*number, call.page, call.stage))?;
+        if let Some(state) = &kept.state {
+            if let Some(page) = state.page() {
+                shown.push((*number, page, state.stage()))?;
+            }
         }
     }
     Ok(shown)

@@ -2,25 +2,27 @@
 use Rattle.std.proofs.Common.{◌≡◌, ℕ, ◌+◌, Bool, true, false, cond, ◌⊎◌, inl, inr, nat_eq, List, [], ◌∷◌, ◌++◌, Some, None, Ok, Err, refl, sym, ap, subst, ◌∙◌, arith, append-nil}
 use Rattle.std.proofs.lemmas.List.Folds.{list_any-append}
 use Rattle.std.specs.List.{list_any, filter_map}
-use Rattle.std.specs.Prelude.{Option, Result}
+use Rattle.std.specs.Prelude.{Option, Result, IfOk}
 use Rattle.fed_script.specs.declared.cause.LineCause.{LineCause}
 use Rattle.fed_script.specs.declared.event.Event.{Event}
 use Rattle.fed_script.specs.declared.event.Event.TheVariants as events
-use Rattle.fed_script.specs.declared.event.Event.TheVariants.{At, Load, Get}
+use Rattle.fed_script.specs.declared.event.Event.TheVariants.{Get}
 use Rattle.fed_script.specs.declared.event.Header.{Header}
 use Rattle.fed_script.specs.declared.cause.LineCause.TheVariants.{NotJson}
 use Rattle.fed_script.specs.Line.{event_of, header_of}
-use Rattle.fed_script.specs.Script.{Numbered, events_of, after_line as further_after, is_blank, first_line, lines_of, script_of_lines, script_after, ended_by}
+use Rattle.fed_script.specs.Script.{Numbered, events_of, no_events, after_line as further_after, is_blank, first_line, lines_of, script_of_lines, script_after, ended_by}
 use Rattle.fed_script.specs.Used.{UsedState, used_after, unused}
 use Rattle.fed_session.specs.Effect.{begun_by}
-use Rattle.fed_session.specs.Row.{with_event, effects_of, is_busy, cookies_from, have_cookies, set_cookies}
+use Rattle.fed_session.specs.Known.{world_at}
+use Rattle.fed_session.specs.Row.{with_event, effects_of, cookies_with, is_busy}
 use Rattle.fed_session.specs.Session.{State, Stands}
-use Rattle.fed_session.specs.Trace.{Trace, begun, page_at, pending, pending_of, now_at}
-use Rattle.fed_session.proofs.PendingLemmas.{load_begins_none, cookies_begin_none, get_begins, any_append}
-use Rattle.fed_session.proofs.CallsLemmas.{absent_from_numbers}
+use Rattle.fed_session.specs.Trace.{Trace, begun, page_at, pending}
+use Rattle.fed_session.proofs.CallsLemmas.{absent_from_numbers, begins_none}
+use Rattle.fed_session.proofs.PendingLemmas.{get_begins, any_append}
 use Rattle.fedcm.specs.declared.status.Status.TheVariants.{BadScript}
-use Rattle.fedcm.specs.Run.{IsAt, Follows, Outcome, outcome, after_read, after_line, used_after_read, used_after_line, cause_of, line_cause, bad_text, rows_text, run_text, text_of, outcome_by, with_events, start}
-use Rattle.fedcm.specs.Text.{line_of, bad_data}
+use Rattle.fedcm.specs.Run.{IsAt, GoesAs, Follows, Outcome, last_written, outcome, after_read, after_line, used_after_read, used_after_line, cause_of, line_cause, bad_text, rows_text, run_text, script_text, outcome_by, with_events, start}
+use Rattle.fed_print.specs.Lines.{line_of}
+use Rattle.fedcm.specs.Text.{bad_members}
 
 -- ---- what was read and what was taken
 
@@ -31,6 +33,10 @@ follows session used written T at =
       steps = omega (arith, steps, at.count);
       fresh = λ call h. absent_from_numbers call session.calls (ap (list_any (nat_eq call)) at.stands.taken ∙ at.fresh call h);
     }
+
+-- before the first event
+pub starts : (header : Header) {session : State} {used : UsedState} → Stands session (start header) → used ≡ unused header.now → IsAt session used [] (start header)
+starts header stands used_is = record { stands = stands; text = refl; count = ap (λ u. u.events) used_is; fresh = λ call h. refl }
 
 -- what is unused began in no row
 abbrev IsUntaken : List ℕ → List ℕ → Type 0
@@ -49,13 +55,15 @@ untaken_same calls taken begins none h call unused =
     ap (λ xs. list_any (nat_eq call) (taken ++ xs)) none ∙ ap (list_any (nat_eq call)) (append-nil taken) ∙ h call unused
 
 pub untaken_after : (T : Trace) (line : ℕ) (event : Event) (used : UsedState) → IsUntaken used.calls (begun T.rows) → IsUntaken (used_after event used).calls (begun (with_event T line event).rows)
-untaken_after T line (events.Have have) used h =
-    untaken_same used.calls (begun T.rows) _ (cookies_begin_none (have_cookies T.header.rules (now_at T) have)) h
-untaken_after T line (At time) used h = untaken_same used.calls (begun T.rows) [] refl h
-untaken_after T line (Load page url raw) used h =
-    untaken_same used.calls (begun T.rows) _ (load_begins_none (pending_of T page) page url (cookies_from T.header.rules url (now_at T) (set_cookies raw))) h
 untaken_after T line (Get page c options) used h =
-    untaken_push used.calls (begun T.rows) (filter_map begun_by (effects_of T (Get page c options))) c h (get_begins T.header.rules (page_at T page) (is_busy page (pending T)) page c options)
+    untaken_push used.calls (begun T.rows) (filter_map begun_by (effects_of T (Get page c options))) c h (get_begins (world_at T) (cookies_with T) (page_at T page) (is_busy page (pending T)) page c options)
+untaken_after T line (events.Have have) used h = untaken_same used.calls (begun T.rows) _ (begins_none T (events.Have have) refl) h
+untaken_after T line (events.At time) used h = untaken_same used.calls (begun T.rows) _ (begins_none T (events.At time) refl) h
+untaken_after T line (events.Load page url raw) used h = untaken_same used.calls (begun T.rows) _ (begins_none T (events.Load page url raw) refl) h
+untaken_after T line (events.ClosePage page) used h = untaken_same used.calls (begun T.rows) _ (begins_none T (events.ClosePage page) refl) h
+untaken_after T line (events.Abort call) used h = untaken_same used.calls (begun T.rows) _ (begins_none T (events.Abort call) refl) h
+untaken_after T line (events.Reply call provider kind raw) used h = untaken_same used.calls (begun T.rows) _ (begins_none T (events.Reply call provider kind raw) refl) h
+untaken_after T line (events.SetStatus page status) used h = untaken_same used.calls (begun T.rows) _ (begins_none T (events.SetStatus page status) refl) h
 
 -- an event more
 pub at_after : (session session' : State) (used used' : UsedState) (written written' : List ℕ) (T : Trace) (n : ℕ) (line : List ℕ) (event : Event)
@@ -112,26 +120,86 @@ bad_leaves T n cause false (Err found) bad = refl
 pub after_bad : (T : Trace) (used : UsedState) (n : ℕ) (line : List ℕ) (cause : LineCause) → line_cause used line ≡ Some cause → after_line T used n line ≡ T
 after_bad T used n line cause bad = bad_leaves T n cause (is_blank line) (event_of line used) bad
 
+-- ---- a session goes as the whole run does
+
+-- by a line that is not bad
+pub goes_on_as : {session session' : State} {used used' : UsedState} {written written' : List ℕ} {whole : Outcome} {cause : Option LineCause} (n : ℕ) (rest line further : List ℕ)
+    → cause ≡ line_cause used line → cause ≡ None → used' ≡ used_after_line used line
+    → ((T : Trace) → IsAt session used written T → IsAt session' used' written' (after_line T used n line))
+    → lines_of rest ≡ line ∷ lines_of further
+    → GoesAs session used written (events_of used n (lines_of rest)) whole
+    → GoesAs session' used' written' (events_of used' (n + 1) (lines_of further)) whole
+goes_on_as {used = used} n rest line further reads good used_is taken lines before =
+    let T = before.trace in
+    record {
+      trace = after_line T used n line;
+      at = taken T before.at;
+      same = ap (λ u. outcome (after_line T used n line) (events_of u (n + 1) (lines_of further))) used_is
+          ∙ goes_on T used n line (lines_of further) (sym reads ∙ good)
+          ∙ ap (λ ls. outcome T (events_of used n ls)) (sym lines)
+          ∙ before.same;
+    }
+
+-- at a bad line
+pub stops_as : {session session' : State} {used used' : UsedState} {written written' : List ℕ} {whole : Outcome} {found : Option LineCause} (n : ℕ) (rest line further : List ℕ) (cause : LineCause)
+    → found ≡ line_cause used line → found ≡ Some cause
+    → ((T : Trace) → IsAt session used written T → IsAt session' used' written' (after_line T used n line))
+    → lines_of rest ≡ line ∷ lines_of further
+    → GoesAs session used written (events_of used n (lines_of rest)) whole
+    → GoesAs session' used' written' (no_events (Some (n, cause))) whole
+stops_as {used = used} n rest line further cause reads bad taken lines before =
+    let T = before.trace in
+    let is : line_cause used line ≡ Some cause = sym reads ∙ bad in
+    record {
+      trace = after_line T used n line;
+      at = taken T before.at;
+      same = ap (λ T. stopped T n cause) (after_bad T used n line cause is)
+          ∙ sym (stops T used n line (lines_of further) cause is)
+          ∙ ap (λ ls. outcome T (events_of used n ls)) (sym lines)
+          ∙ before.same;
+    }
+
+-- without a line
+pub ends_as : {session : State} {used : UsedState} {written : List ℕ} {whole : Outcome} (n : ℕ) (rest : List ℕ) → first_line rest ≡ None
+    → GoesAs session used written (events_of used n (lines_of rest)) whole
+    → GoesAs session used written (no_events None) whole
+ends_as {used = used} n rest none before =
+    record {
+      trace = before.trace;
+      at = before.at;
+      same = ap (λ ls. outcome before.trace (events_of used n ls)) (sym (no_line rest none)) ∙ before.same;
+    }
+
+-- what follows of each answer follows of what is answered
+pub each_ok : {A E : Type 0} (P Q : A → Type 0) (r : Result A E) → ((x : A) → P x → Q x) → IfOk r P → IfOk r Q
+each_ok P Q (Ok x) follows so = follows x so
+each_ok P Q (Err e) follows so = tt
+
+-- what is written at the end is what the whole run writes
+pub written_as : {session : State} {used : UsedState} {written : List ℕ} {whole : Outcome} (bad : Option (ℕ × LineCause)) → GoesAs session used written (no_events bad) whole
+    → last_written written used.events bad ≡ whole
+written_as bad goes = rw (goes.at.text, goes.at.count) goes.same
+
 -- ---- the whole text
 
 -- without a line
-pub run_text-no_line : (bytes : List ℕ) → lines_of bytes ≡ [] → run_text bytes ≡ line_of (bad_data 1 NotJson)
-unfolding text_of
-run_text-no_line bytes none = ap (λ lines. text_of (script_of_lines lines)) none
+pub run_text-no_line : (bytes : List ℕ) → lines_of bytes ≡ [] → run_text bytes ≡ line_of (bad_members 1 NotJson)
+unfolding script_text
+run_text-no_line bytes none = ap (λ lines. script_text (script_of_lines lines)) none
 
 -- with a bad header
-pub run_text-bad_header : (bytes line : List ℕ) (rest : List (List ℕ)) (cause : LineCause) → lines_of bytes ≡ line ∷ rest → header_of line ≡ Err cause → run_text bytes ≡ line_of (bad_data 1 cause)
-unfolding text_of
-run_text-bad_header bytes line rest cause lines reads = ap (λ lines. text_of (script_of_lines lines)) lines ∙ ap (λ h. text_of (script_after h rest)) reads
+pub run_text-bad_header : (bytes line : List ℕ) (rest : List (List ℕ)) (cause : LineCause) → lines_of bytes ≡ line ∷ rest → header_of line ≡ Err cause → run_text bytes ≡ line_of (bad_members 1 cause)
+unfolding script_text
+run_text-bad_header bytes line rest cause lines reads = ap (λ lines. script_text (script_of_lines lines)) lines ∙ ap (λ h. script_text (script_after h rest)) reads
 
-text_of-ended_by : (header : Header) (good : List Numbered) (bad : Option (ℕ × LineCause)) → text_of (ended_by header good bad) ≡ (outcome_by (with_events (start header) good) bad).text
-unfolding text_of
-text_of-ended_by header good None = refl
-text_of-ended_by header good (Some bad) = refl
+script_text-ended_by : (header : Header) (good : List Numbered) (bad : Option (ℕ × LineCause)) → script_text (ended_by header good bad) ≡ (outcome_by (with_events (start header) good) bad).text
+unfolding script_text
+script_text-ended_by header good None = refl
+script_text-ended_by header good (Some bad) = refl
 
 -- with a header and the events after it
 pub run_text-header : (bytes line : List ℕ) (rest : List (List ℕ)) (header : Header) → lines_of bytes ≡ line ∷ rest → header_of line ≡ Ok header
     → run_text bytes ≡ (outcome (start header) (events_of (unused header.now) 2 rest)).text
 run_text-header bytes line rest header lines reads =
     let found = events_of (unused header.now) 2 rest in
-    ap (λ lines. text_of (script_of_lines lines)) lines ∙ ap (λ h. text_of (script_after h rest)) reads ∙ text_of-ended_by header found.good found.bad
+    ap (λ lines. script_text (script_of_lines lines)) lines ∙ ap (λ h. script_text (script_after h rest)) reads ∙ script_text-ended_by header found.good found.bad

@@ -1,5 +1,5 @@
 -- What `run` writes, and how it ends.
-use Rattle.std.specs.Prelude.{◌≡◌, ℕ, ◌+◌, ◌-◌, ◌^◌, ◌<◌, nat_lt, List, [], ◌∷◌, ◌++◌, false, length, flat_map, Option, Some, None, Result, Ok, Err, if◌then◌else◌}
+use Rattle.std.specs.Prelude.{◌≡◌, ℕ, ◌+◌, ◌-◌, ◌^◌, ◌<◌, nat_lt, List, [], ◌∷◌, ◌++◌, false, length, Option, Some, None, Result, Ok, Err, if◌then◌else◌}
 use Rattle.std.specs.List.{list_any}
 use Rattle.std.specs.Prelude.{nat_eq}
 use Rattle.std.specs.Map.{lookup}
@@ -16,12 +16,13 @@ use Rattle.fed_session.specs.Session.{State, Stands}
 use Rattle.fed_session.specs.Trace.{Row, Trace, begun}
 use Rattle.fedcm.specs.declared.status.Status.{Status}
 use Rattle.fedcm.specs.declared.status.Status.TheVariants.{Done, BadScript, TooLong}
-use Rattle.fedcm.specs.Text.{line_of, record_data, end_data, bad_data}
+use Rattle.fed_print.specs.Lines.{line_of, text_of}
+use Rattle.fedcm.specs.Text.{bad_members, end_members}
 
 -- the lines of the records of the rows, of which the newest comes first
 abbrev pub rows_text : List Row → List ℕ
 rows_text [] = []
-rows_text (row ∷ rows) = rows_text rows ++ flat_map (λ out. line_of (record_data out)) (records row)
+rows_text (row ∷ rows) = rows_text rows ++ text_of (records row)
 
 -- the trace with these events more
 abbrev pub with_events : Trace → List Numbered → Trace
@@ -38,25 +39,25 @@ trace_of script = with_events (start script.header) script.events
 
 -- what is written of a trace, and of its end
 abbrev pub ended_text : Trace → List ℕ
-ended_text T = rows_text T.rows ++ line_of (end_data (length T.rows))
+ended_text T = rows_text T.rows ++ line_of (end_members (length T.rows))
 
 -- what is written of a trace, and of the bad line after it
 abbrev pub bad_text : Trace → ℕ → LineCause → List ℕ
-bad_text T line cause = rows_text T.rows ++ line_of (bad_data line cause)
+bad_text T line cause = rows_text T.rows ++ line_of (bad_members line cause)
 
 -- what is written of what was read before a bad line, and of that line
 abbrev pub stop_text : Option Header → List Numbered → ℕ → LineCause → List ℕ
-stop_text None events line cause = line_of (bad_data line cause)
+stop_text None events line cause = line_of (bad_members line cause)
 stop_text (Some header) events line cause = bad_text (with_events (start header) events) line cause
 
 -- what is written of a script, or of what stands in its place
-unfoldable pub text_of : Result Script Stop → List ℕ
-text_of (Ok script) = ended_text (trace_of script)
-text_of (Err stop) = stop_text stop.header stop.events stop.line stop.cause
+unfoldable pub script_text : Result Script Stop → List ℕ
+script_text (Ok script) = ended_text (trace_of script)
+script_text (Err stop) = stop_text stop.header stop.events stop.line stop.cause
 
 -- the text that a run writes for the bytes that it reads
 abbrev pub run_text : List ℕ → List ℕ
-run_text bytes = text_of (script_of bytes)
+run_text bytes = script_text (script_of bytes)
 
 -- how a run ends for what it reads
 abbrev pub script_status : Result Script Stop → Status
@@ -82,10 +83,14 @@ pub record Outcome : Type 0 where
   pub text : List ℕ
   pub status : Status
 
+-- what is written of the end, after so many events, or of a bad line
+abbrev pub last_written : List ℕ → ℕ → Option (ℕ × LineCause) → Outcome
+last_written written events None = record { text = written ++ line_of (end_members events); status = Done }
+last_written written events (Some bad) = record { text = written ++ line_of (bad_members bad.0 bad.1); status = BadScript }
+
 -- a trace that ends, or that a bad line follows
 abbrev pub outcome_by : Trace → Option (ℕ × LineCause) → Outcome
-outcome_by T None = record { text = ended_text T; status = Done }
-outcome_by T (Some bad) = record { text = bad_text T bad.0 bad.1; status = BadScript }
+outcome_by T bad = last_written (rows_text T.rows) (length T.rows) bad
 
 -- a trace that goes on with what further lines are read as
 abbrev pub outcome : Trace → Events → Outcome
@@ -97,6 +102,12 @@ pub record IsAt (session : State) (used : UsedState) (written : List ℕ) (T : T
   pub text : written ≡ rows_text T.rows
   pub count : used.events ≡ length T.rows
   pub fresh : (call : ℕ) → list_any (nat_eq call) used.calls ≡ false → list_any (nat_eq call) (begun T.rows) ≡ false
+
+-- The session is at a trace that goes on with further events, and ends, as the whole run does.
+pub record GoesAs (session : State) (used : UsedState) (written : List ℕ) (further : Events) (whole : Outcome) : Type 0 where
+  pub trace : Trace
+  pub at : IsAt session used written trace
+  pub same : outcome trace further ≡ whole
 
 -- a session that has taken no more steps and calls than were read
 pub record Follows (session : State) (used : UsedState) : Type 0 where

@@ -1,6 +1,8 @@
 //! The browser's part in federated sign-in, as a program: it reads a session script and writes its transcript.
 #![tactic(auto)]
 
+#[cfg(test)]
+mod call_tests;
 mod print;
 mod program;
 mod read;

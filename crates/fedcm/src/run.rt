@@ -1,14 +1,15 @@
 //! Running a script.
-ghost use Rattle.std.specs.Prelude.{◌≡◌, ◌<◌, ◌+◌, ◌^◌, length, IfOk, OnOk, None};
-ghost use Rattle.fed_script.specs.Script.{lines_of, events_of, script_of};
-ghost use Rattle.fed_script.specs.Used.{unused, HasOneProvider};
+ghost use Rattle.std.specs.Prelude.{◌≡◌, ◌<◌, ◌+◌, ◌^◌, length, [], IfOk, OnOk, None};
+ghost use Rattle.fed_script.specs.Script.{lines_of, events_of, no_events, script_of};
+ghost use Rattle.fed_script.specs.Used.{unused, HasOneProvider, HasKnownStatus};
 ghost use Rattle.fed_session.specs.Row.{with_event};
 ghost use Rattle.fed_session.specs.Session.{Stands, IsFresh};
 ghost use Rattle.fed_session.specs.Trace.{Trace};
-ghost use Rattle.fedcm.specs.Text.{line_of, bad_data};
-ghost use Rattle.fedcm.specs.Run.{run_text, rows_text, outcome, start, IsAt, Follows, after_line, used_after_line, line_cause, script_status};
+ghost use Rattle.fed_print.specs.Lines.{line_of};
+ghost use Rattle.fedcm.specs.Text.{bad_members};
+ghost use Rattle.fedcm.specs.Run.{run_text, rows_text, outcome, last_written, start, IsAt, GoesAs, Follows, after_line, used_after_line, line_cause, script_status};
 
-use crate::print::{print, print_bad, print_end};
+use crate::print::{print_all, print_bad, print_end};
 use crate::status::Status;
 use fed_io::{Fault, NoRoom, Steps};
 use fed_script::{Event, Header, LineCause, Used, is_blank, next_line, read_event, read_header};
@@ -35,11 +36,12 @@ fn take_event<L: Ledger>(
     requires few { session.old.steps < 1000000 }
     requires fresh { IsFresh session.old event.now }
     requires providers { HasOneProvider event.now }
+    requires status { HasKnownStatus event.now }
     ensures { OnOk result ((T : Trace) → Stands session.old T → text.old.items ≡ rows_text T.rows
         → Stands session.new (with_event T number event.now) × (text.new.items ≡ rows_text (with_event T number event.now).rows)) }
 {
     let outs = session.step(number, event, steps)?;
-    print(alloc, outs.as_slice(), text)
+    print_all(alloc, outs.as_slice(), text)
 }
 
 // Takes a line, and answers why it is bad, if it is.
@@ -71,6 +73,78 @@ fn take_line<L: Ledger>(
     }
 }
 
+// Takes the lines after a header up to the first bad one, and answers that one's number and cause.
+fn take_lines<L: Ledger>(
+    alloc: Global,
+    session: &mut Session,
+    used: &mut Used,
+    text: &mut Vec<u8>,
+    steps: &mut Steps<L>,
+    lines: &[u8],
+) -> Result<Option<(u32, LineCause)>, NoRoom>
+    requires few { length lines.now < 2 ^ 31 }
+    requires at { (T : Trace) × IsAt session.old used.old text.old.items T }
+    ensures { IfOk result (λ bad. (T : Trace) → IsAt session.old used.old text.old.items T
+        → GoesAs session.new used.new text.new.items (no_events bad) (outcome T (events_of used.old 2 (lines_of lines.now)))) }
+{
+    let mut number: u32 = 2;
+    let mut rest = lines;
+    while let Some((line, further)) = next_line(rest) {
+        match take_line(alloc, session, used, text, steps, number, line)? {
+            None => {}
+            Some(cause) => return Ok(Some((number, cause))),
+        }
+        rest = further;
+        number += 1;
+    }
+    Ok(None)
+}
+
+// The record of the end after what is written: of the first bad line, or of so many events.
+fn print_last(
+    alloc: Global,
+    events: u32,
+    bad: Option<(u32, LineCause)>,
+    mut text: Vec<u8>,
+) -> Result<Ran, NoRoom>
+    ensures { IfOk result (λ ran. record { text = ran.text.items; status = ran.status } ≡ last_written text.items events bad) }
+{
+    match bad {
+        Some((number, cause)) => {
+            print_bad(alloc, number, cause, &mut text)?;
+            Ok(Ran {
+                text,
+                status: Status::BadScript,
+            })
+        }
+        None => {
+            print_end(alloc, events, &mut text)?;
+            Ok(Ran {
+                text,
+                status: Status::Done,
+            })
+        }
+    }
+}
+
+// The lines after a header, from a session on that wrote nothing: all that is written, and how the run ends.
+fn run_lines<L: Ledger>(
+    alloc: Global,
+    session: &mut Session,
+    used: &mut Used,
+    lines: &[u8],
+    steps: &mut Steps<L>,
+) -> Result<Ran, NoRoom>
+    requires few { length lines.now < 2 ^ 31 }
+    requires at { (T : Trace) × IsAt session.old used.old [] T }
+    ensures { IfOk result (λ ran. (T : Trace) → IsAt session.old used.old [] T
+        → record { text = ran.text.items; status = ran.status } ≡ outcome T (events_of used.old 2 (lines_of lines.now))) }
+{
+    let mut text = Vec::new(alloc);
+    let bad = take_lines(alloc, session, used, &mut text, steps, lines)?;
+    print_last(alloc, used.events(), bad, text)
+}
+
 // The lines after a header: all that is written, and how the run ends.
 fn run_events<L: Ledger>(
     alloc: Global,
@@ -83,41 +157,12 @@ fn run_events<L: Ledger>(
 {
     let mut used = Used::new(alloc, header.now);
     let mut session = Session::new(alloc, header)?;
-    let mut text = Vec::new(alloc);
-    let mut number: u32 = 2;
-    let mut rest = lines;
-    while let Some((line, further)) = next_line(rest) {
-        match take_line(
-            alloc,
-            &mut session,
-            &mut used,
-            &mut text,
-            steps,
-            number,
-            line,
-        )? {
-            None => {}
-            Some(cause) => {
-                print_bad(alloc, number, cause, &mut text)?;
-                return Ok(Ran {
-                    text,
-                    status: Status::BadScript,
-                });
-            }
-        }
-        rest = further;
-        number += 1;
-    }
-    print_end(alloc, used.events(), &mut text)?;
-    Ok(Ran {
-        text,
-        status: Status::Done,
-    })
+    run_lines(alloc, &mut session, &mut used, lines, steps)
 }
 
 // What is written where line 1 is bad.
 fn no_header(alloc: Global, cause: LineCause) -> Result<Ran, NoRoom>
-    ensures { IfOk result (λ ran. (ran.text.items ≡ line_of (bad_data 1 cause)) × (ran.status ≡ Status.BadScript)) }
+    ensures { IfOk result (λ ran. (ran.text.items ≡ line_of (bad_members 1 cause)) × (ran.status ≡ Status.BadScript)) }
 {
     let mut text = Vec::new(alloc);
     print_bad(alloc, 1, cause, &mut text)?;

@@ -7,17 +7,17 @@ use std::marker::Brand;
 use std::sync::ledger::{Blank, Ledger};
 use std::test::Fail;
 
-const HEADER: &str = "{\"fedcm\":1,\"now\":1700000000,\"rules\":\"\"}\n";
+pub const HEADER: &str = "{\"fedcm\":1,\"now\":1700000000,\"rules\":\"\"}\n";
 
-const LOAD: &str = "{\"do\":\"load\",\"page\":1,\"url\":\"https://rp.example/\"}\n";
+pub const LOAD: &str = "{\"do\":\"load\",\"page\":1,\"url\":\"https://rp.example/\"}\n";
 
-const GET: &str =
+pub const GET: &str =
     "{\"do\":\"get\",\"page\":1,\"call\":1,\"providers\":[{\"config\":\"https://accounts.idp.example/fedcm.json\",\"client\":\"c1\",\"nonce\":\"n1\"}]}\n";
 
-const WELL_KNOWN: &str =
+pub const WELL_KNOWN: &str =
     "{\"call\":1,\"kind\":\"wellknown\",\"line\":3,\"out\":\"request\",\"provider\":0,\"text\":\"GET /.well-known/web-identity HTTP/1.1\\r\\nHost: idp.example\\r\\nAccept: application/json\\r\\nSec-Fetch-Dest: webidentity\\r\\n\\r\\n\"}\n";
 
-const CONFIG: &str =
+pub const CONFIG: &str =
     "{\"call\":1,\"kind\":\"config\",\"line\":3,\"out\":\"request\",\"provider\":0,\"text\":\"GET /fedcm.json HTTP/1.1\\r\\nHost: accounts.idp.example\\r\\nAccept: application/json\\r\\nSec-Fetch-Dest: webidentity\\r\\n\\r\\n\"}\n";
 
 // The pieces, joined.
@@ -72,7 +72,7 @@ fn ran(
 }
 
 // Whether the words and the script give this status and transcript.
-fn gives(
+pub fn gives(
     alloc: Global,
     words: &[&str],
     script: &[&str],

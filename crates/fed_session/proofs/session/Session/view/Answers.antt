@@ -8,9 +8,9 @@ returns-clause-shows c = λ T h.
     let stands = subst (λ (s : State). Stands s T) (sym c.self.view_is) h in
     record {
       now = stands.time;
-      login = c.new.ensures;
-      kept = c.new-2.ensures;
-      silent = c.new-3.ensures;
+      login = c.in_ok-shown_logins.ensures ∙ stands.login;
+      kept = c.new.ensures;
+      silent = c.new-2.ensures;
       cookies = c.from_vec.ensures ∙ c.in_ok-list.ensures.value ∙ stands.cookies;
       pages = c.in_ok-shown_pages.ensures ∙ stands.pages;
       calls = ap (map with_stage) c.in_ok-shown_calls.ensures ∙ shown _ T stands;

@@ -1,0 +1,14 @@
+//! Transcript lines: the records of a step as JSON text.
+#![tactic(auto)]
+
+mod answers;
+mod ascii;
+mod dialogs;
+mod object;
+mod records;
+#[cfg(test)]
+mod tests;
+mod words;
+
+pub use object::Object;
+pub use records::print;

@@ -1,0 +1,26 @@
+-- What lines of the kinds that have one member are read as.
+use Rattle.std.specs.Prelude.{Result, Ok}
+use Rattle.serde_json.specs.Data.{Data}
+use Rattle.fed_script.specs.declared.cause.LineCause.{LineCause}
+use Rattle.fed_script.specs.declared.cause.MemberName.TheVariants as names
+use Rattle.fed_script.specs.declared.event.Event.{Event}
+use Rattle.fed_script.specs.declared.event.Event.TheVariants.{At, ClosePage, Abort}
+use Rattle.fed_script.specs.Member.{◌>>=◌, required, as_whole, as_u32}
+
+-- the time that a line names
+abbrev pub at_of : Data → Result Event LineCause
+at_of d = do
+  time ← required as_whole names.Time d
+  Ok (At time)
+
+-- the page that a line closes
+abbrev pub closepage_of : Data → Result Event LineCause
+closepage_of d = do
+  page ← required as_u32 names.Page d
+  Ok (ClosePage page)
+
+-- the call that a line aborts
+abbrev pub abort_of : Data → Result Event LineCause
+abort_of d = do
+  call ← required as_u32 names.Call d
+  Ok (Abort call)

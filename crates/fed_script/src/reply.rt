@@ -1,0 +1,60 @@
+//! Lines of the kind `reply`.
+ghost use Rattle.std.specs.Prelude.{◌≡◌};
+ghost use Rattle.serde_json.specs.View.{view};
+ghost use Rattle.fed_io.specs.Fault.{Answers};
+ghost use Rattle.fed_script.specs.Member.{required, as_word};
+ghost use Rattle.fed_script.specs.Reply as spec;
+ghost use Rattle.fed_script.specs.declared.cause.MemberName.TheVariants as names;
+
+use crate::cause::{LineCause, MemberName};
+use crate::event::Event;
+use crate::member::{member, number, optional_number};
+use crate::raw::required_bytes;
+use fed_io::Fault;
+use fed_origin::ReplyKind;
+use serde_json::Value;
+use std::alloc::Global;
+
+// The kind of reply that a word stands for.
+fn reply_kind(word: &str) -> Option<ReplyKind>
+    ensures { result ≡ spec.reply_kind word.now }
+{
+    match word {
+        "wellknown" => Some(ReplyKind::WellKnown),
+        "config" => Some(ReplyKind::Config),
+        _ => None,
+    }
+}
+
+// The kind of reply that a value names.
+fn as_kind(found: &Value) -> Option<ReplyKind>
+    ensures { result ≡ as_word spec.reply_kind (view found.now) }
+{
+    reply_kind(found.as_str()?)
+}
+
+// The member `to`.
+fn kind(d: &Value) -> Result<ReplyKind, LineCause>
+    ensures { result ≡ required (as_word spec.reply_kind) names.To (view d.now) }
+{
+    let Some(found) = member(d, MemberName::To) else {
+        return Err(LineCause::Member(MemberName::To));
+    };
+    as_kind(found).ok_or(LineCause::Member(MemberName::To))
+}
+
+/// The reply that a line names.
+pub(crate) fn reply(alloc: Global, d: &Value) -> Result<Event, Fault<LineCause>>
+    ensures { Answers result (spec.reply_of (view d.now)) }
+{
+    let call = number(d, MemberName::Call).map_err(Fault::Step)?;
+    let provider = optional_number(d, MemberName::Provider).map_err(Fault::Step)?;
+    let kind = kind(d).map_err(Fault::Step)?;
+    let raw = required_bytes(alloc, d)?;
+    Ok(Event::Reply {
+        call,
+        provider: provider.unwrap_or(0),
+        kind,
+        raw,
+    })
+}

@@ -1,0 +1,555 @@
+-- What an input of a call owes to the trace.
+use Rattle.std.proofs.Common.{◌≡◌, ℕ, Bool, true, false, not, nat_eq, ◌==◌, ◌+◌, ◌||◌, ◌&&◌, ◌⊎◌, inl, inr, List, [], ◌∷◌, ◌++◌, Some, None, map, refl, sym, ap, subst, ◌∙◌, arith, cond, append-nil}
+use Rattle.std.proofs.lemmas.Bool.Decides.{nat_tests}
+use Rattle.std.specs.Prelude.{Option, filter, is_some, option_map, option_and_then, unwrap_or}
+use Rattle.std.specs.Option.{option_to_list, option_map_or, option_or}
+use Rattle.std.specs.Map.{lookup, set_value}
+use Rattle.std.specs.List.{filter_map, list_any}
+use Rattle.indexmap.specs.IndexMap.{shift_remove_entry}
+use Rattle.fed_origin.specs.declared.stage.ReplyKind.{ReplyKind}
+use Rattle.fed_origin.specs.declared.stage.ReplyKind.TheVariants as kinds
+use Rattle.fed_origin.specs.declared.stage.Stage.{Stage}
+use Rattle.fed_origin.specs.declared.stage.Stage.TheVariants.{Reading, Listing, Ended}
+use Rattle.fed_origin.specs.Origin.{same_origin}
+use Rattle.fed_jar.specs.Cookie.{StoredCookie, cookies_after}
+use Rattle.fed_jar.specs.Send.{jar_text}
+use Rattle.fed_jar.specs.Writes as jar
+use Rattle.fed_suffix.specs.Rule.{RuleSet}
+use Rattle.fed_status.specs.Shared.{World, world_of}
+use Rattle.fed_consent.specs.declared.ask.Ask.{Ask}
+use Rattle.fed_consent.specs.declared.ask.Ask.TheVariants as asks
+use Rattle.fed_consent.specs.declared.effect.Effect.{Effect as CallEffect}
+use Rattle.fed_consent.specs.declared.effect.Effect.TheVariants as does
+use Rattle.fed_consent.specs.declared.input.Input.{Input}
+use Rattle.fed_consent.specs.declared.input.Input.TheVariants as inputs
+use Rattle.fed_consent.specs.declared.why.Why.{Why}
+use Rattle.fed_consent.specs.declared.why.Why.TheVariants.{NoCall, CallEnded}
+use Rattle.fed_call.specs.Facts as call_facts
+use Rattle.fed_call.specs.Facts.{Facts, Outcome, at_stage, with_input, facts_after, next_facts}
+use Rattle.fed_call.specs.Row.{call_row}
+use Rattle.fed_script.specs.declared.event.Event.{Event}
+use Rattle.fed_script.specs.declared.event.Event.TheVariants as events
+use Rattle.fed_session.specs.declared.apply.Sight.{Sight}
+use Rattle.fed_session.specs.declared.page.Page as kept
+use Rattle.fed_session.specs.Effect.{Effect, Ignored, last_of, page_change, login_change, call_change, stage_change, begun_by, begins, written_by, time_of, is_ignored}
+use Rattle.fed_session.specs.Keyed.{entries_after, last_said}
+use Rattle.fed_session.specs.Known.{world_at, is_begun, input_to, with_said, known_in, facts_by, facts_at}
+use Rattle.fed_session.specs.Records.{records_of}
+use Rattle.fed_session.specs.Row.{effects_of, with_event, cookies_with, call_effect, outcome_effects, moves, input_effects, page_of}
+use Rattle.fed_session.specs.Session.{State, Stands, Brings, origins_of, get_of, numbers_of, pending_call, pending_calls, kept_at, world_kept, cookies_by, cookies_of, call_records, with_ended, kept_after, input_at, input_kept, freed, freed_by, with_kept, without_call}
+use Rattle.fed_session.specs.Trace.{Trace, pages, pending, stage_at, calls_of, now_at, writes}
+use Rattle.fed_session.proofs.CallsLemmas.{lookup-set_value, set_absent, with_kept-is, numbers-set_value, pending-set_ended, absent_pending_calls}
+use Rattle.fed_session.proofs.EventLemmas.{calls_distinct}
+use Rattle.fed_session.proofs.GetLemmas.{world_same}
+use Rattle.fed_session.proofs.KeyedLemmas.{IsAbsent, AreDistinct, distinct_standing}
+use Rattle.fed_session.proofs.OutcomeLemmas.{outcome_calls, moves_call, moves_no_other, ignored_outcome, outcome_records}
+use Rattle.fed_session.proofs.PagesLemmas.{origins_of-set_value}
+use Rattle.fed_session.proofs.PendingLemmas.{outcome_silent, outcome_begins_none, input_begins_none}
+use Rattle.fed_session.proofs.SightLemmas.{cookies_same, same_input, sight_cookies}
+use Rattle.fed_session.proofs.SilentLemmas.{AllSilent, entries_silent, said_silent, last_silent, last_said_silent, silent_is}
+use Rattle.fed_session.proofs.StandsLemmas.{Owes, IsAside, owes_aside, said_of, facts_moved, facts_same}
+
+-- ---- what the session keeps of a call
+
+begun_kept : (k : ℕ) (cs : List (ℕ × Option Facts)) → list_any (nat_eq k) (numbers_of cs) ≡ is_some (lookup (nat_eq k) cs)
+begun_kept k [] = refl
+begun_kept k (c ∷ cs) = go (begun_kept k cs) (nat_eq k c.0)
+  where
+    go : list_any (nat_eq k) (numbers_of cs) ≡ is_some (lookup (nat_eq k) cs) → (b : Bool) → b || list_any (nat_eq k) (numbers_of cs) ≡ is_some (cond b (Some c.1) (lookup (nat_eq k) cs))
+    go rest true = refl
+    go rest false = rest
+
+-- the effects of an input by what the session keeps are those by the trace
+pub input_at-stands : (s : State) (T : Trace) (call : ℕ) (input : Input) → Stands s T
+    → input_at (world_kept s) (cookies_by s.rules s.time s.cookies) (lookup (nat_eq call) s.calls) call input
+    ≡ input_effects (world_at T) (cookies_with T) (is_begun T call) call (facts_at T call) input
+input_at-stands s T call input h =
+    let taken_is : is_some (lookup (nat_eq call) s.calls) ≡ is_begun T call = sym (begun_kept call s.calls) ∙ ap (list_any (nat_eq call)) h.taken in
+    ap (λ w. input_at w (cookies_by s.rules s.time s.cookies) (lookup (nat_eq call) s.calls) call input) (world_same s T h)
+    ∙ same_input (cookies_by s.rules s.time s.cookies) (cookies_with T) (λ ask. cookies_same s T ask h) (world_at T) (is_some (lookup (nat_eq call) s.calls)) call (kept_at call s.calls) input
+    ∙ ap (λ b. input_effects (world_at T) (cookies_with T) b call (kept_at call s.calls) input) taken_is
+    ∙ ap (λ f. input_effects (world_at T) (cookies_with T) (is_begun T call) call f input) (h.facts call)
+
+-- ---- an input that is not taken
+
+-- an input that was ignored says nothing
+ignored_says : (input : Option Input) (f : Facts) → with_said true input f ≡ f
+ignored_says None f = refl
+ignored_says (Some input) f = refl
+
+owes_refused : (s s' : State) (T : Trace) (line : ℕ) (event : Event) (why : Why) → Stands s T → effects_of T event ≡ Ignored why ∷ []
+    → s'.rules ≡ s.rules → s'.kept ≡ s.kept → s'.flags ≡ s.flags → s'.time ≡ s.time → s'.cookies ≡ s.cookies → s'.login ≡ s.login → s'.pages ≡ s.pages → s'.calls ≡ s.calls
+    → Owes s s' T line event
+owes_refused s s' T line event why h is rules kept_same flags time written login kept_pages kept_calls =
+    owes_aside s s' T line event h
+    (record {
+      pages = subst (AllSilent page_change) (sym is) (refl, tt);
+      calls = subst (AllSilent call_change) (sym is) (refl, tt);
+      begun = subst (AllSilent begun_by) (sym is) (refl, tt);
+      stages = subst (AllSilent stage_change) (sym is) (refl, tt);
+      begins_none = λ q. subst (AllSilent (begins q)) (sym is) (refl, tt);
+      inputs = λ q f. ap (λ xs. with_said (list_any is_ignored xs) (input_to q event) f) is ∙ ignored_says (input_to q event) f;
+    })
+    rules kept_same flags
+    (time ∙ sym (ap (λ xs. unwrap_or (last_of time_of xs) s.time) is))
+    (written ∙ sym (ap (λ xs. cookies_after s.cookies (filter_map written_by xs)) is))
+    (login ∙ sym (ap (λ xs. entries_after same_origin login_change xs s.login) is))
+    kept_pages kept_calls
+
+-- ---- an input of a pending call
+
+-- a write that changes nothing
+set_same : {V : Type 0} (k : ℕ) (v : V) (es : List (ℕ × V)) → lookup (nat_eq k) es ≡ Some v → set_value (nat_eq k) es v ≡ es
+set_same k v [] h = refl
+set_same k v (e ∷ es) h = go (set_same k v es) (nat_eq k e.0) h
+  where
+    go : (lookup (nat_eq k) es ≡ Some v → set_value (nat_eq k) es v ≡ es) → (b : Bool) → cond b (Some e.1) (lookup (nat_eq k) es) ≡ Some v
+        → cond b ((e.0, v) ∷ es) (e ∷ set_value (nat_eq k) es v) ≡ e ∷ es
+    go rest true h = let same : e.1 ≡ v = cc in ap (λ x. (e.0, x) ∷ es) (sym same)
+    go rest false h = ap (λ xs. e ∷ xs) (rest h)
+
+-- a pending call that goes on
+pending-set_same : (k : ℕ) (before after : Facts) (cs : List (ℕ × Option Facts)) → lookup (nat_eq k) cs ≡ Some (Some before) → after.page ≡ before.page
+    → pending_calls (set_value (nat_eq k) cs (Some after)) ≡ pending_calls cs
+pending-set_same k before after [] h same = refl
+pending-set_same k before after ((n, kept) ∷ cs) h same = go (λ found. pending-set_same k before after cs found same) (nat_eq k n) h
+  where
+    go : (lookup (nat_eq k) cs ≡ Some (Some before) → pending_calls (set_value (nat_eq k) cs (Some after)) ≡ pending_calls cs) → (b : Bool) → cond b (Some kept) (lookup (nat_eq k) cs) ≡ Some (Some before)
+        → pending_calls (cond b ((n, Some after) ∷ cs) ((n, kept) ∷ set_value (nat_eq k) cs (Some after))) ≡ pending_calls ((n, kept) ∷ cs)
+    go rest true h =
+        let is : kept ≡ Some before = cc in
+        ap (λ page. (n, page) ∷ pending_calls cs) same ∙ sym (ap (λ x. pending_calls ((n, x) ∷ cs)) is)
+    go rest false h = onto_same kept (rest h)
+      where
+        onto_same : (kept : Option Facts) → pending_calls (set_value (nat_eq k) cs (Some after)) ≡ pending_calls cs
+            → pending_calls ((n, kept) ∷ set_value (nat_eq k) cs (Some after)) ≡ pending_calls ((n, kept) ∷ cs)
+        onto_same None rest = rest
+        onto_same (Some f) rest = ap (λ xs. (n, f.page) ∷ xs) rest
+
+-- a pending call stands with its page
+pending_found : (k : ℕ) (facts : Facts) (cs : List (ℕ × Option Facts)) → lookup (nat_eq k) cs ≡ Some (Some facts) → AreDistinct cs → lookup (nat_eq k) (pending_calls cs) ≡ Some facts.page
+pending_found k facts [] h distinct = absurd (cc)
+pending_found k facts ((n, kept) ∷ cs) h distinct = go (λ found. pending_found k facts cs found distinct.1) (nat_eq k n) refl h kept
+  where
+    go : (lookup (nat_eq k) cs ≡ Some (Some facts) → lookup (nat_eq k) (pending_calls cs) ≡ Some facts.page) → (b : Bool) → nat_eq k n ≡ b → cond b (Some kept) (lookup (nat_eq k) cs) ≡ Some (Some facts) → (x : Option Facts) → lookup (nat_eq k) (pending_calls ((n, kept) ∷ cs)) ≡ Some facts.page
+    go rest true is h x =
+        let same : kept ≡ Some facts = cc in
+        ap (λ y. lookup (nat_eq k) (pending_calls ((n, y) ∷ cs))) same ∙ ap (λ b. cond b (Some facts.page) (lookup (nat_eq k) (pending_calls cs))) is
+    go rest false is h x = below kept (rest h)
+      where
+        below : (y : Option Facts) → lookup (nat_eq k) (pending_calls cs) ≡ Some facts.page → lookup (nat_eq k) (pending_calls ((n, y) ∷ cs)) ≡ Some facts.page
+        below None rest = rest
+        below (Some f) rest = ap (λ b. cond b (Some f.page) (lookup (nat_eq k) (pending_calls cs))) is ∙ rest
+
+-- the calls of the other pages, where one ends
+calls_of-remove_other : (q page call : ℕ) (es : List (ℕ × ℕ)) → nat_eq page q ≡ false → lookup (nat_eq call) es ≡ Some page → calls_of q (shift_remove_entry (nat_eq call) es) ≡ calls_of q es
+calls_of-remove_other q page call [] ne h = refl
+calls_of-remove_other q page call (e ∷ es) ne h = go (calls_of-remove_other q page call es ne) (nat_eq call e.0) h
+  where
+    go : (lookup (nat_eq call) es ≡ Some page → calls_of q (shift_remove_entry (nat_eq call) es) ≡ calls_of q es) → (b : Bool) → cond b (Some e.1) (lookup (nat_eq call) es) ≡ Some page
+        → calls_of q (cond b es (e ∷ shift_remove_entry (nat_eq call) es)) ≡ calls_of q (e ∷ es)
+    go rest true h =
+        let page_is : e.1 ≡ page = cc in
+        let not_here : (e.1 == q) ≡ false = ap (λ p. p == q) page_is ∙ (let t : (page == q) ≡ false = grind (arith, nat_tests, ne) in t) in
+        sym (ap (λ b. map (λ call. call.0) (cond b (e ∷ filter (λ call. call.1 == q) es) (filter (λ call. call.1 == q) es))) not_here)
+    go rest false h = under (e.1 == q) (rest h)
+      where
+        under : (b : Bool) → calls_of q (shift_remove_entry (nat_eq call) es) ≡ calls_of q es
+            → map (λ call. call.0) (cond b (e ∷ filter (λ call. call.1 == q) (shift_remove_entry (nat_eq call) es)) (filter (λ call. call.1 == q) (shift_remove_entry (nat_eq call) es)))
+            ≡ map (λ call. call.0) (cond b (e ∷ filter (λ call. call.1 == q) es) (filter (λ call. call.1 == q) es))
+        under true rest = ap (λ xs. e.0 ∷ xs) rest
+        under false rest = rest
+
+-- a call that is looked up with its page is among the calls of the page
+is_listed : (page call : ℕ) (es : List (ℕ × ℕ)) → lookup (nat_eq call) es ≡ Some page → list_any (nat_eq call) (calls_of page es) ≡ true
+is_listed page call [] h = absurd (cc)
+is_listed page call (e ∷ es) h = go (is_listed page call es) (nat_eq call e.0) refl h
+  where
+    go : (lookup (nat_eq call) es ≡ Some page → list_any (nat_eq call) (calls_of page es) ≡ true) → (b : Bool) → nat_eq call e.0 ≡ b → cond b (Some e.1) (lookup (nat_eq call) es) ≡ Some page
+        → list_any (nat_eq call) (map (λ call. call.0) (cond (e.1 == page) (e ∷ filter (λ call. call.1 == page) es) (filter (λ call. call.1 == page) es))) ≡ true
+    go rest true is h =
+        let page_is : e.1 ≡ page = cc in
+        let here : (e.1 == page) ≡ true = ap (λ p. p == page) page_is ∙ (let t : (page == page) ≡ true = grind (arith, nat_tests) in t) in
+        ap (λ b. list_any (nat_eq call) (map (λ call. call.0) (cond b (e ∷ filter (λ call. call.1 == page) es) (filter (λ call. call.1 == page) es)))) here
+        ∙ ap (λ b. b || list_any (nat_eq call) (calls_of page es)) is
+    go rest false is h = under (e.1 == page) (rest h)
+      where
+        under : (b : Bool) → list_any (nat_eq call) (calls_of page es) ≡ true
+            → list_any (nat_eq call) (map (λ call. call.0) (cond b (e ∷ filter (λ call. call.1 == page) es) (filter (λ call. call.1 == page) es))) ≡ true
+        under true found = ap (λ b. b || list_any (nat_eq call) (calls_of page es)) is ∙ found
+        under false found = found
+
+-- a call that is absent is not among the calls of a page
+filter_absent : (page call : ℕ) (es : List (ℕ × ℕ)) → IsAbsent call es → filter (λ c. not (nat_eq call c)) (calls_of page es) ≡ calls_of page es
+filter_absent page call [] h = refl
+filter_absent page call (e ∷ es) h =
+    let here : nat_eq call e.0 ≡ false = grind (arith, nat_tests, h) in
+    let tail : IsAbsent call es = grind (arith, nat_tests, h) in
+    go (e.1 == page) here (filter_absent page call es tail)
+  where
+    go : (b : Bool) → nat_eq call e.0 ≡ false → filter (λ c. not (nat_eq call c)) (calls_of page es) ≡ calls_of page es
+        → filter (λ c. not (nat_eq call c)) (map (λ call. call.0) (cond b (e ∷ filter (λ call. call.1 == page) es) (filter (λ call. call.1 == page) es)))
+        ≡ map (λ call. call.0) (cond b (e ∷ filter (λ call. call.1 == page) es) (filter (λ call. call.1 == page) es))
+    go true here rest =
+        ap (λ b. cond (not b) (e.0 ∷ filter (λ c. not (nat_eq call c)) (calls_of page es)) (filter (λ c. not (nat_eq call c)) (calls_of page es))) here ∙ ap (λ xs. e.0 ∷ xs) rest
+    go false here rest = rest
+
+-- the calls of its own page, where one ends: those but this one
+calls_of-remove_same : (page call : ℕ) (es : List (ℕ × ℕ)) → AreDistinct es → calls_of page (shift_remove_entry (nat_eq call) es) ≡ filter (λ c. not (nat_eq call c)) (calls_of page es)
+calls_of-remove_same page call [] distinct = refl
+calls_of-remove_same page call (e ∷ es) distinct = go (calls_of-remove_same page call es distinct.1) (nat_eq call e.0) refl (e.1 == page) refl
+  where
+    gone : nat_eq call e.0 ≡ true → filter (λ c. not (nat_eq call c)) (calls_of page es) ≡ calls_of page es
+    gone is =
+        let key : e.0 ≡ call = grind (arith, nat_tests, is) in
+        filter_absent page call es (subst (λ k. IsAbsent k es) key distinct.0)
+
+    go : calls_of page (shift_remove_entry (nat_eq call) es) ≡ filter (λ c. not (nat_eq call c)) (calls_of page es) → (b : Bool) → nat_eq call e.0 ≡ b → (here : Bool) → (e.1 == page) ≡ here
+        → calls_of page (cond b es (e ∷ shift_remove_entry (nat_eq call) es))
+        ≡ filter (λ c. not (nat_eq call c)) (map (λ call. call.0) (cond here (e ∷ filter (λ call. call.1 == page) es) (filter (λ call. call.1 == page) es)))
+    go rest true is true at =
+        sym (ap (λ b. cond (not b) (e.0 ∷ filter (λ c. not (nat_eq call c)) (calls_of page es)) (filter (λ c. not (nat_eq call c)) (calls_of page es))) is ∙ gone is)
+    go rest true is false at = sym (gone is)
+    go rest false is true at =
+        ap (λ b. map (λ call. call.0) (cond b (e ∷ filter (λ call. call.1 == page) (shift_remove_entry (nat_eq call) es)) (filter (λ call. call.1 == page) (shift_remove_entry (nat_eq call) es)))) at
+        ∙ ap (λ xs. e.0 ∷ xs) rest
+        ∙ sym (ap (λ b. cond (not b) (e.0 ∷ filter (λ c. not (nat_eq call c)) (calls_of page es)) (filter (λ c. not (nat_eq call c)) (calls_of page es))) is)
+    go rest false is false at =
+        ap (λ b. map (λ call. call.0) (cond b (e ∷ filter (λ call. call.1 == page) (shift_remove_entry (nat_eq call) es)) (filter (λ call. call.1 == page) (shift_remove_entry (nat_eq call) es)))) at ∙ rest
+
+-- ---- the pages and the calls after an input of a pending call
+
+pub record Leaves (call : ℕ) (facts : Facts) (after : Option Facts) (moved : Option Stage) (ps : List (ℕ × kept.Page)) (cs : List (ℕ × Option Facts)) (es : List (ℕ × ℕ)) : Type 0 where
+  pub pages : origins_of (freed (Some facts) after ps) ≡ origins_of ps
+  pub gets : (q : ℕ) → option_to_list (get_of (lookup (nat_eq q) (freed (Some facts) after ps))) ≡ calls_of q (entries_after nat_eq call_change (moves call moved) es)
+  pub pending : pending_calls (set_value (nat_eq call) cs after) ≡ entries_after nat_eq call_change (moves call moved) es
+
+-- the call goes on
+goes_on : (call : ℕ) (facts after : Facts) (moved : Option Stage) (ps : List (ℕ × kept.Page)) (cs : List (ℕ × Option Facts)) (es : List (ℕ × ℕ))
+    → after.page ≡ facts.page → entries_after nat_eq call_change (moves call moved) es ≡ es → lookup (nat_eq call) cs ≡ Some (Some facts)
+    → ((q : ℕ) → option_to_list (get_of (lookup (nat_eq q) ps)) ≡ calls_of q es) → pending_calls cs ≡ es
+    → Leaves call facts (Some after) moved ps cs es
+goes_on call facts after moved ps cs es same stays found gets is =
+    record {
+      pages = refl;
+      gets = λ q. gets q ∙ ap (calls_of q) (sym stays);
+      pending = pending-set_same call facts after cs found same ∙ is ∙ sym stays;
+    }
+
+-- a page with a call that ends is that of the call
+holds_call : (call : ℕ) (get : Option ℕ) → list_any (nat_eq call) (option_to_list get) ≡ true → filter (λ c. not (nat_eq call c)) (option_to_list get) ≡ []
+holds_call call None h = refl
+holds_call call (Some g) h =
+    let is : nat_eq call g ≡ true = grind (arith, h) in
+    ap (λ b. cond (not b) (g ∷ []) []) is
+
+-- the get of each page, where a call ends
+get_of_ended : (q : ℕ) (call : ℕ) (facts : Facts) (found : Option kept.Page) (ps : List (ℕ × kept.Page)) (es : List (ℕ × ℕ)) → lookup (nat_eq facts.page) ps ≡ found → AreDistinct es
+    → lookup (nat_eq call) es ≡ Some facts.page → ((q : ℕ) → option_to_list (get_of (lookup (nat_eq q) ps)) ≡ calls_of q es)
+    → option_to_list (get_of (lookup (nat_eq q) (without_call facts.page ps))) ≡ calls_of q (shift_remove_entry (nat_eq call) es)
+get_of_ended q call facts None ps es is distinct there gets =
+    let listed = is_listed facts.page call es there in
+    let none : calls_of facts.page es ≡ [] = sym (gets facts.page) ∙ ap (λ o. option_to_list (get_of o)) is in
+    let no_call : false ≡ true = sym (ap (list_any (nat_eq call)) none) ∙ listed in
+    absurd (cc)
+get_of_ended q call facts (Some p) ps es is distinct there gets =
+    ap (λ o. option_to_list (get_of (lookup (nat_eq q) (option_map_or (λ p. set_value (nat_eq facts.page) ps (record p { get = None })) o ps)))) is
+    ∙ ap (λ o. option_to_list (get_of o)) (lookup-set_value q facts.page (record p { get = None }) ps) ∙ go (nat_eq q facts.page) refl
+  where
+    own : get_of (lookup (nat_eq facts.page) ps) ≡ p.get
+    own = ap get_of is
+
+    calls : calls_of facts.page es ≡ option_to_list p.get
+    calls = sym (gets facts.page) ∙ ap option_to_list own
+
+    ended_none : calls_of facts.page (shift_remove_entry (nat_eq call) es) ≡ []
+    ended_none =
+        calls_of-remove_same facts.page call es distinct ∙ ap (filter (λ c. not (nat_eq call c))) calls
+        ∙ holds_call call p.get (sym (ap (list_any (nat_eq call)) calls) ∙ is_listed facts.page call es there)
+
+    go : (b : Bool) → nat_eq q facts.page ≡ b
+        → option_to_list (get_of (cond b (option_map (λ x. record p { get = None }) (lookup (nat_eq q) ps)) (lookup (nat_eq q) ps))) ≡ calls_of q (shift_remove_entry (nat_eq call) es)
+    go true at =
+        let key : q ≡ facts.page = grind (arith, nat_tests, at) in
+        let same : lookup (nat_eq q) ps ≡ Some p = ap (λ k. lookup (nat_eq k) ps) key ∙ is in
+        ap (λ o. option_to_list (get_of (option_map (λ x. record p { get = None }) o))) same
+        ∙ sym (ap (λ k. calls_of k (shift_remove_entry (nat_eq call) es)) key ∙ ended_none)
+    go false at =
+        let ne : nat_eq facts.page q ≡ false = grind (arith, nat_tests, at) in
+        gets q ∙ sym (calls_of-remove_other q facts.page call es ne there)
+
+-- the origins stay where a page has no get any longer
+origins_freed : (page : ℕ) (found : Option kept.Page) (ps : List (ℕ × kept.Page)) → lookup (nat_eq page) ps ≡ found → origins_of (without_call page ps) ≡ origins_of ps
+origins_freed page None ps is = ap (λ o. origins_of (option_map_or (λ p. set_value (nat_eq page) ps (record p { get = None })) o ps)) is
+origins_freed page (Some p) ps is =
+    ap (λ o. origins_of (option_map_or (λ p. set_value (nat_eq page) ps (record p { get = None })) o ps)) is
+    ∙ origins_of-set_value page p (record p { get = None }) ps refl is
+
+-- the call ends
+goes : (call : ℕ) (facts : Facts) (ps : List (ℕ × kept.Page)) (cs : List (ℕ × Option Facts)) (es : List (ℕ × ℕ))
+    → lookup (nat_eq call) cs ≡ Some (Some facts) → AreDistinct cs → AreDistinct es
+    → ((q : ℕ) → option_to_list (get_of (lookup (nat_eq q) ps)) ≡ calls_of q es) → pending_calls cs ≡ es
+    → Leaves call facts None (Some Ended) ps cs es
+goes call facts ps cs es found distinct apart gets is =
+    let there : lookup (nat_eq call) es ≡ Some facts.page = ap (lookup (nat_eq call)) (sym is) ∙ pending_found call facts cs found distinct in
+    record {
+      pages = origins_freed facts.page (lookup (nat_eq facts.page) ps) ps refl;
+      gets = λ q. get_of_ended q call facts (lookup (nat_eq facts.page) ps) ps es refl apart there gets;
+      pending = pending-set_ended call cs distinct ∙ ap (shift_remove_entry (nat_eq call)) is;
+    }
+
+-- a stage at which a call goes on
+pub record Goes (stage : Stage) : Type 0 where
+  pub kept : (f : Facts) → at_stage stage f ≡ Some (record f { stage = stage })
+  pub stays : (call : ℕ) (es : List (ℕ × ℕ)) → entries_after nat_eq call_change (moves call (Some stage)) es ≡ es
+
+pub goes_or_ends : (stage : Stage) → (stage ≡ Ended) ⊎ Goes stage
+goes_or_ends Ended = inl refl
+goes_or_ends Reading = inr (record { kept = λ f. refl; stays = λ call es. refl })
+goes_or_ends Listing = inr (record { kept = λ f. refl; stays = λ call es. refl })
+
+same_page : (ignored : Bool) (input : Input) (facts : Facts) → (with_input ignored input facts).page ≡ facts.page
+same_page true input facts = refl
+same_page false (inputs.Reply place kinds.WellKnown raw) facts = refl
+same_page false (inputs.Reply place kinds.Config raw) facts = refl
+same_page false (inputs.Reply place kinds.Accounts raw) facts = refl
+same_page false (inputs.Reply place kinds.Metadata raw) facts = refl
+same_page false (inputs.Reply place kinds.Assertion raw) facts = refl
+same_page false (inputs.Reply place kinds.Disconnect raw) facts = refl
+same_page false (inputs.Choose place account) facts = refl
+same_page false inputs.GoOn facts = refl
+same_page false inputs.Cancel facts = refl
+same_page false inputs.SignIn facts = refl
+same_page false inputs.Shut facts = refl
+same_page false inputs.Resume facts = refl
+same_page false inputs.Abort facts = refl
+
+leaves : (call : ℕ) (facts : Facts) (input : Input) (ignored : Bool) (moved : Option Stage) (ps : List (ℕ × kept.Page)) (cs : List (ℕ × Option Facts)) (es : List (ℕ × ℕ))
+    → Goes facts.stage → lookup (nat_eq call) cs ≡ Some (Some facts) → AreDistinct cs → AreDistinct es
+    → ((q : ℕ) → option_to_list (get_of (lookup (nat_eq q) ps)) ≡ calls_of q es) → pending_calls cs ≡ es
+    → Leaves call facts (at_stage (unwrap_or moved facts.stage) (with_input ignored input facts)) moved ps cs es
+leaves call facts input ignored None ps cs es going found distinct apart gets is =
+    let f = with_input ignored input facts in
+    subst (λ after. Leaves call facts after None ps cs es) (sym (going.kept f))
+    (goes_on call facts (record f { stage = facts.stage }) None ps cs es (same_page ignored input facts) refl found gets is)
+leaves call facts input ignored (Some stage) ps cs es going found distinct apart gets is = go (goes_or_ends stage)
+  where
+    f : Facts
+    f = with_input ignored input facts
+
+    go : (stage ≡ Ended) ⊎ Goes stage → Leaves call facts (at_stage stage f) (Some stage) ps cs es
+    go (inl over) = subst (λ st. Leaves call facts (at_stage st f) (Some st) ps cs es) (sym over) (goes call facts ps cs es found distinct apart gets is)
+    go (inr further) =
+        subst (λ after. Leaves call facts after (Some stage) ps cs es) (sym (further.kept f))
+        (goes_on call facts (record f { stage = stage }) (Some stage) ps cs es (same_page ignored input facts) (further.stays call es) found gets is)
+
+-- ---- what is known of a pending call after an input
+
+-- what an input says does not hang on the stage
+with_input-at : (ignored : Bool) (input : Input) (f : Facts) (stage : Stage) → with_input ignored input (record f { stage = stage }) ≡ record (with_input ignored input f) { stage = stage }
+with_input-at true input f stage = refl
+with_input-at false (inputs.Reply place kinds.WellKnown raw) f stage = refl
+with_input-at false (inputs.Reply place kinds.Config raw) f stage = refl
+with_input-at false (inputs.Reply place kinds.Accounts raw) f stage = refl
+with_input-at false (inputs.Reply place kinds.Metadata raw) f stage = refl
+with_input-at false (inputs.Reply place kinds.Assertion raw) f stage = refl
+with_input-at false (inputs.Reply place kinds.Disconnect raw) f stage = refl
+with_input-at false (inputs.Choose place account) f stage = refl
+with_input-at false inputs.GoOn f stage = refl
+with_input-at false inputs.Cancel f stage = refl
+with_input-at false inputs.SignIn f stage = refl
+with_input-at false inputs.Shut f stage = refl
+with_input-at false inputs.Resume f stage = refl
+with_input-at false inputs.Abort f stage = refl
+
+at_stage-again : (stage other : Stage) (f : Facts) → at_stage stage (record f { stage = other }) ≡ at_stage stage f
+at_stage-again Ended other f = refl
+at_stage-again Reading other f = refl
+at_stage-again Listing other f = refl
+
+facts_step : (moved : Option Stage) (ignored : Bool) (input : Input) (stage : Stage) (known : Facts)
+    → at_stage (unwrap_or moved stage) (with_input ignored input (record known { stage = stage }))
+    ≡ facts_by (unwrap_or (option_map Some moved) (Some stage)) (Some (with_input ignored input known))
+facts_step None ignored input stage known =
+    ap (at_stage stage) (with_input-at ignored input known stage) ∙ at_stage-again stage stage (with_input ignored input known)
+facts_step (Some next) ignored input stage known =
+    ap (at_stage next) (with_input-at ignored input known stage) ∙ at_stage-again next stage (with_input ignored input known)
+
+-- a call of which something is known is at a stage at which it goes on
+pub record Known (facts : Facts) (stage : Option Stage) (known : Option Facts) : Type 0 where
+  pub before : Facts
+  pub known_is : known ≡ Some before
+  pub stage_is : stage ≡ Some facts.stage
+  pub is : facts ≡ record before { stage = facts.stage }
+  pub going : Goes facts.stage
+
+pub known_by : (facts : Facts) (stage : Option Stage) (known : Option Facts) → facts_by stage known ≡ Some facts → Known facts stage known
+known_by facts None known h = absurd (cc)
+known_by facts (Some stage) None h = absurd (cc)
+known_by facts (Some stage) (Some before) h = go (goes_or_ends stage)
+  where
+    go : (stage ≡ Ended) ⊎ Goes stage → Known facts (Some stage) (Some before)
+    go (inl over) = let none : None ≡ Some facts = sym (ap (λ st. at_stage st before) over) ∙ h in absurd (cc)
+    go (inr going) =
+        let whole : Some (record before { stage = stage }) ≡ Some facts = sym (going.kept before) ∙ h in
+        let is : record before { stage = stage } ≡ facts = cc in
+        let at : stage ≡ facts.stage = ap (λ f. f.stage) is in
+        record {
+          before = before;
+          known_is = refl;
+          stage_is = ap Some at;
+          is = sym is ∙ ap (λ st. let f : Facts = record before { stage = st } in f) at;
+          going = subst Goes at going;
+        }
+
+owes_pending : (s s' : State) (T : Trace) (line : ℕ) (event : Event) (call : ℕ) (input : Input) (facts : Facts) (outcome : Outcome) → Stands s T → Brings T event call input
+    → effects_of T event ≡ outcome_effects (cookies_with T) call facts.page outcome → lookup (nat_eq call) s.calls ≡ Some (Some facts)
+    → s'.rules ≡ s.rules → s'.kept ≡ s.kept → s'.flags ≡ s.flags → s'.time ≡ s.time → s'.cookies ≡ s.cookies → s'.login ≡ s.login
+    → s'.pages ≡ freed (Some facts) (facts_after facts input outcome) s.pages
+    → s'.calls ≡ set_value (nat_eq call) s.calls (facts_after facts input outcome)
+    → Owes s s' T line event
+owes_pending s s' T line event call input facts outcome h brings effects found rules kept_same flags time written login kept_pages kept_calls =
+    let ignored = list_any call_facts.is_ignored outcome.effects in
+    let after = facts_after facts input outcome in
+    let does = outcome_effects (cookies_with T) call facts.page outcome in
+    let known_is : facts_at T call ≡ Some facts = sym (h.facts call) ∙ ap (option_and_then (λ kept. kept)) found in
+    let about = known_by facts (stage_at T call) (known_in T.rows call) known_is in
+    let leave = leaves call facts input ignored outcome.stage s.pages s.calls (pending T) about.going found (calls_distinct s T h) (distinct_standing call_change T.rows) h.gets h.pending in
+    let calls_is : entries_after nat_eq call_change (effects_of T event) (pending T) ≡ entries_after nat_eq call_change (moves call outcome.stage) (pending T) =
+    ap (λ xs. entries_after nat_eq call_change xs (pending T)) effects ∙ outcome_calls (cookies_with T) call facts.page outcome (pending T) in
+    let begins_none : (q : ℕ) → last_of (begins q) (effects_of T event) ≡ None =
+    λ q. last_silent (begins q) (effects_of T event) (silent_is (begins q) (effects_of T event) does effects (outcome_silent (begins q) (λ c p a k. refl) (λ c p f. refl) (λ w. refl) (λ c s. refl) (cookies_with T) call facts.page outcome)) in
+    let said : (q : ℕ) (f : Facts) → said_of T event q f ≡ with_said ignored (cond (nat_eq q call) (Some input) None) f =
+    λ q f. ap (λ xs. with_said (list_any is_ignored xs) (input_to q event) f) effects ∙ ap (λ b. with_said b (input_to q event) f) (ignored_outcome (cookies_with T) call facts.page outcome)
+    ∙ ap (λ i. with_said ignored i f) (brings.inputs q) in
+    record {
+      rules = rules;
+      kept = kept_same;
+      flags = flags;
+      time = time ∙ sym (ap (λ o. unwrap_or o s.time) (last_silent time_of (effects_of T event) (silent_is time_of (effects_of T event) does effects (outcome_silent time_of (λ c p a k. refl) (λ c p f. refl) (λ w. refl) (λ c s. refl) (cookies_with T) call facts.page outcome))));
+      cookies = written ∙ ap (cookies_after s.cookies) (sym (said_silent written_by (effects_of T event) (silent_is written_by (effects_of T event) does effects (outcome_silent written_by (λ c p a k. refl) (λ c p f. refl) (λ w. refl) (λ c s. refl) (cookies_with T) call facts.page outcome))));
+      login = login ∙ sym (entries_silent same_origin login_change (effects_of T event) s.login (silent_is login_change (effects_of T event) does effects (outcome_silent login_change (λ c p a k. refl) (λ c p f. refl) (λ w. refl) (λ c s. refl) (cookies_with T) call facts.page outcome)));
+      pages = ap origins_of kept_pages ∙ leave.pages ∙ h.pages ∙ sym (entries_silent nat_eq page_change (effects_of T event) (pages T) (silent_is page_change (effects_of T event) does effects (outcome_silent page_change (λ c p a k. refl) (λ c p f. refl) (λ w. refl) (λ c s. refl) (cookies_with T) call facts.page outcome)));
+      gets = λ q. ap (λ ps. option_to_list (get_of (lookup (nat_eq q) ps))) kept_pages ∙ leave.gets q ∙ ap (calls_of q) (sym calls_is);
+      taken = ap numbers_of kept_calls ∙ numbers-set_value call after s.calls ∙ sym (append-nil (numbers_of s.calls))
+          ∙ ap (λ xs. numbers_of s.calls ++ xs) (sym (said_silent begun_by (effects_of T event) (silent_is begun_by (effects_of T event) does effects (outcome_begins_none (cookies_with T) call facts.page outcome))));
+      pending = ap pending_calls kept_calls ∙ leave.pending ∙ sym calls_is;
+      facts = λ q. ap (kept_at q) kept_calls ∙ ap (option_and_then (λ kept. kept)) (lookup-set_value q call after s.calls)
+          ∙ facts_input s T line event call input facts outcome q h effects found about begins_none said (nat_eq q call) refl;
+    }
+  where
+    facts_input : (s : State) (T : Trace) (line : ℕ) (event : Event) (call : ℕ) (input : Input) (facts : Facts) (outcome : Outcome) (q : ℕ) → Stands s T
+        → effects_of T event ≡ outcome_effects (cookies_with T) call facts.page outcome → lookup (nat_eq call) s.calls ≡ Some (Some facts)
+        → Known facts (stage_at T call) (known_in T.rows call)
+        → ((q : ℕ) → last_of (begins q) (effects_of T event) ≡ None)
+        → ((q : ℕ) (f : Facts) → said_of T event q f ≡ with_said (list_any call_facts.is_ignored outcome.effects) (cond (nat_eq q call) (Some input) None) f)
+        → (b : Bool) → nat_eq q call ≡ b
+        → option_and_then (λ kept. kept) (cond b (option_map (λ x. facts_after facts input outcome) (lookup (nat_eq q) s.calls)) (lookup (nat_eq q) s.calls)) ≡ facts_at (with_event T line event) q
+    facts_input s T line event call input facts outcome q h effects found about begins_none said true is =
+        let key : q ≡ call = grind (arith, nat_tests, is) in
+        let ignored = list_any call_facts.is_ignored outcome.effects in
+        let own : nat_eq call call ≡ true = grind (arith, nat_tests) in
+        let moved = option_map Some outcome.stage in
+        let said_now : said_of T event call about.before ≡ with_input ignored input about.before =
+        said call about.before ∙ ap (λ b. with_said ignored (cond b (Some input) None) about.before) own in
+        let at_call : facts_after facts input outcome ≡ facts_at (with_event T line event) call =
+        ap (λ f. at_stage (unwrap_or outcome.stage facts.stage) (with_input ignored input f)) about.is
+        ∙ facts_step outcome.stage ignored input facts.stage about.before
+        ∙ ap (λ f. facts_by (unwrap_or moved (Some facts.stage)) (Some f)) (sym said_now)
+        ∙ ap (λ st. facts_by (unwrap_or moved st) (Some (said_of T event call about.before))) (sym about.stage_is)
+        ∙ ap (λ o. facts_by (unwrap_or moved (stage_at T call)) (option_map (said_of T event call) o)) (sym about.known_is)
+        ∙ sym (facts_moved T line event call moved None (ap (last_said nat_eq stage_change call) effects ∙ moves_call (cookies_with T) call facts.page outcome call own) (begins_none call)) in
+        ap (λ k. option_and_then (λ kept. kept) (option_map (λ x. facts_after facts input outcome) (lookup (nat_eq k) s.calls))) key
+        ∙ ap (λ o. option_and_then (λ kept. kept) (option_map (λ x. facts_after facts input outcome) o)) found
+        ∙ at_call ∙ ap (facts_at (with_event T line event)) (sym key)
+    facts_input s T line event call input facts outcome q h effects found about begins_none said false is =
+        h.facts q
+        ∙ sym (facts_same T line event q (ap (last_said nat_eq stage_change q) effects ∙ moves_no_other (cookies_with T) call facts.page outcome q is) (begins_none q)
+        (λ f. said q f ∙ ap (λ b. with_said (list_any call_facts.is_ignored outcome.effects) (cond b (Some input) None) f) is))
+
+-- ---- an input as the code takes it
+
+set_again : {V : Type 0} (k : ℕ) (v w : V) (es : List (ℕ × V)) → set_value (nat_eq k) (set_value (nat_eq k) es v) w ≡ set_value (nat_eq k) es w
+set_again k v w [] = refl
+set_again k v w (e ∷ es) = go (set_again k v w es) (nat_eq k e.0) refl
+  where
+    go : set_value (nat_eq k) (set_value (nat_eq k) es v) w ≡ set_value (nat_eq k) es w → (b : Bool) → nat_eq k e.0 ≡ b
+        → set_value (nat_eq k) (cond b ((e.0, v) ∷ es) (e ∷ set_value (nat_eq k) es v)) w ≡ cond b ((e.0, w) ∷ es) (e ∷ set_value (nat_eq k) es w)
+    go rest true is = ap (λ b. cond b ((e.0, w) ∷ es) ((e.0, v) ∷ set_value (nat_eq k) es w)) is
+    go rest false is = ap (λ b. cond b ((e.0, w) ∷ set_value (nat_eq k) es v) (e ∷ set_value (nat_eq k) (set_value (nat_eq k) es v) w)) is ∙ ap (λ xs. e ∷ xs) rest
+
+-- a call that left its place and came back
+pub lent_and_back : (k : ℕ) (v : Option Facts) (cs : List (ℕ × Option Facts)) → with_kept k v (with_ended k cs) ≡ with_kept k v cs
+lent_and_back k v cs =
+    with_kept-is k v (with_ended k cs) ∙ ap (λ xs. set_value (nat_eq k) xs v) (with_kept-is k None cs) ∙ set_again k None v cs ∙ sym (with_kept-is k v cs)
+
+-- the records of an input of a pending call
+pub pending_records : (line : ℕ) (world : World) (cookies : Ask → List ℕ) (call page : ℕ) (input : Input) (known : Option Facts) (found : Option (Option Facts)) → found ≡ Some known
+    → Some page ≡ option_map (λ f. f.page) known → call_records line cookies call page (call_row world known input).effects ≡ records_of line (input_at world cookies found call input)
+pending_records line world cookies call page input None found is at = absurd (cc)
+pending_records line world cookies call page input (Some facts) found is at =
+    let same : page ≡ facts.page = cc in
+    ap (λ p. call_records line cookies call p (call_row world (Some facts) input).effects) same
+    ∙ sym (outcome_records line cookies call facts.page (call_row world (Some facts) input))
+    ∙ ap (λ o. records_of line (input_at world cookies o call input)) (sym is)
+
+-- ---- an input, whole
+
+pub owes_input : (s s' : State) (T : Trace) (line : ℕ) (event : Event) (call : ℕ) (input : Input) → Stands s T → Brings T event call input
+    → s'.rules ≡ s.rules → s'.kept ≡ s.kept → s'.flags ≡ s.flags → s'.time ≡ s.time → s'.cookies ≡ s.cookies → s'.login ≡ s.login
+    → s'.pages ≡ freed_by (world_kept s) (lookup (nat_eq call) s.calls) input s.pages
+    → s'.calls ≡ input_kept (world_kept s) call input s.calls
+    → Owes s s' T line event
+owes_input s s' T line event call input h brings rules kept_same flags time written login kept_pages kept_calls = go (lookup (nat_eq call) s.calls) refl
+  where
+    cookies : Ask → List ℕ
+    cookies = cookies_with T
+
+    is_effects : effects_of T event ≡ input_effects (world_at T) cookies (is_some (lookup (nat_eq call) s.calls)) call (kept_at call s.calls) input
+    is_effects =
+        brings.effects ∙ ap (λ f. input_effects (world_at T) cookies (is_begun T call) call f input) (sym (h.facts call))
+        ∙ ap (λ b. input_effects (world_at T) cookies b call (kept_at call s.calls) input) (sym (ap (list_any (nat_eq call)) h.taken) ∙ begun_kept call s.calls)
+
+    effects_at : (found : Option (Option Facts)) → lookup (nat_eq call) s.calls ≡ found
+        → effects_of T event ≡ input_effects (world_at T) cookies (is_some found) call (option_and_then (λ kept. kept) found) input
+    effects_at found is = is_effects ∙ ap (λ o. input_effects (world_at T) cookies (is_some o) call (option_and_then (λ kept. kept) o) input) is
+
+    calls_at : (found : Option (Option Facts)) → lookup (nat_eq call) s.calls ≡ found
+        → s'.calls ≡ set_value (nat_eq call) s.calls (kept_after (world_kept s) (option_and_then (λ kept. kept) found) input)
+    calls_at found is =
+        kept_calls ∙ with_kept-is call (kept_after (world_kept s) (kept_at call s.calls) input) s.calls
+        ∙ ap (λ o. set_value (nat_eq call) s.calls (kept_after (world_kept s) (option_and_then (λ kept. kept) o) input)) is
+
+    go : (found : Option (Option Facts)) → lookup (nat_eq call) s.calls ≡ found → Owes s s' T line event
+    go None is =
+        owes_refused s s' T line event NoCall h (effects_at None is) rules kept_same flags time written login
+        (kept_pages ∙ ap (λ o. freed_by (world_kept s) o input s.pages) is)
+        (calls_at None is ∙ set_absent call None s.calls is)
+    go (Some None) is =
+        owes_refused s s' T line event CallEnded h (effects_at (Some None) is) rules kept_same flags time written login
+        (kept_pages ∙ ap (λ o. freed_by (world_kept s) o input s.pages) is)
+        (calls_at (Some None) is ∙ set_same call None s.calls is)
+    go (Some (Some facts)) is =
+        let world = world_same s T h in
+        owes_pending s s' T line event call input facts (call_row (world_at T) (Some facts) input) h brings (effects_at (Some (Some facts)) is) is rules kept_same flags time written login
+        (kept_pages ∙ ap (λ o. freed_by (world_kept s) o input s.pages) is ∙ ap (λ w. freed (Some facts) (kept_after w (Some facts) input) s.pages) world)
+        (calls_at (Some (Some facts)) is ∙ ap (λ w. set_value (nat_eq call) s.calls (kept_after w (Some facts) input)) world)
+
+-- ---- the events that name a call
+
+pub abort_brings : (T : Trace) (call : ℕ) → Brings T (events.Abort call) call inputs.Abort
+abort_brings T call = record { effects = refl; new = tt; inputs = λ q. refl }
+
+pub reply_brings : (T : Trace) (call provider : ℕ) (kind : ReplyKind) (raw : List ℕ) → Brings T (events.Reply call provider kind raw) call (inputs.Reply provider kind raw)
+reply_brings T call provider kind raw = record { effects = refl; new = tt; inputs = λ q. refl }
+
+-- ---- what is seen of a session
+
+-- the records of an input by what is seen
+pub input_records : (sight : Sight) (s : State) (T : Trace) (line : ℕ) (event : Event) (call : ℕ) (input : Input) → Stands s T → Brings T event call input
+    → world_of sight.shared ≡ world_kept s → sight.jar.now ≡ s.cookies → sight.time ≡ s.time
+    → records_of line (input_at (world_of sight.shared) (cookies_of sight) (lookup (nat_eq call) s.calls) call input) ≡ records_of line (effects_of T event)
+input_records sight s T line event call input h brings world jar_is time =
+    ap (λ w. records_of line (input_at w (cookies_of sight) (lookup (nat_eq call) s.calls) call input)) world
+    ∙ ap (records_of line) (same_input (cookies_of sight) (cookies_by s.rules s.time s.cookies) (sight_cookies sight s world jar_is time) (world_kept s) (is_some (lookup (nat_eq call) s.calls)) call (kept_at call s.calls) input)
+    ∙ ap (records_of line) (input_at-stands s T call input h ∙ sym brings.effects)

@@ -1,0 +1,14 @@
+use Rattle.std.proofs.Common.{◌∙◌, sym, subst, refl}
+use Rattle.fed_script.specs.declared.event.Event.TheVariants as events
+use Rattle.fed_session.specs.Session.{State, Stands, revived}
+use Rattle.fed_session.proofs.EventLemmas.{owes_load, load_records}
+use Rattle.fed_session.proofs.StandsLemmas.{stands_after}
+use Rattle.fed_session.proofs.session.Session.load.Goals as goal
+
+pub returns-clause-row : goal.returns-clause-row
+returns-clause-row c = λ T line h.
+    let before = subst (λ (s : State). Stands (revived s) T) (sym c.self.view_is) h in (
+      c.new.ensures ∙ load_records T line c.args.page c.args.url.now c.args.raw.now,
+      stands_after _ _ T line (events.Load c.args.page c.args.url.now c.args.raw.now) before tt refl refl
+          (owes_load _ _ T line c.args.page c.args.url.now c.args.raw.now before refl refl refl refl c.in_ok-take_head.ensures.cookies c.in_ok-take_head.ensures.login c.in_ok-load.ensures.pages c.in_ok-load.ensures.calls),
+    )

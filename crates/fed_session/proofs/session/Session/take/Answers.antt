@@ -1,0 +1,34 @@
+use Rattle.std.proofs.Common.{◌≡◌, ◌∙◌, ap, sym, subst, refl, nat_eq}
+use Rattle.std.specs.Map.{lookup}
+use Rattle.fed_script.specs.declared.event.Event.TheVariants as events
+use Rattle.fed_session.specs.Session.{State, Stands, revived}
+use Rattle.fed_session.proofs.EventLemmas.{owes_close, close_records-stand, owes_status, status_records-stand}
+use Rattle.fed_session.proofs.InputLemmas.{abort_brings, reply_brings}
+use Rattle.fed_session.proofs.StandsLemmas.{stands_after}
+use Rattle.fed_session.proofs.session.Session.take.Goals as goal
+
+pub returns-in-Have-clause-row : goal.returns-in-Have-clause-row
+returns-in-Have-clause-row c = rw c.in-Have.is (λ T h. c.have.ensures.row T c.args.line h)
+
+pub returns-in-Load-clause-row : goal.returns-in-Load-clause-row
+returns-in-Load-clause-row c = rw c.in-Load.is (λ T h. c.load.ensures.row T c.args.line h)
+
+pub returns-in_ok-outs-in-ClosePage-clause-row : goal.returns-in_ok-outs-in-ClosePage-clause-row
+returns-in_ok-outs-in-ClosePage-clause-row c =
+    rw c.in-ClosePage.is
+    (λ T h.
+    let before = subst (λ (s : State). Stands (revived s) T) (sym c.self-in-ClosePage.view_is) h in (
+      c.in_ok-outs-in-ClosePage.ensures.outs ∙ close_records-stand _ T c.args.line c.in-ClosePage.page before,
+      stands_after _ _ T c.args.line (events.ClosePage c.in-ClosePage.page) before tt refl refl
+          (owes_close _ _ T c.args.line c.in-ClosePage.page before refl refl refl refl refl refl c.in_ok-outs-in-ClosePage.ensures.pages c.in_ok-outs-in-ClosePage.ensures.calls),
+    ))
+
+pub returns-in_ok-outs-in-SetStatus-clause-row : goal.returns-in_ok-outs-in-SetStatus-clause-row
+returns-in_ok-outs-in-SetStatus-clause-row c =
+    rw c.in-SetStatus.is
+    (λ T h.
+    let before = subst (λ (s : State). Stands (revived s) T) (sym c.self-in-SetStatus.view_is) h in (
+      c.in_ok-outs-in-SetStatus.ensures.outs ∙ status_records-stand _ T c.args.line c.in-SetStatus.page c.in-SetStatus.status before,
+      stands_after _ _ T c.args.line (events.SetStatus c.in-SetStatus.page c.in-SetStatus.status) before tt refl refl
+          (owes_status _ _ T c.args.line c.in-SetStatus.page c.in-SetStatus.status before refl refl refl refl refl c.in_ok-outs-in-SetStatus.ensures.login refl refl),
+    ))
