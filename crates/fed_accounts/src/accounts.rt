@@ -1,5 +1,5 @@
 //! Lists of accounts.
-ghost use Rattle.std.specs.Prelude.{◌≡◌};
+ghost use Rattle.std.specs.Prelude.{◌≡◌, ◌<◌, Some, length, slice_get};
 ghost use Rattle.fed_accounts.specs.Accounts.{AreAccounts};
 
 use crate::Account;
@@ -40,6 +40,14 @@ impl Accounts {
         ensures accounts { AreAccounts self.now }
     {
         self.list.as_slice()
+    }
+
+    /// The account at this place from 0; the others are given up. It takes no memory.
+    pub fn take(self, place: usize) -> Account
+        requires { place < length self }
+        ensures { slice_get self place ≡ Some result }
+    {
+        self.into_items().into_vec().swap_remove(place)
     }
 
     // The list of the accounts.

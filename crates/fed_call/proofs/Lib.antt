@@ -1,0 +1,3 @@
+mod ConsentLemmas
+mod ListLemmas
+mod RowLemmas

@@ -1,10 +1,11 @@
 -- What a call began with.
-use Rattle.std.specs.Prelude.{◌≡◌, ℕ, List, [], ◌∷◌}
+use Rattle.std.specs.Prelude.{ℕ, Bool, false, [], ◌∷◌, None}
 use Rattle.fed_origin.specs.declared.origin.Origin.{Origin}
+use Rattle.fed_origin.specs.declared.options.Context.{Context}
 use Rattle.fed_origin.specs.declared.options.GetOptions.{GetOptions}
+use Rattle.fed_origin.specs.declared.options.Mediation.{Mediation}
+use Rattle.fed_origin.specs.declared.options.Mode.{Mode}
 use Rattle.fed_origin.specs.declared.options.ProviderOptions.{ProviderOptions}
-use Rattle.fed_origin.specs.declared.scheme.Scheme.TheVariants.{Https}
-use Rattle.fed_origin.specs.WebUrl.{scheme_of}
 
 pub record Begun : Type 0 where
   -- its number, and that of its page
@@ -12,10 +13,20 @@ pub record Begun : Type 0 where
   pub page : ℕ
   -- the origin of its page
   pub origin : Origin
-  pub options : GetOptions
+  pub mediation : Mediation
+  pub mode : Mode
+  pub activation : Bool
+  pub context : Context
+  -- its only provider
+  pub provider : ProviderOptions
 
--- there is exactly one provider, and its configuration URL is https
-abbrev pub HasOneProvider : List ProviderOptions → Type 0
-HasOneProvider [] = ⊥
-HasOneProvider (only ∷ []) = scheme_of only.config ≡ Https
-HasOneProvider (first ∷ second ∷ others) = ⊥
+-- the options of the call
+abbrev pub options_of : Begun → GetOptions
+options_of begun =
+    record {
+      mediation = begun.mediation;
+      mode = begun.mode;
+      activation = begun.activation;
+      context = begun.context;
+      providers = begun.provider ∷ [];
+    }

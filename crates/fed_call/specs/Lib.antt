@@ -1,4 +1,10 @@
+pub mod Accounts
+pub mod AssertingRows
 pub mod Begun
+pub mod DialogRows
 pub mod Facts
+pub mod ListingRows
+pub mod Outcomes
+pub mod ReadingRows
 pub mod Row
 pub mod State

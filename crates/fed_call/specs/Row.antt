@@ -1,168 +1,38 @@
 -- The table of a get call: what it does at each event, by what is known of it.
-use Rattle.std.specs.Prelude.{ℕ, Bool, true, false, List, [], ◌∷◌, Option, Some, None, option_map, Result, Ok, Err}
-use Rattle.url.specs.Parts.{Parts}
-use Rattle.fed_origin.specs.declared.options.GetOptions.{GetOptions}
-use Rattle.fed_origin.specs.declared.options.ProviderOptions.{ProviderOptions}
-use Rattle.fed_origin.specs.declared.options.Mode.{Mode}
-use Rattle.fed_origin.specs.declared.options.Mode.TheVariants.{Passive, Active}
-use Rattle.fed_origin.specs.declared.scheme.Scheme.{Scheme}
-use Rattle.fed_origin.specs.declared.scheme.Scheme.TheVariants.{Http, Https}
+use Rattle.std.specs.Prelude.{ℕ, List, Option, Some, None}
 use Rattle.fed_origin.specs.declared.stage.Stage.{Stage}
-use Rattle.fed_origin.specs.declared.stage.Stage.TheVariants.{Reading, Listing, Ended}
+use Rattle.fed_origin.specs.declared.stage.Stage.TheVariants.{Reading, Listing, Mismatch, Choosing, Prompting, Asserting, Ended}
 use Rattle.fed_origin.specs.declared.stage.ReplyKind.{ReplyKind}
-use Rattle.fed_origin.specs.declared.stage.ReplyKind.TheVariants as kinds
-use Rattle.fed_origin.specs.declared.status.LoginStatus.{LoginStatus}
-use Rattle.fed_origin.specs.declared.status.LoginStatus.TheVariants.{Unknown, LoggedIn, LoggedOut}
-use Rattle.fed_origin.specs.WebUrl.{origin_of, scheme_of}
-use Rattle.fed_suffix.specs.Rule.{RuleSet}
-use Rattle.fed_reply.specs.Steps.{◌>>=◌}
-use Rattle.fed_provider.specs.declared.step.ProviderStep.{ProviderStep}
-use Rattle.fed_provider.specs.declared.step.ProviderStep.TheVariants as provider_steps
-use Rattle.fed_provider.specs.declared.config.Config.{Config as Configuration}
-use Rattle.fed_provider.specs.WellKnown.{WellKnownUrlOf, WellKnownOf}
-use Rattle.fed_status.specs.Login.{status_of}
 use Rattle.fed_status.specs.Shared.{World}
-use Rattle.fed_consent.specs.declared.ask.Ask.TheVariants.{WellKnown, Config, Accounts}
-use Rattle.fed_consent.specs.declared.effect.Effect.{Effect}
-use Rattle.fed_consent.specs.declared.effect.Effect.TheVariants.{Send, Finish, Ignored}
-use Rattle.fed_consent.specs.declared.finish.Detail.{Detail}
-use Rattle.fed_consent.specs.declared.finish.Detail.TheVariants as details
-use Rattle.fed_consent.specs.declared.finish.FailStep.{FailStep}
 use Rattle.fed_consent.specs.declared.finish.FailStep.TheVariants as steps
-use Rattle.fed_consent.specs.declared.finish.Failure.{Failure}
-use Rattle.fed_consent.specs.declared.finish.Finish.TheVariants.{Failed}
 use Rattle.fed_consent.specs.declared.input.Input.{Input}
 use Rattle.fed_consent.specs.declared.input.Input.TheVariants as inputs
-use Rattle.fed_consent.specs.declared.why.Why.{Why}
 use Rattle.fed_consent.specs.declared.why.Why.TheVariants.{CallEnded, NotWaited, NotOffered}
-use Rattle.fed_call.specs.Facts.{Facts, Outcome, provider_at, config_read}
-
--- ---- outcomes
-
--- the page gets the failure, and the call is over: "fails" in the table
-abbrev pub fails : Failure → Outcome
-fails failure = record { effects = Finish (Failed failure) ∷ []; stage = Some Ended }
-
--- the event is not taken, and nothing changes
-abbrev pub ignored : Why → Outcome
-ignored why = record { effects = Ignored why ∷ []; stage = None }
-
--- nothing is done
-abbrev pub stays : Outcome
-stays = record { effects = []; stage = None }
-
--- a failure of which nothing else is known
-abbrev pub plain : FailStep → Failure
-plain step = record { step = step; detail = None }
-
--- a failure with the step of a reply, or with an endpoint
-abbrev pub detailed : FailStep → Detail → Failure
-detailed step detail = record { step = step; detail = Some detail }
-
--- the failure where a provider's file is refused, with the step of its reply or the endpoint
-abbrev pub provider_failure : ProviderStep → Failure
-provider_failure provider_steps.NoSite = plain steps.NoSite
-provider_failure (provider_steps.WellKnownReply s) = detailed steps.WellKnownReply (details.Reply s)
-provider_failure provider_steps.WellKnownShape = plain steps.WellKnownShape
-provider_failure provider_steps.WellKnownOther = plain steps.WellKnownOther
-provider_failure (provider_steps.ConfigReply s) = detailed steps.ConfigReply (details.Reply s)
-provider_failure provider_steps.ConfigShape = plain steps.ConfigShape
-provider_failure (provider_steps.EndpointOrigin e) = detailed steps.EndpointOrigin (details.Member e)
-
--- ---- a get, from row C2 on
-
--- the call is passive, and the user is logged out at the provider
-abbrev pub is_gated : Mode → LoginStatus → Bool
-is_gated Passive LoggedOut = true
-is_gated Passive LoggedIn = false
-is_gated Passive Unknown = false
-is_gated Active status = false
-
--- by whether the status lets no request out (row C6), else the first requests (row C7)
-abbrev pub by_gate : Parts → Parts → Bool → Outcome
-by_gate config wellknown true = fails (plain steps.LoggedOut)
-by_gate config wellknown false =
-    record { effects = Send 0 (WellKnown wellknown) ∷ Send 0 (Config config) ∷ []; stage = Some Reading }
-
--- by the well-known URL, if there is one (row C4)
-abbrev pub by_site : Parts → Result Parts ProviderStep → Bool → Outcome
-by_site config (Err step) gated = fails (plain steps.NoSite)
-by_site config (Ok wellknown) gated = by_gate config wellknown gated
-
--- by the scheme of the configuration URL (row C2)
-abbrev pub by_scheme : Scheme → Parts → Result Parts ProviderStep → Bool → Outcome
-by_scheme Http config wellknown gated = fails (plain steps.ConfigScheme)
-by_scheme Https config wellknown gated = by_site config wellknown gated
-
--- by the provider of the call
-abbrev pub start_at : World → Mode → Option ProviderOptions → Outcome
-start_at world mode None = stays
-start_at world mode (Some provider) =
-    by_scheme (scheme_of provider.config) provider.config (WellKnownUrlOf world.rules provider.config)
-    (is_gated mode (status_of world.login (origin_of provider.config)))
-
--- a get that no earlier row fails
-abbrev pub start_row : World → GetOptions → Outcome
-start_row world options = start_at world options.mode (provider_at 0 options)
-
--- ---- replies in Reading
-
--- what a well-known reply says: its URL is made by the rules, and its file names the configuration URL
-abbrev pub wellknown_read : RuleSet → Parts → List ℕ → Result (Unit {0}) ProviderStep
-wellknown_read rules config raw = do
-  base ← WellKnownUrlOf rules config
-  WellKnownOf raw base config
-
--- the same of the provider, if the call has it
-abbrev pub wellknown_of : RuleSet → List ℕ → Option ProviderOptions → Option (Result (Unit {0}) ProviderStep)
-wellknown_of rules raw provider = option_map (λ p. wellknown_read rules p.config raw) provider
-
--- both files are good, and the accounts are asked for
-abbrev pub asks_accounts : Configuration → Outcome
-asks_accounts config = record { effects = Send 0 (Accounts config.accounts) ∷ []; stage = Some Listing }
-
--- the first well-known reply, by the configuration, if there is one (rows C8, C9, C10)
-abbrev pub first_wellknown : Option Configuration → Result (Unit {0}) ProviderStep → Outcome
-first_wellknown config (Err step) = fails (provider_failure step)
-first_wellknown None (Ok _) = stays
-first_wellknown (Some config) (Ok _) = asks_accounts config
-
--- the first config reply, by whether a well-known reply was taken (rows C11, C12, C13)
-abbrev pub first_config : Bool → Result Configuration ProviderStep → Outcome
-first_config heard (Err step) = fails (provider_failure step)
-first_config false (Ok config) = stays
-first_config true (Ok config) = asks_accounts config
-
--- a well-known reply, by whether one was taken before, and by what it says, if the call has its provider (else row C36)
-abbrev pub wellknown_reply : Bool → Option Configuration → Option (Result (Unit {0}) ProviderStep) → Outcome
-wellknown_reply true config read = ignored NotWaited
-wellknown_reply false config None = ignored NotWaited
-wellknown_reply false config (Some read) = first_wellknown config read
-
--- a config reply, by the configuration that was taken before, if any, and in the same way
-abbrev pub config_reply : Bool → Option Configuration → Option (Result Configuration ProviderStep) → Outcome
-config_reply heard (Some config) read = ignored NotWaited
-config_reply heard None None = ignored NotWaited
-config_reply heard None (Some read) = first_config heard read
-
--- a reply for the provider, by what was taken before
-abbrev pub reading_reply : RuleSet → Bool → Option Configuration → Option ProviderOptions → ReplyKind → List ℕ → Outcome
-reading_reply rules heard config provider kinds.WellKnown raw = wellknown_reply heard config (wellknown_of rules raw provider)
-reading_reply rules heard config provider kinds.Config raw = config_reply heard config (config_read raw provider)
-reading_reply rules heard config provider _ raw = ignored NotWaited
-
--- ---- inputs
+use Rattle.fed_call.specs.Facts.{Facts, Outcome, provider_at}
+pub use Rattle.fed_call.specs.Outcomes.{finishes, fails, ignored, stays, plain, detailed, provider_failure}
+pub use Rattle.fed_call.specs.ReadingRows.{start_row}
+use Rattle.fed_call.specs.ReadingRows.{reading_reply}
+use Rattle.fed_call.specs.ListingRows.{listing_reply}
+use Rattle.fed_call.specs.DialogRows.{prompting_reply, chose, went_on, cancelled}
+use Rattle.fed_call.specs.AssertingRows.{asserting_reply}
 
 -- a reply for the provider at this place, by the stage
-abbrev pub stage_reply : RuleSet → Facts → Stage → ℕ → ReplyKind → List ℕ → Outcome
-stage_reply rules facts Reading place kind raw =
-    reading_reply rules facts.heard facts.config (provider_at place facts.options) kind raw
-stage_reply rules facts Listing place kind raw = ignored NotWaited
-stage_reply rules facts Ended place kind raw = ignored CallEnded
+abbrev pub stage_reply : World → Facts → Stage → ℕ → ReplyKind → List ℕ → Outcome
+stage_reply world facts Reading place kind raw =
+    reading_reply world.rules facts.heard facts.config (provider_at place facts.options) kind raw
+stage_reply world facts Listing place kind raw = listing_reply world facts (provider_at place facts.options) kind raw
+stage_reply world facts Mismatch place kind raw = ignored NotWaited
+stage_reply world facts Choosing place kind raw = ignored NotWaited
+stage_reply world facts Prompting place kind raw = prompting_reply world facts (provider_at place facts.options) kind raw
+stage_reply world facts Asserting place kind raw = asserting_reply facts (provider_at place facts.options) kind raw
+stage_reply world facts Ended place kind raw = ignored CallEnded
 
--- an input of a call that is not over: rows C8 to C13, C34 and C36
+-- an input of a call that is not over: rows C8 to C36
 abbrev pub input_row : World → Facts → Input → Outcome
-input_row world facts (inputs.Reply place kind raw) = stage_reply world.rules facts facts.stage place kind raw
+input_row world facts (inputs.Reply place kind raw) = stage_reply world facts facts.stage place kind raw
+input_row world facts (inputs.Choose place id) = chose world facts facts.stage place id
+input_row world facts inputs.GoOn = went_on facts facts.stage
+input_row world facts inputs.Cancel = cancelled facts.stage
 input_row world facts inputs.Abort = fails (plain steps.Aborted)
 input_row world facts _ = ignored NotOffered
 
@@ -170,10 +40,3 @@ input_row world facts _ = ignored NotOffered
 abbrev pub call_row : World → Option Facts → Input → Outcome
 call_row world None input = ignored CallEnded
 call_row world (Some facts) input = input_row world facts input
-
--- ---- for private clauses
-
--- the first requests, or the step at which the call fails
-abbrev pub first_outcome : Result (List Effect) FailStep → Outcome
-first_outcome (Ok effects) = record { effects = effects; stage = Some Reading }
-first_outcome (Err step) = fails (plain step)

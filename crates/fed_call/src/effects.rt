@@ -1,15 +1,19 @@
-//! How a call goes on, ends, or takes nothing.
+//! What a call does, where it goes on, ends, or takes nothing.
 ghost use Rattle.std.specs.Prelude.{◌≡◌, [], ◌∷◌, None, IfOk};
-ghost use Rattle.fed_call.specs.Row as spec;
+ghost use Rattle.fed_call.specs.AssertingRows.{token_refused};
+ghost use Rattle.fed_call.specs.Outcomes as spec;
 ghost use Rattle.fed_call.specs.State.{facts_of};
 
 use crate::{CallState, Ended};
+use fed_accounts::AccountsStep;
 use fed_consent::{Detail, Effect, FailStep, Failure, Finish, Why};
 use fed_io::{Items, NoRoom};
 use fed_provider::ProviderStep;
+use fed_token::TokenStep;
 use std::alloc::Global;
 
-fn one(alloc: Global, effect: Effect) -> Result<Items<Effect>, NoRoom>
+/// One effect.
+pub fn one(alloc: Global, effect: Effect) -> Result<Items<Effect>, NoRoom>
     ensures { IfOk result (λ effects. effects ≡ effect ∷ []) }
 {
     let mut effects = Items::new(alloc);
@@ -17,28 +21,27 @@ fn one(alloc: Global, effect: Effect) -> Result<Items<Effect>, NoRoom>
     Ok(effects)
 }
 
-/// The call is in this state after it does one thing.
-pub fn moved(
-    alloc: Global,
-    state: CallState,
-    effect: Effect,
-) -> Result<(CallState, Items<Effect>), NoRoom>
-    ensures effects { IfOk result (λ r. r.1 ≡ effect ∷ []) }
-    ensures state { IfOk result (λ r. r.0 ≡ state) }
+/// Two effects, in their order.
+pub fn two(alloc: Global, first: Effect, second: Effect) -> Result<Items<Effect>, NoRoom>
+    ensures { IfOk result (λ effects. effects ≡ first ∷ second ∷ []) }
 {
-    Ok((state, one(alloc, effect)?))
+    Ok(Items::from_vec(Vec::from_array(alloc, [first, second])?))
 }
 
-/// The call does not take the event.
-pub fn ignored(
-    alloc: Global,
-    state: CallState,
-    why: Why,
-) -> Result<(CallState, Items<Effect>), NoRoom>
-    ensures effects { IfOk result (λ r. r.1 ≡ (spec.ignored why).effects) }
-    ensures state { IfOk result (λ r. r.0 ≡ state) }
+/// What a call does that does not take the event.
+pub fn not_taken(alloc: Global, why: Why) -> Result<Items<Effect>, NoRoom>
+    ensures { IfOk result (λ effects. effects ≡ (spec.ignored why).effects) }
 {
-    moved(alloc, state, Effect::Ignored(why))
+    one(alloc, Effect::Ignored(why))
+}
+
+/// The page gets this, and the call is over.
+pub fn finishes(alloc: Global, finish: Finish) -> Result<(CallState, Items<Effect>), NoRoom>
+    ensures effects { IfOk result (λ r. r.1 ≡ (spec.finishes finish).effects) }
+    ensures state { IfOk result (λ r. facts_of r.0 ≡ None) }
+{
+    let effects = one(alloc, Effect::Finish(finish))?;
+    Ok((CallState::Ended(Ended), effects))
 }
 
 /// The page gets the failure, and the call is over.
@@ -46,8 +49,7 @@ pub fn fails(alloc: Global, failure: Failure) -> Result<(CallState, Items<Effect
     ensures effects { IfOk result (λ r. r.1 ≡ (spec.fails failure).effects) }
     ensures state { IfOk result (λ r. facts_of r.0 ≡ None) }
 {
-    let finish = Effect::Finish(Finish::Failed(failure));
-    moved(alloc, CallState::Ended(Ended), finish)
+    finishes(alloc, Finish::Failed(failure))
 }
 
 /// A failure of which nothing else is known.
@@ -84,5 +86,32 @@ pub fn provider_failure(step: ProviderStep) -> Failure
             FailStep::EndpointOrigin,
             Detail::Member(endpoint),
         ),
+    }
+}
+
+/// The failure where the accounts are refused, or none fits the hints of the call.
+pub fn accounts_failure(step: AccountsStep) -> Failure
+    ensures { result ≡ spec.accounts_failure step }
+{
+    match step {
+        AccountsStep::Reply(step) => detailed(FailStep::AccountsReply, Detail::Reply(step)),
+        AccountsStep::Shape => plain(FailStep::AccountsShape),
+        AccountsStep::Empty => plain(FailStep::AccountsEmpty),
+        AccountsStep::HintsNone => plain(FailStep::AccountsHints),
+    }
+}
+
+/// What the page gets where the reply with the token is refused, or gives an error.
+pub fn token_refused(step: TokenStep) -> Finish
+    ensures { result ≡ token_refused step }
+{
+    match step {
+        TokenStep::Reply(step) => Finish::Failed(detailed(
+            FailStep::AssertionReply,
+            Detail::Reply(step),
+        )),
+        TokenStep::Cors => Finish::Failed(plain(FailStep::AssertionCors)),
+        TokenStep::Shape => Finish::Failed(plain(FailStep::AssertionShape)),
+        TokenStep::ProviderError { code, url } => Finish::ProviderError { code, url },
     }
 }

@@ -2,7 +2,8 @@
 ghost use Rattle.std.specs.Prelude.{◌≡◌, IfOk};
 ghost use Rattle.fed_origin.specs.WebUrl.{scheme_of};
 ghost use Rattle.fed_call.specs.Facts.{provider_at, config_read};
-ghost use Rattle.fed_call.specs.Row.{wellknown_read, wellknown_of};
+ghost use Rattle.fed_call.specs.Begun.{options_of};
+ghost use Rattle.fed_call.specs.ReadingRows.{wellknown_read, wellknown_of};
 
 use crate::begun::Call;
 use fed_io::{Fault, NoRoom};
@@ -21,7 +22,7 @@ impl Call {
         place: u32,
         raw: &[u8],
     ) -> Result<Option<Result<(), ProviderStep>>, NoRoom>
-        ensures { IfOk result (λ read. read ≡ wellknown_of rules.now raw.now (provider_at place self.now.options)) }
+        ensures { IfOk result (λ read. read ≡ wellknown_of rules.now raw.now (provider_at place (options_of self.now))) }
     {
         match self.provider(place) {
             Some(provider) => Ok(Some(wellknown_file(alloc, rules, &provider.config, raw)?)),
@@ -37,7 +38,7 @@ impl Call {
         place: u32,
         raw: &[u8],
     ) -> Result<Option<Result<Config, ProviderStep>>, NoRoom>
-        ensures { IfOk result (λ read. read ≡ config_read raw.now (provider_at place self.now.options)) }
+        ensures { IfOk result (λ read. read ≡ config_read raw.now (provider_at place (options_of self.now))) }
     {
         let Some(provider) = self.provider(place) else {
             return Ok(None);

@@ -1,16 +1,34 @@
 //! The states of a get call, from its first requests to its end (FedCM, "Browser API").
 #![tactic(auto)]
 
+mod accounts;
+mod asserting;
+#[cfg(test)]
+mod assertion_tests;
 mod begun;
+mod choosing;
+#[cfg(test)]
+mod dialog_tests;
+mod dialogs;
 mod effects;
 mod files;
 mod listing;
+mod mismatch;
+mod prompting;
 mod reading;
 mod start;
 mod state;
 #[cfg(test)]
+mod test_calls;
+#[cfg(test)]
+mod test_replies;
+#[cfg(test)]
 mod tests;
 
+pub use asserting::Asserting;
+pub use choosing::Choosing;
 pub use listing::Listing;
+pub use mismatch::Mismatch;
+pub use prompting::Prompting;
 pub use reading::Reading;
 pub use state::{CallState, Ended};

@@ -1,15 +1,26 @@
 //! A call whose accounts are awaited.
-ghost use Rattle.std.specs.Prelude.{◌≡◌, IfOk};
-ghost use Rattle.fed_call.specs.Facts.{facts_after};
-ghost use Rattle.fed_call.specs.Row.{input_row};
-ghost use Rattle.fed_call.specs.State.{facts_of, listing_facts};
+ghost use Rattle.std.specs.Prelude.{◌≡◌, ◌<◌, ◌≤◌, ◌∷◌, [], Some, IfOk, length, map, unwrap_or};
+ghost use Rattle.fed_origin.specs.WebUrl.{origin_of};
+ghost use Rattle.fed_consent.specs.declared.input.Input.TheVariants as inputs;
+ghost use Rattle.fed_call.specs.Accounts.{connects, needs_metadata};
+ghost use Rattle.fed_call.specs.Begun.{options_of};
+ghost use Rattle.fed_call.specs.Facts.{facts_after, at_stage, provider_at, with_accounts, with_listing};
+ghost use Rattle.fed_call.specs.ListingRows as spec;
+ghost use Rattle.fed_call.specs.Outcomes.{ignored};
+ghost use Rattle.fed_call.specs.Row.{input_row, stage_reply};
+ghost use Rattle.fed_call.specs.State.{begun_facts, facts_of, listing_facts};
+ghost use Rattle.fed_status.specs.Login.{status_of};
 ghost use Rattle.fed_status.specs.Shared.{world_of};
 
-use crate::CallState;
+use crate::accounts::{connections, hinted_accounts};
 use crate::begun::Call;
-use crate::effects::{fails, ignored, plain};
-use fed_consent::{Effect, FailStep, Input, Why};
+use crate::dialogs::{choice_dialog, prompt_effect, site};
+use crate::effects::{accounts_failure, fails, not_taken, plain, two};
+use crate::{CallState, Choosing, Ended, Mismatch, Prompting};
+use fed_accounts::Accounts;
+use fed_consent::{Chooser, Dialog, Effect, FailStep, Failure, Finish, Input, Prompt, Why};
 use fed_io::{Items, NoRoom};
+use fed_origin::{LoginStatus, Mediation, Mode, Origin, ReplyKind, Stage};
 use fed_provider::Config;
 use fed_status::Shared;
 use std::alloc::Global;
@@ -30,17 +41,265 @@ impl Listing {
         shared: &Shared<'_>,
     ) -> Result<(CallState, Items<Effect>), NoRoom>
         ensures effects { IfOk result (λ r. r.1 ≡ (input_row (world_of shared.now) (listing_facts self) input.now).effects) }
-        ensures state { IfOk result (λ r. facts_of r.0 ≡ facts_after (listing_facts self) input.now (input_row (world_of shared.now) (listing_facts self) input.now)) }
+        ensures state { IfOk result (λ r. facts_of r.0 ≡ facts_after (world_of shared.now) (listing_facts self) input.now (input_row (world_of shared.now) (listing_facts self) input.now)) }
     {
         match input {
-            Input::Reply { .. } => ignored(alloc, CallState::Listing(self), Why::NotWaited),
+            Input::Reply {
+                provider,
+                kind,
+                raw,
+            } => self.reply(alloc, shared, *provider, *kind, raw.as_slice()),
             Input::Abort => fails(alloc, plain(FailStep::Aborted)),
             Input::Choose { .. }
             | Input::GoOn
             | Input::Cancel
             | Input::SignIn
             | Input::Shut
-            | Input::Resume => ignored(alloc, CallState::Listing(self), Why::NotOffered),
+            | Input::Resume => self.ignores(alloc, Why::NotOffered),
         }
     }
+
+    // The call does not take the event.
+    fn ignores(self, alloc: Global, why: Why) -> Result<(CallState, Items<Effect>), NoRoom>
+        ensures effects { IfOk result (λ r. r.1 ≡ (ignored why).effects) }
+        ensures state { IfOk result (λ r. r.0 ≡ CallState.Listing self) }
+    {
+        let effects = not_taken(alloc, why)?;
+        Ok((CallState::Listing(self), effects))
+    }
+
+    // A reply for the provider at this place.
+    fn reply(
+        self,
+        alloc: Global,
+        shared: &Shared<'_>,
+        place: u32,
+        kind: ReplyKind,
+        raw: &[u8],
+    ) -> Result<(CallState, Items<Effect>), NoRoom>
+        ensures effects { IfOk result (λ r. r.1 ≡ (stage_reply (world_of shared.now) (listing_facts self) Stage.Listing place kind raw.now).effects) }
+        ensures state { IfOk result (λ r. facts_of r.0 ≡ facts_after (world_of shared.now) (listing_facts self) (inputs.Reply place kind raw.now) (stage_reply (world_of shared.now) (listing_facts self) Stage.Listing place kind raw.now)) }
+    {
+        match kind {
+            ReplyKind::Accounts => self.accounts_reply(alloc, shared, place, raw),
+            ReplyKind::WellKnown
+            | ReplyKind::Config
+            | ReplyKind::Metadata
+            | ReplyKind::Assertion
+            | ReplyKind::Disconnect => self.ignores(alloc, Why::NotWaited),
+        }
+    }
+
+    // An accounts reply: it is taken of the provider that the call has.
+    fn accounts_reply(
+        self,
+        alloc: Global,
+        shared: &Shared<'_>,
+        place: u32,
+        raw: &[u8],
+    ) -> Result<(CallState, Items<Effect>), NoRoom>
+        ensures effects { IfOk result (λ r. r.1 ≡ (spec.accounts_reply (world_of shared.now) (listing_facts self) (provider_at place (options_of self.begun)) raw.now).effects) }
+        ensures state { IfOk result (λ r. facts_of r.0 ≡ facts_after (world_of shared.now) (listing_facts self) (inputs.Reply place ReplyKind.Accounts raw.now) (spec.accounts_reply (world_of shared.now) (listing_facts self) (provider_at place (options_of self.begun)) raw.now)) }
+    {
+        if self.begun.has(place) {
+            return self.first_accounts(alloc, shared, raw);
+        }
+        self.ignores(alloc, Why::NotWaited)
+    }
+
+    // The accounts reply of the provider.
+    fn first_accounts(
+        self,
+        alloc: Global,
+        shared: &Shared<'_>,
+        raw: &[u8],
+    ) -> Result<(CallState, Items<Effect>), NoRoom>
+        ensures effects { IfOk result (λ r. r.1 ≡ (spec.accounts_reply (world_of shared.now) (listing_facts self) (Some self.begun.provider) raw.now).effects) }
+        ensures state { IfOk result (λ r. facts_of r.0 ≡ at_stage (unwrap_or (spec.accounts_reply (world_of shared.now) (listing_facts self) (Some self.begun.provider) raw.now).stage Stage.Listing) (with_listing (world_of shared.now) raw.now (Some self.begun.provider) (listing_facts self))) }
+    {
+        match hinted_accounts(alloc, raw, &self.begun.provider)? {
+            Ok(accounts) => self.accepts(alloc, shared, accounts),
+            Err(step) => self.refuses(alloc, shared, accounts_failure(step)),
+        }
+    }
+
+    // The accounts are refused, or none fits the hints of the call.
+    fn refuses(
+        self,
+        alloc: Global,
+        shared: &Shared<'_>,
+        failure: Failure,
+    ) -> Result<(CallState, Items<Effect>), NoRoom>
+        ensures effects { IfOk result (λ r. r.1 ≡ (spec.refused (world_of shared.now) (listing_facts self) (origin_of self.begun.provider.config) failure).effects) }
+        ensures state { IfOk result (λ r. facts_of r.0 ≡ at_stage (unwrap_or (spec.refused (world_of shared.now) (listing_facts self) (origin_of self.begun.provider.config) failure).stage Stage.Listing) (listing_facts self)) }
+    {
+        if is_mismatch(alloc, &self.begun, shared)? {
+            return self.shows_mismatch(alloc, shared, failure);
+        }
+        let effects = logged_out(alloc, &self.begun, Effect::Finish(Finish::Failed(failure)))?;
+        Ok((CallState::Ended(Ended), effects))
+    }
+
+    // The user is shown that the provider gave no account, though it had said that he is logged in.
+    fn shows_mismatch(
+        self,
+        alloc: Global,
+        shared: &Shared<'_>,
+        failure: Failure,
+    ) -> Result<(CallState, Items<Effect>), NoRoom>
+        ensures effects { IfOk result (λ r. r.1 ≡ Effect.SetLogin (origin_of self.begun.provider.config) LoginStatus.LoggedOut ∷ Effect.Dialog (Dialog.Mismatch 0 (spec.site_of (world_of shared.now) self.begun.origin) failure) ∷ []) }
+        ensures state { IfOk result (λ r. r.0 ≡ CallState.Mismatch (record { begun = self.begun; config = self.config })) }
+    {
+        let effects = mismatch_shown(alloc, &self.begun, shared, failure)?;
+        let Listing { begun, config } = self;
+        Ok((CallState::Mismatch(Mismatch { begun, config }), effects))
+    }
+
+    // The accounts are good.
+    fn accepts(
+        self,
+        alloc: Global,
+        shared: &Shared<'_>,
+        accounts: Accounts,
+    ) -> Result<(CallState, Items<Effect>), NoRoom>
+        ensures effects { IfOk result (λ r. r.1 ≡ (spec.accepted (world_of shared.now) (listing_facts self) self.begun.provider accounts).effects) }
+        ensures state { IfOk result (λ r. facts_of r.0 ≡ at_stage (unwrap_or (spec.accepted (world_of shared.now) (listing_facts self) self.begun.provider accounts).stage Stage.Listing) (with_accounts (world_of shared.now) self.begun.provider accounts (listing_facts self))) }
+    {
+        let connected = connections(alloc, shared.kept, &self.begun, accounts.list())?;
+        if accounts.list().len() == 1 {
+            self.asks_about(alloc, shared, accounts, connected.as_slice()[0])
+        } else {
+            self.asks_for_choice(alloc, shared, accounts, connected)
+        }
+    }
+
+    // The user is to go on with the only account.
+    fn asks_about(
+        self,
+        alloc: Global,
+        shared: &Shared<'_>,
+        accounts: Accounts,
+        connected: bool,
+    ) -> Result<(CallState, Items<Effect>), NoRoom>
+        requires one { length accounts ≡ 1 }
+        requires each { connected ∷ [] ≡ map (connects (world_of shared.now) self.begun.origin self.begun.provider) accounts }
+        ensures effects { IfOk result (λ r. r.1 ≡ (spec.accepted (world_of shared.now) (listing_facts self) self.begun.provider accounts).effects) }
+        ensures state { IfOk result (λ r. facts_of r.0 ≡ at_stage (unwrap_or (spec.accepted (world_of shared.now) (listing_facts self) self.begun.provider accounts).stage Stage.Listing) (with_accounts (world_of shared.now) self.begun.provider accounts (listing_facts self))) }
+    {
+        let waits = !connected && self.config.metadata.is_some();
+        let prompt = Prompt::single(self.begun.call, 0, accounts, connected, waits);
+        let effects = prompt_shown(alloc, shared, &self, &prompt)?;
+        let Listing { begun, config } = self;
+        let state = Prompting {
+            begun,
+            config,
+            prompt,
+        };
+        Ok((CallState::Prompting(state), effects))
+    }
+
+    // The user is to choose one of several accounts.
+    fn asks_for_choice(
+        self,
+        alloc: Global,
+        shared: &Shared<'_>,
+        accounts: Accounts,
+        connected: Items<bool>,
+    ) -> Result<(CallState, Items<Effect>), NoRoom>
+        requires several { 2 ≤ length accounts }
+        requires each { connected ≡ map (connects (world_of shared.now) self.begun.origin self.begun.provider) accounts }
+        ensures effects { IfOk result (λ r. r.1 ≡ (spec.accepted (world_of shared.now) (listing_facts self) self.begun.provider accounts).effects) }
+        ensures state { IfOk result (λ r. facts_of r.0 ≡ at_stage (unwrap_or (spec.accepted (world_of shared.now) (listing_facts self) self.begun.provider accounts).stage Stage.Listing) (with_accounts (world_of shared.now) self.begun.provider accounts (listing_facts self))) }
+    {
+        let chooser = Chooser::new(self.begun.call, 0, accounts, connected);
+        let effects = choice_shown(alloc, shared, &self.begun, &chooser)?;
+        let Listing { begun, config } = self;
+        let state = Choosing {
+            begun,
+            config,
+            chooser,
+        };
+        Ok((CallState::Choosing(state), effects))
+    }
+}
+
+// Whether the call is passive and not silent, and the user was logged in at the provider.
+fn is_mismatch(alloc: Global, begun: &Call, shared: &Shared<'_>) -> Result<bool, NoRoom>
+    ensures { IfOk result (λ mismatch. mismatch ≡ spec.is_mismatch begun.now.mode begun.now.mediation (status_of (world_of shared.now).login (origin_of begun.now.provider.config))) }
+{
+    let provider = Origin::of_url(alloc, &begun.provider.config)?;
+    let was = shared.login.get(&provider);
+    Ok(
+        begun.mode == Mode::Passive
+            && begun.mediation != Mediation::Silent
+            && was == LoginStatus::LoggedIn,
+    )
+}
+
+// The user is logged out at the provider, and then this.
+fn logged_out(alloc: Global, begun: &Call, then: Effect) -> Result<Items<Effect>, NoRoom>
+    ensures { IfOk result (λ effects. effects ≡ Effect.SetLogin (origin_of begun.now.provider.config) LoginStatus.LoggedOut ∷ then ∷ []) }
+{
+    let provider = Origin::of_url(alloc, &begun.provider.config)?;
+    two(
+        alloc,
+        Effect::SetLogin(provider, LoginStatus::LoggedOut),
+        then,
+    )
+}
+
+// The user is logged in at the provider, and then this.
+fn logged_in(alloc: Global, begun: &Call, then: Effect) -> Result<Items<Effect>, NoRoom>
+    ensures { IfOk result (λ effects. effects ≡ Effect.SetLogin (origin_of begun.now.provider.config) LoginStatus.LoggedIn ∷ then ∷ []) }
+{
+    let provider = Origin::of_url(alloc, &begun.provider.config)?;
+    two(
+        alloc,
+        Effect::SetLogin(provider, LoginStatus::LoggedIn),
+        then,
+    )
+}
+
+// The user is logged out, and is shown that the provider gave no account.
+fn mismatch_shown(
+    alloc: Global,
+    begun: &Call,
+    shared: &Shared<'_>,
+    failure: Failure,
+) -> Result<Items<Effect>, NoRoom>
+    ensures { IfOk result (λ effects. effects ≡ Effect.SetLogin (origin_of begun.now.provider.config) LoginStatus.LoggedOut ∷ Effect.Dialog (Dialog.Mismatch 0 (spec.site_of (world_of shared.now) begun.now.origin) failure) ∷ []) }
+{
+    let dialog = Dialog::Mismatch {
+        provider: 0,
+        site: site(alloc, shared.rules, &begun.origin.host)?,
+        failure,
+    };
+    logged_out(alloc, begun, Effect::Dialog(dialog))
+}
+
+// The user is logged in, and what comes first of the prompt.
+fn prompt_shown(
+    alloc: Global,
+    shared: &Shared<'_>,
+    listing: &Listing,
+    prompt: &Prompt,
+) -> Result<Items<Effect>, NoRoom>
+    ensures { IfOk result (λ effects. effects ≡ Effect.SetLogin (origin_of listing.now.begun.provider.config) LoginStatus.LoggedIn ∷ spec.prompt_effect (world_of shared.now) (listing_facts listing.now) listing.now.begun.provider prompt.now.pick.candidate prompt.now.pick.candidate.connected listing.now.config.metadata ∷ []) }
+{
+    let begun = &listing.begun;
+    let effect = prompt_effect(alloc, shared, begun, prompt, &listing.config.metadata)?;
+    logged_in(alloc, begun, effect)
+}
+
+// The user is logged in, and is to choose.
+fn choice_shown(
+    alloc: Global,
+    shared: &Shared<'_>,
+    begun: &Call,
+    chooser: &Chooser,
+) -> Result<Items<Effect>, NoRoom>
+    ensures { IfOk result (λ effects. effects ≡ Effect.SetLogin (origin_of begun.now.provider.config) LoginStatus.LoggedIn ∷ spec.choice_dialog (world_of shared.now) (begun_facts begun.now) chooser.now.listed ∷ []) }
+{
+    let dialog = choice_dialog(alloc, shared, begun, chooser)?;
+    logged_in(alloc, begun, dialog)
 }

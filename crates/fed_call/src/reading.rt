@@ -1,21 +1,23 @@
 //! A call whose well-known file and configuration are awaited.
-ghost use Rattle.std.specs.Prelude.{◌≡◌, true, IfOk, unwrap_or};
+ghost use Rattle.std.specs.Prelude.{◌≡◌, ◌∷◌, [], true, IfOk, unwrap_or};
 ghost use Rattle.std.specs.Result.{result_ok};
 ghost use Rattle.fed_consent.specs.declared.input.Input.TheVariants as inputs;
 ghost use Rattle.fed_call.specs.Facts.{facts_after, at_stage, provider_at, config_read};
-ghost use Rattle.fed_call.specs.Row as spec;
+ghost use Rattle.fed_call.specs.Begun.{options_of};
+ghost use Rattle.fed_call.specs.ReadingRows as spec;
+ghost use Rattle.fed_call.specs.Outcomes.{ignored};
+ghost use Rattle.fed_call.specs.Row.{input_row, stage_reply};
 ghost use Rattle.fed_call.specs.State.{facts_of, reading_facts};
 ghost use Rattle.fed_status.specs.Shared.{world_of};
 
 use crate::begun::Call;
-use crate::effects::{fails, ignored, moved, plain, provider_failure};
+use crate::effects::{fails, not_taken, one, plain, provider_failure};
 use crate::{CallState, Listing};
 use fed_consent::{Ask, Effect, FailStep, Input, Why};
 use fed_io::{Items, NoRoom};
-use fed_origin::{ReplyKind, Stage};
+use fed_origin::{ReplyKind, Stage, WebUrl};
 use fed_provider::{Config, ProviderStep};
 use fed_status::Shared;
-use fed_suffix::Suffixes;
 use std::alloc::Global;
 
 /// A call whose well-known file and configuration are awaited.
@@ -36,44 +38,53 @@ impl Reading {
         input: &Input,
         shared: &Shared<'_>,
     ) -> Result<(CallState, Items<Effect>), NoRoom>
-        ensures effects { IfOk result (λ r. r.1 ≡ (spec.input_row (world_of shared.now) (reading_facts self) input.now).effects) }
-        ensures state { IfOk result (λ r. facts_of r.0 ≡ facts_after (reading_facts self) input.now (spec.input_row (world_of shared.now) (reading_facts self) input.now)) }
+        ensures effects { IfOk result (λ r. r.1 ≡ (input_row (world_of shared.now) (reading_facts self) input.now).effects) }
+        ensures state { IfOk result (λ r. facts_of r.0 ≡ facts_after (world_of shared.now) (reading_facts self) input.now (input_row (world_of shared.now) (reading_facts self) input.now)) }
     {
         match input {
             Input::Reply {
                 provider,
                 kind,
                 raw,
-            } => self.reply(alloc, shared.rules, *provider, *kind, raw.as_slice()),
+            } => self.reply(alloc, shared, *provider, *kind, raw.as_slice()),
             Input::Abort => fails(alloc, plain(FailStep::Aborted)),
             Input::Choose { .. }
             | Input::GoOn
             | Input::Cancel
             | Input::SignIn
             | Input::Shut
-            | Input::Resume => ignored(alloc, CallState::Reading(self), Why::NotOffered),
+            | Input::Resume => self.ignores(alloc, Why::NotOffered),
         }
+    }
+
+    // The call does not take the event.
+    fn ignores(self, alloc: Global, why: Why) -> Result<(CallState, Items<Effect>), NoRoom>
+        ensures effects { IfOk result (λ r. r.1 ≡ (ignored why).effects) }
+        ensures state { IfOk result (λ r. r.0 ≡ CallState.Reading self) }
+    {
+        let effects = not_taken(alloc, why)?;
+        Ok((CallState::Reading(self), effects))
     }
 
     // A reply for the provider at this place.
     fn reply(
         self,
         alloc: Global,
-        rules: &Suffixes,
+        shared: &Shared<'_>,
         place: u32,
         kind: ReplyKind,
         raw: &[u8],
     ) -> Result<(CallState, Items<Effect>), NoRoom>
-        ensures effects { IfOk result (λ r. r.1 ≡ (spec.stage_reply rules.now (reading_facts self) Stage.Reading place kind raw.now).effects) }
-        ensures state { IfOk result (λ r. facts_of r.0 ≡ facts_after (reading_facts self) (inputs.Reply place kind raw.now) (spec.stage_reply rules.now (reading_facts self) Stage.Reading place kind raw.now)) }
+        ensures effects { IfOk result (λ r. r.1 ≡ (stage_reply (world_of shared.now) (reading_facts self) Stage.Reading place kind raw.now).effects) }
+        ensures state { IfOk result (λ r. facts_of r.0 ≡ facts_after (world_of shared.now) (reading_facts self) (inputs.Reply place kind raw.now) (stage_reply (world_of shared.now) (reading_facts self) Stage.Reading place kind raw.now)) }
     {
         match kind {
-            ReplyKind::WellKnown => self.wellknown_reply(alloc, rules, place, raw),
-            ReplyKind::Config => self.config_reply(alloc, place, raw),
+            ReplyKind::WellKnown => self.wellknown_reply(alloc, shared, place, raw),
+            ReplyKind::Config => self.config_reply(alloc, shared, place, raw),
             ReplyKind::Accounts
             | ReplyKind::Metadata
             | ReplyKind::Assertion
-            | ReplyKind::Disconnect => ignored(alloc, CallState::Reading(self), Why::NotWaited),
+            | ReplyKind::Disconnect => self.ignores(alloc, Why::NotWaited),
         }
     }
 
@@ -81,38 +92,40 @@ impl Reading {
     fn wellknown_reply(
         self,
         alloc: Global,
-        rules: &Suffixes,
+        shared: &Shared<'_>,
         place: u32,
         raw: &[u8],
     ) -> Result<(CallState, Items<Effect>), NoRoom>
-        ensures effects { IfOk result (λ r. r.1 ≡ (spec.wellknown_reply self.heard self.config (spec.wellknown_of rules.now raw.now (provider_at place self.begun.options))).effects) }
-        ensures state { IfOk result (λ r. facts_of r.0 ≡ facts_after (reading_facts self) (inputs.Reply place ReplyKind.WellKnown raw.now) (spec.wellknown_reply self.heard self.config (spec.wellknown_of rules.now raw.now (provider_at place self.begun.options)))) }
+        ensures effects { IfOk result (λ r. r.1 ≡ (spec.wellknown_reply self.heard self.config (spec.wellknown_of (world_of shared.now).rules raw.now (provider_at place (options_of self.begun)))).effects) }
+        ensures state { IfOk result (λ r. facts_of r.0 ≡ facts_after (world_of shared.now) (reading_facts self) (inputs.Reply place ReplyKind.WellKnown raw.now) (spec.wellknown_reply self.heard self.config (spec.wellknown_of (world_of shared.now).rules raw.now (provider_at place (options_of self.begun))))) }
     {
         if self.heard {
-            return ignored(alloc, CallState::Reading(self), Why::NotWaited);
+            return self.ignores(alloc, Why::NotWaited);
         }
-        match self.begun.wellknown_file(alloc, rules, place, raw)? {
+        match self.begun.wellknown_file(alloc, shared.rules, place, raw)? {
             Some(read) => self.first_wellknown(alloc, read),
-            None => ignored(alloc, CallState::Reading(self), Why::NotWaited),
+            None => self.ignores(alloc, Why::NotWaited),
         }
     }
 
     // A config reply: one is taken, of the provider that the call has.
+    #[tactic(auto, using(crate::proofs::RowLemmas::config_taken))]
     fn config_reply(
         self,
         alloc: Global,
+        shared: &Shared<'_>,
         place: u32,
         raw: &[u8],
     ) -> Result<(CallState, Items<Effect>), NoRoom>
-        ensures effects { IfOk result (λ r. r.1 ≡ (spec.config_reply self.heard self.config (config_read raw.now (provider_at place self.begun.options))).effects) }
-        ensures state { IfOk result (λ r. facts_of r.0 ≡ facts_after (reading_facts self) (inputs.Reply place ReplyKind.Config raw.now) (spec.config_reply self.heard self.config (config_read raw.now (provider_at place self.begun.options)))) }
+        ensures effects { IfOk result (λ r. r.1 ≡ (spec.config_reply self.heard self.config (config_read raw.now (provider_at place (options_of self.begun)))).effects) }
+        ensures state { IfOk result (λ r. facts_of r.0 ≡ facts_after (world_of shared.now) (reading_facts self) (inputs.Reply place ReplyKind.Config raw.now) (spec.config_reply self.heard self.config (config_read raw.now (provider_at place (options_of self.begun))))) }
     {
         if self.config.is_some() {
-            return ignored(alloc, CallState::Reading(self), Why::NotWaited);
+            return self.ignores(alloc, Why::NotWaited);
         }
         match self.begun.config_file(alloc, place, raw)? {
             Some(read) => self.first_config(alloc, read),
-            None => ignored(alloc, CallState::Reading(self), Why::NotWaited),
+            None => self.ignores(alloc, Why::NotWaited),
         }
     }
 
@@ -176,7 +189,14 @@ fn asks_accounts(
     ensures effects { IfOk result (λ r. r.1 ≡ (spec.asks_accounts config).effects) }
     ensures state { IfOk result (λ r. r.0 ≡ CallState.Listing (record { begun = begun; config = config })) }
 {
-    let to = config.accounts.copy(alloc)?;
-    let state = CallState::Listing(Listing { begun, config });
-    moved(alloc, state, Effect::Send(0, Ask::Accounts { to }))
+    let effects = accounts_request(alloc, &config.accounts)?;
+    Ok((CallState::Listing(Listing { begun, config }), effects))
+}
+
+// The request for the accounts.
+fn accounts_request(alloc: Global, to: &WebUrl) -> Result<Items<Effect>, NoRoom>
+    ensures { IfOk result (λ effects. effects ≡ Effect.Send 0 (Ask.Accounts to.now) ∷ []) }
+{
+    let to = to.copy(alloc)?;
+    one(alloc, Effect::Send(0, Ask::Accounts { to }))
 }

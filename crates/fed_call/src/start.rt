@@ -1,10 +1,10 @@
 //! The beginning of a call.
-ghost use Rattle.std.specs.Prelude.{◌≡◌, [], ◌∷◌, IfOk, length};
-ghost use Rattle.fed_origin.specs.WebUrl.{origin_of};
+ghost use Rattle.std.specs.Prelude.{◌≡◌, [], ◌∷◌, IfOk, IfSome, length};
+ghost use Rattle.fed_origin.specs.WebUrl.{origin_of, scheme_of};
 ghost use Rattle.fed_status.specs.Login.{status_of};
 ghost use Rattle.fed_status.specs.Shared.{world_of};
-ghost use Rattle.fed_call.specs.Begun.{HasOneProvider};
-ghost use Rattle.fed_call.specs.Row as spec;
+ghost use Rattle.fed_call.specs.Facts.{provider_at};
+ghost use Rattle.fed_call.specs.ReadingRows as spec;
 
 use fed_consent::{Ask, Effect, FailStep};
 use fed_io::{Fault, Items, NoRoom};
@@ -21,7 +21,7 @@ pub fn first_requests(
 ) -> Result<Result<Items<Effect>, FailStep>, NoRoom>
     requires { length options.now.providers ≡ 1 }
     ensures value { IfOk result (λ first. spec.first_outcome first ≡ spec.start_row (world_of shared.now) options.now) }
-    ensures one { IfOk result (λ first. IfOk first (λ _. HasOneProvider options.now.providers)) }
+    ensures secure { IfOk result (λ first. IfOk first (λ _. IfSome (provider_at 0 options.now) (λ provider. scheme_of provider.config ≡ Scheme.Https))) }
 {
     let config = &options.providers.as_slice()[0].config;
     if config.scheme() == Scheme::Http {

@@ -6,9 +6,9 @@ ghost use Rattle.fed_call.specs.Row.{start_row, call_row};
 ghost use Rattle.fed_call.specs.State.{facts_of};
 
 use crate::begun::Call;
-use crate::effects::{fails, ignored, plain};
+use crate::effects::{fails, not_taken, plain};
 use crate::start::first_requests;
-use crate::{Listing, Reading};
+use crate::{Asserting, Choosing, Listing, Mismatch, Prompting, Reading};
 use fed_consent::{Effect, Input, Why};
 use fed_io::{Items, NoRoom};
 use fed_origin::{GetOptions, Origin, Stage};
@@ -25,6 +25,10 @@ pub struct Ended;
 pub enum CallState {
     Reading(Reading),
     Listing(Listing),
+    Mismatch(Mismatch),
+    Choosing(Choosing),
+    Prompting(Prompting),
+    Asserting(Asserting),
     Ended(Ended),
 }
 
@@ -46,14 +50,8 @@ impl CallState {
     {
         match first_requests(alloc, &options, shared)? {
             Ok(effects) => {
-                let begun = Call {
-                    call,
-                    page,
-                    origin,
-                    options,
-                };
                 let state = Reading {
-                    begun,
+                    begun: Call::new(call, page, origin, options),
                     heard: false,
                     config: None,
                 };
@@ -63,8 +61,10 @@ impl CallState {
         }
     }
 
-    /// The call after an input, and what it does there: rows C8 to C13, C34 and C36. A call that is over ignores each input.
-    /// On want of memory the call is gone.
+    /// The call after an input, and what it does there: rows C8 to C13, C15, C16, C19 to C27, C31 to
+    /// C34 and C36. A call that is over ignores each input.
+    /// On want of memory the call is gone, and a consent that was
+    /// made is voided.
     pub fn advance(
         self,
         alloc: Global,
@@ -72,12 +72,19 @@ impl CallState {
         shared: &Shared<'_>,
     ) -> Result<(CallState, Items<Effect>), NoRoom>
         ensures effects { IfOk result (λ r. r.1 ≡ (call_row (world_of shared.now) (facts_of self) input.now).effects) }
-        ensures state { IfOk result (λ r. facts_of r.0 ≡ next_facts (facts_of self) input.now (call_row (world_of shared.now) (facts_of self) input.now)) }
+        ensures state { IfOk result (λ r. facts_of r.0 ≡ next_facts (world_of shared.now) (facts_of self) input.now (call_row (world_of shared.now) (facts_of self) input.now)) }
     {
         match self {
             CallState::Reading(state) => state.advance(alloc, input, shared),
             CallState::Listing(state) => state.advance(alloc, input, shared),
-            CallState::Ended(state) => ignored(alloc, CallState::Ended(state), Why::CallEnded),
+            CallState::Mismatch(state) => state.advance(alloc, input, shared),
+            CallState::Choosing(state) => state.advance(alloc, input, shared),
+            CallState::Prompting(state) => state.advance(alloc, input, shared),
+            CallState::Asserting(state) => state.advance(alloc, input, shared),
+            CallState::Ended(state) => {
+                let effects = not_taken(alloc, Why::CallEnded)?;
+                Ok((CallState::Ended(state), effects))
+            }
         }
     }
 
@@ -88,6 +95,10 @@ impl CallState {
         match self {
             CallState::Reading(_) => Stage::Reading,
             CallState::Listing(_) => Stage::Listing,
+            CallState::Mismatch(_) => Stage::Mismatch,
+            CallState::Choosing(_) => Stage::Choosing,
+            CallState::Prompting(_) => Stage::Prompting,
+            CallState::Asserting(_) => Stage::Asserting,
             CallState::Ended(_) => Stage::Ended,
         }
     }
@@ -99,6 +110,10 @@ impl CallState {
         match self {
             CallState::Reading(state) => Some(state.begun.page),
             CallState::Listing(state) => Some(state.begun.page),
+            CallState::Mismatch(state) => Some(state.begun.page),
+            CallState::Choosing(state) => Some(state.begun.page),
+            CallState::Prompting(state) => Some(state.begun.page),
+            CallState::Asserting(state) => Some(state.begun.page),
             CallState::Ended(_) => None,
         }
     }

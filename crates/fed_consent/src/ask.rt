@@ -3,6 +3,7 @@ ghost use Rattle.std.specs.Prelude.{◌≡◌};
 ghost use Rattle.std.specs.Option.{option_copied};
 ghost use Rattle.fed_consent.specs.Ask.{kind_of, url_of, named_origin};
 
+use crate::AssertionAsk;
 use fed_io::Text;
 use fed_origin::{Origin, ReplyKind, WebUrl};
 
@@ -27,6 +28,8 @@ pub enum Ask {
         client: Text,
         origin: Origin,
     },
+    /// For a token. It names the page, the client and the account.
+    Assertion(AssertionAsk),
     /// For the end of an account's permission at a client, whose page has this origin. The hint says which account.
     Disconnect {
         to: WebUrl,
@@ -46,6 +49,7 @@ impl Ask {
             Ask::Config { .. } => ReplyKind::Config,
             Ask::Accounts { .. } => ReplyKind::Accounts,
             Ask::Metadata { .. } => ReplyKind::Metadata,
+            Ask::Assertion(_) => ReplyKind::Assertion,
             Ask::Disconnect { .. } => ReplyKind::Disconnect,
         }
     }
@@ -59,6 +63,7 @@ impl Ask {
             Ask::Config { to } => to,
             Ask::Accounts { to } => to,
             Ask::Metadata { to, .. } => to,
+            Ask::Assertion(ask) => ask.to(),
             Ask::Disconnect { to, .. } => to,
         }
     }
@@ -70,6 +75,7 @@ impl Ask {
         match self {
             Ask::WellKnown { .. } | Ask::Config { .. } | Ask::Accounts { .. } => None,
             Ask::Metadata { origin, .. } => Some(origin),
+            Ask::Assertion(ask) => Some(ask.origin()),
             Ask::Disconnect { origin, .. } => Some(origin),
         }
     }

@@ -7,6 +7,14 @@ pub enum Stage {
     Reading,
     /// The accounts are awaited.
     Listing,
+    /// The user is shown that the provider gave no account, though it had said that he is logged in.
+    Mismatch,
+    /// The user is to choose an account.
+    Choosing,
+    /// The user is to go on with an account.
+    Prompting,
+    /// The token is awaited.
+    Asserting,
     /// The call is over.
     Ended,
 }

@@ -1,12 +1,13 @@
 //! Requests byte for byte.
-ghost use Rattle.std.specs.Prelude.{ℕ, List, IfOk};
+ghost use Rattle.std.specs.Prelude.{ℕ, List, IfOk, IfSome};
 ghost use Rattle.fed_cookie.specs.SetCookie.{HasNoLineEnd};
 ghost use Rattle.fed_request.specs.Request.{TakesCookies};
 
 use crate::build;
-use fed_consent::Ask;
+use fed_accounts::{Accounts, read_accounts};
+use fed_consent::{Ask, Consent, Prompt};
 use fed_io::{NoRoom, Text};
-use fed_origin::{Origin, WebUrl};
+use fed_origin::{Origin, ProviderOptions, WebUrl};
 use std::alloc::Global;
 use std::test::Fail;
 
@@ -27,6 +28,12 @@ const METADATA: &[u8] =
 
 const MORE_METADATA: &[u8] =
     b"GET /client?v=1&client_id=c+%26%C3%A9 HTTP/1.1\r\nHost: accounts.idp.example\r\nAccept: application/json\r\nSec-Fetch-Dest: webidentity\r\nOrigin: https://rp.example\r\n\r\n";
+
+const ASSERTION: &[u8] =
+    b"POST /assert HTTP/1.1\r\nHost: accounts.idp.example\r\nAccept: application/json\r\nSec-Fetch-Dest: webidentity\r\nOrigin: https://rp.example\r\nContent-Type: application/x-www-form-urlencoded\r\nContent-Length: 85\r\nCookie: a=5\r\n\r\nclient_id=c1&nonce=n1&account_id=u1&disclosure_text_shown=true&is_auto_selected=false";
+
+const ACCOUNT: &[u8] =
+    b"HTTP/1.1 200 OK\r\nContent-Type: application/json\r\n\r\n{\"accounts\":[{\"id\":\"u1\",\"name\":\"Ann\",\"email\":\"ann@idp.example\"}]}";
 
 const DISCONNECT: &[u8] =
     b"POST /bye HTTP/1.1\r\nHost: accounts.idp.example\r\nAccept: application/json\r\nSec-Fetch-Dest: webidentity\r\nOrigin: https://rp.example\r\nContent-Type: application/x-www-form-urlencoded\r\nContent-Length: 28\r\n\r\nclient_id=c1&account_hint=u1";
@@ -166,5 +173,95 @@ fn metadata_requests(rt: HostRuntime) -> Result<(), Fail> {
 fn disconnect_requests(rt: HostRuntime) -> Result<(), Fail> {
     assert!(rt; disconnect_is(rt.alloc(), b"", DISCONNECT)?);
     assert!(rt; disconnect_is(rt.alloc(), b"a=5", DISCONNECT_WITH_COOKIES)?);
+    Ok(())
+}
+
+fn only_account(alloc: Global) -> Result<Accounts, NoRoom> {
+    match read_accounts(alloc, ACCOUNT) {
+        Ok(accounts) => Ok(accounts),
+        Err(_) => Err(NoRoom),
+    }
+}
+
+fn options(alloc: Global) -> Result<ProviderOptions, NoRoom> {
+    Ok(ProviderOptions {
+        config: url(alloc, "https://accounts.idp.example/fedcm.json")?,
+        client: Text::of(alloc, "c1")?,
+        nonce: Some(Text::of(alloc, "n1")?),
+        login_hint: None,
+        domain_hint: None,
+        params: None,
+    })
+}
+
+// The prompt for the only account; none where other accounts were read.
+fn prompt(alloc: Global) -> Result<Option<Prompt>, NoRoom> {
+    let accounts = only_account(alloc)?;
+    if accounts.list().len() != 1 {
+        return Ok(None);
+    }
+    Ok(Some(Prompt::single(1, 0, accounts, false, false)))
+}
+
+// The request that an agreement makes.
+fn spent(
+    alloc: Global,
+    consent: Consent,
+    to: &WebUrl,
+    origin: &Origin,
+    options: &ProviderOptions,
+) -> Result<Ask, NoRoom>
+    ensures { IfOk result (λ ask. (cookies : List ℕ) → TakesCookies ask cookies) }
+{
+    match consent.spend(alloc, to, origin, options) {
+        Ok(ask) => Ok(ask),
+        Err((NoRoom, consent)) => {
+            consent.void();
+            Err(NoRoom)
+        }
+    }
+}
+
+// The request that going on with a prompt makes; none where it waits.
+fn asked(
+    alloc: Global,
+    prompt: Prompt,
+    to: &WebUrl,
+    origin: &Origin,
+    options: &ProviderOptions,
+) -> Result<Option<Ask>, NoRoom>
+    ensures { IfOk result (λ asked. IfSome asked (λ ask. (cookies : List ℕ) → TakesCookies ask cookies)) }
+{
+    match prompt.proceed() {
+        Ok(consent) => Ok(Some(spent(alloc, consent, to, origin, options)?)),
+        Err(_) => Ok(None),
+    }
+}
+
+// A request for a token.
+fn assertion(alloc: Global) -> Result<Option<Ask>, NoRoom>
+    ensures { IfOk result (λ asked. IfSome asked (λ ask. (cookies : List ℕ) → TakesCookies ask cookies)) }
+{
+    let to = url(alloc, "https://accounts.idp.example/assert")?;
+    let origin = page(alloc)?;
+    let options = options(alloc)?;
+    match prompt(alloc)? {
+        Some(prompt) => asked(alloc, prompt, &to, &origin, &options),
+        None => Ok(None),
+    }
+}
+
+fn assertion_is(alloc: Global, cookies: &[u8], expected: &[u8]) -> Result<bool, NoRoom>
+    requires { HasNoLineEnd cookies.now }
+{
+    match assertion(alloc)? {
+        Some(ask) => has_bytes(alloc, &ask, cookies, expected),
+        None => Ok(false),
+    }
+}
+
+#[test]
+fn assertion_requests(rt: HostRuntime) -> Result<(), Fail> {
+    assert!(rt; assertion_is(rt.alloc(), b"a=5", ASSERTION)?);
     Ok(())
 }

@@ -12,10 +12,11 @@ use Rattle.fed_script.specs.Member.{◌>>=◌, or_cause, json_of, member_of, req
 use Rattle.fed_script.specs.Raw.{optional_bytes, required_bytes}
 use Rattle.fed_script.specs.Status.{login_status, setstatus_of}
 use Rattle.fed_script.specs.Have.{login_of, cookie_of, said, have_of}
-use Rattle.fed_script.specs.Single.{at_of, closepage_of, abort_of}
+use Rattle.fed_script.specs.Single.{at_of, closepage_of, abort_of, go_on_of, cancel_of}
 use Rattle.fed_script.specs.Load.{load_of}
 use Rattle.fed_script.specs.Get.{get_members, get_of}
 use Rattle.fed_script.specs.Reply.{reply_kind, reply_of}
+use Rattle.fed_script.specs.Choose.{choose_of}
 use Rattle.fed_script.specs.Line.{kind_of, event_of_kind, event_named}
 use Rattle.fed_script.specs.Used.{IsKnown, SaysKnown, HasOneProvider, HasKnownStatus}
 
@@ -81,6 +82,12 @@ closepage_good d = always Good (required as_u32 names.Page d) _ (λ page. (tt, t
 abort_good : (d : Data) → IfOk (abort_of d) Good
 abort_good d = always Good (required as_u32 names.Call d) _ (λ call. (tt, tt))
 
+go_on_good : (d : Data) → IfOk (go_on_of d) Good
+go_on_good d = always Good (required as_u32 names.Call d) _ (λ call. (tt, tt))
+
+cancel_good : (d : Data) → IfOk (cancel_of d) Good
+cancel_good d = always Good (required as_u32 names.Call d) _ (λ call. (tt, tt))
+
 load_good : (d : Data) → IfOk (load_of d) Good
 load_good d =
     always Good (required as_u32 names.Page d) _ (λ page. always Good (required as_str names.Url d) _
@@ -94,27 +101,36 @@ reply_good d =
     always Good (required as_u32 names.Call d) _ (λ call. always Good (optional as_u32 names.Provider (member_of names.Provider d)) _
     (λ provider. always Good (required (as_word reply_kind) names.To d) _ (λ kind. always Good (required_bytes d) _ (λ raw. (tt, tt)))))
 
+choose_good : (d : Data) → IfOk (choose_of d) Good
+choose_good d =
+    always Good (required as_u32 names.Call d) _ (λ call. always Good (optional as_u32 names.Provider (member_of names.Provider d)) _
+    (λ provider. always Good (required as_str names.Account d) _ (λ account. (tt, tt))))
+
 setstatus_good : (d : Data) → IfOk (setstatus_of d) Good
 setstatus_good d =
     always Good (required as_u32 names.Page d) _
     (λ page. after IsKnown Good (required (as_word login_status) names.Status d) _ (known d) (λ status so. (tt, so)))
 
-one_good : (d : Data) (cause : LineCause) (a b c e f g h i : Bool)
-    → IfOk (cond a (have_of d) (cond b (at_of d) (cond c (load_of d) (cond e (closepage_of d) (cond f (get_of d) (cond g (abort_of d) (cond h (reply_of d) (cond i (setstatus_of d) (Err cause))))))))) Good
-one_good d cause true b c e f g h i = have_good d
-one_good d cause false true c e f g h i = at_good d
-one_good d cause false false true e f g h i = load_good d
-one_good d cause false false false true f g h i = closepage_good d
-one_good d cause false false false false true g h i = get_good d
-one_good d cause false false false false false true h i = abort_good d
-one_good d cause false false false false false false true i = reply_good d
-one_good d cause false false false false false false false true = setstatus_good d
-one_good d cause false false false false false false false false = tt
+one_good : (d : Data) (cause : LineCause) (a b c e f g h i j k l : Bool)
+    → IfOk (cond a (have_of d) (cond b (at_of d) (cond c (load_of d) (cond e (closepage_of d) (cond f (get_of d) (cond g (abort_of d) (cond h (go_on_of d) (cond i (cancel_of d) (cond j (reply_of d) (cond k (choose_of d) (cond l (setstatus_of d) (Err cause)))))))))))) Good
+one_good d cause true b c e f g h i j k l = have_good d
+one_good d cause false true c e f g h i j k l = at_good d
+one_good d cause false false true e f g h i j k l = load_good d
+one_good d cause false false false true f g h i j k l = closepage_good d
+one_good d cause false false false false true g h i j k l = get_good d
+one_good d cause false false false false false true h i j k l = abort_good d
+one_good d cause false false false false false false true i j k l = go_on_good d
+one_good d cause false false false false false false false true j k l = cancel_good d
+one_good d cause false false false false false false false false true k l = reply_good d
+one_good d cause false false false false false false false false false true l = choose_good d
+one_good d cause false false false false false false false false false false true = setstatus_good d
+one_good d cause false false false false false false false false false false false = tt
 
 kind_good : (kind : List ℕ) (d : Data) → IfOk (event_of_kind kind d) Good
 kind_good kind d =
     one_good d _ (bytes_eq kind (codes "have")) (bytes_eq kind (codes "at")) (bytes_eq kind (codes "load")) (bytes_eq kind (codes "closepage"))
-    (bytes_eq kind (codes "get")) (bytes_eq kind (codes "abort")) (bytes_eq kind (codes "reply")) (bytes_eq kind (codes "setstatus"))
+    (bytes_eq kind (codes "get")) (bytes_eq kind (codes "abort")) (bytes_eq kind (codes "continue")) (bytes_eq kind (codes "cancel"))
+    (bytes_eq kind (codes "reply")) (bytes_eq kind (codes "choose")) (bytes_eq kind (codes "setstatus"))
 
 named_good : (line : List ℕ) → IfOk (event_named line) Good
 named_good line = always Good (json_of line) _ (λ d. always Good (kind_of d) _ (λ kind. kind_good kind d))

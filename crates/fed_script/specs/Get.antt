@@ -1,10 +1,10 @@
 -- What a line of the kind `get` is read as.
-use Rattle.std.specs.Prelude.{⊤, ℕ, List, [], ◌∷◌, Option, Some, None, option_and_then, Result, Ok, false}
+use Rattle.std.specs.Prelude.{ℕ, List, [], ◌∷◌, Option, Some, None, option_and_then, Result, Ok, false}
 use Rattle.std.specs.Option.{option_copied}
 use Rattle.serde_json.specs.Data.{Data, object, Items, no_items, item}
 use Rattle.serde_json.specs.Find.{as_str, as_array}
 use Rattle.url.specs.Parts.{Parts}
-use Rattle.fed_origin.specs.declared.options.Context.TheVariants.{SignIn}
+use Rattle.fed_origin.specs.declared.options.Context.{Context}
 use Rattle.fed_origin.specs.declared.options.GetOptions.{GetOptions}
 use Rattle.fed_origin.specs.declared.options.Mediation.TheVariants.{Optional}
 use Rattle.fed_origin.specs.declared.options.Mode.TheVariants.{Passive}
@@ -15,7 +15,8 @@ use Rattle.fed_script.specs.declared.event.Event.{Event}
 use Rattle.fed_script.specs.declared.event.Event.TheVariants.{Get}
 use Rattle.fed_script.specs.declared.get.GetMembers as get
 use Rattle.fed_script.specs.declared.get.ProviderMembers as provider
-use Rattle.fed_script.specs.Member.{◌>>=◌, required, optional, not_built, member_of, as_u32, url_of}
+use Rattle.fed_script.specs.Member.{◌>>=◌, required, optional, member_of, as_u32, url_of}
+use Rattle.fed_script.specs.Options.{no_options, context_of}
 
 -- the members of an entry of `providers`, its URL as text
 pub record ProviderMembers : Type 0 where
@@ -30,6 +31,7 @@ pub record ProviderMembers : Type 0 where
 pub record GetMembers : Type 0 where
   pub page : ℕ
   pub call : ℕ
+  pub context : Context
   pub provider : ProviderMembers
 
 -- what borrowed members of an entry point to
@@ -46,7 +48,7 @@ provider_seen p =
 
 -- what borrowed members of a get point to
 abbrev pub get_seen : get.GetMembers → GetMembers
-get_seen m = record { page = m.page; call = m.call; provider = provider_seen m.provider }
+get_seen m = record { page = m.page; call = m.call; context = m.context; provider = provider_seen m.provider }
 
 -- the entry of a list of exactly one
 abbrev pub only_item : Items → Option Data
@@ -81,23 +83,16 @@ provider_members d = do
     params = params;
   })
 
--- the options of a call other than its providers are not read yet
-abbrev pub no_options : Data → Result ⊤ LineCause
-no_options d = do
-  mediation ← not_built names.Mediation (member_of names.Mediation d)
-  mode ← not_built names.Mode (member_of names.Mode d)
-  activation ← not_built names.Activation (member_of names.Activation d)
-  not_built names.Context (member_of names.Context d)
-
 -- the members of a get, in their order
 abbrev pub get_members : Data → Result GetMembers LineCause
 get_members d = do
   page ← required as_u32 names.Page d
   call ← required as_u32 names.Call d
   options ← no_options d
+  context ← context_of d
   entry ← required as_provider names.Providers d
   provider ← provider_members entry
-  Ok (record { page = page; call = call; provider = provider })
+  Ok (record { page = page; call = call; context = context; provider = provider })
 
 -- a provider's options, with its configuration URL
 abbrev pub provider_of : Parts → ProviderMembers → ProviderOptions
@@ -111,14 +106,14 @@ provider_of config members =
       params = members.params;
     }
 
--- the options of a call that names its provider alone: mediation is optional, the mode passive without activation, and the context signing in
-abbrev pub default_options : ProviderOptions → GetOptions
-default_options provider =
-    record { mediation = Optional; mode = Passive; activation = false; context = SignIn; providers = provider ∷ [] }
+-- the options of a call that names its context and its provider: mediation is optional, and the mode passive without activation
+abbrev pub options_of : Context → ProviderOptions → GetOptions
+options_of context provider =
+    record { mediation = Optional; mode = Passive; activation = false; context = context; providers = provider ∷ [] }
 
 -- the get that a line names
 abbrev pub get_of : Data → Result Event LineCause
 get_of d = do
   members ← get_members d
   config ← url_of members.provider.config
-  Ok (Get members.page members.call (default_options (provider_of config members.provider)))
+  Ok (Get members.page members.call (options_of members.context (provider_of config members.provider)))

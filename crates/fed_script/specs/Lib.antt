@@ -6,7 +6,9 @@ pub mod Status
 pub mod Have
 pub mod Single
 pub mod Reply
+pub mod Choose
 pub mod Load
+pub mod Options
 pub mod Get
 pub mod Used
 pub mod Line

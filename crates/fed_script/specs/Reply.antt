@@ -2,7 +2,7 @@
 use Rattle.std.specs.Prelude.{ℕ, List, codes, Option, Some, None, unwrap_or, Result, Ok, bytes_eq, if◌then◌else◌}
 use Rattle.serde_json.specs.Data.{Data}
 use Rattle.fed_origin.specs.declared.stage.ReplyKind.{ReplyKind}
-use Rattle.fed_origin.specs.declared.stage.ReplyKind.TheVariants.{WellKnown, Config}
+use Rattle.fed_origin.specs.declared.stage.ReplyKind.TheVariants.{WellKnown, Config, Accounts, Metadata, Assertion}
 use Rattle.fed_script.specs.declared.cause.LineCause.{LineCause}
 use Rattle.fed_script.specs.declared.cause.MemberName.TheVariants as names
 use Rattle.fed_script.specs.declared.event.Event.{Event}
@@ -14,7 +14,10 @@ use Rattle.fed_script.specs.Raw.{required_bytes}
 abbrev pub reply_kind : List ℕ → Option ReplyKind
 reply_kind word =
     if bytes_eq word (codes "wellknown") then Some WellKnown
-    else (if bytes_eq word (codes "config") then Some Config else None)
+    else (if bytes_eq word (codes "config") then Some Config
+    else (if bytes_eq word (codes "accounts") then Some Accounts
+    else (if bytes_eq word (codes "metadata") then Some Metadata
+    else (if bytes_eq word (codes "assertion") then Some Assertion else None))))
 
 -- the reply that a line names; where it names no provider, it comes from the first
 abbrev pub reply_of : Data → Result Event LineCause

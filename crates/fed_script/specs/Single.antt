@@ -4,7 +4,7 @@ use Rattle.serde_json.specs.Data.{Data}
 use Rattle.fed_script.specs.declared.cause.LineCause.{LineCause}
 use Rattle.fed_script.specs.declared.cause.MemberName.TheVariants as names
 use Rattle.fed_script.specs.declared.event.Event.{Event}
-use Rattle.fed_script.specs.declared.event.Event.TheVariants.{At, ClosePage, Abort}
+use Rattle.fed_script.specs.declared.event.Event.TheVariants.{At, ClosePage, Abort, GoOn, Cancel}
 use Rattle.fed_script.specs.Member.{◌>>=◌, required, as_whole, as_u32}
 
 -- the time that a line names
@@ -24,3 +24,15 @@ abbrev pub abort_of : Data → Result Event LineCause
 abort_of d = do
   call ← required as_u32 names.Call d
   Ok (Abort call)
+
+-- the call whose prompt a line answers
+abbrev pub go_on_of : Data → Result Event LineCause
+go_on_of d = do
+  call ← required as_u32 names.Call d
+  Ok (GoOn call)
+
+-- the call whose dialog a line closes
+abbrev pub cancel_of : Data → Result Event LineCause
+cancel_of d = do
+  call ← required as_u32 names.Call d
+  Ok (Cancel call)

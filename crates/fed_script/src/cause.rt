@@ -29,6 +29,7 @@ pub enum MemberName {
     Params,
     Provider,
     To,
+    Account,
 }
 
 /// Why a line is bad, in the order in which the causes are tested.
@@ -87,6 +88,7 @@ impl MemberName {
             MemberName::Params => "params",
             MemberName::Provider => "provider",
             MemberName::To => "to",
+            MemberName::Account => "account",
         }
     }
 }

@@ -1,7 +1,7 @@
 //! What the lines of a script are read as.
 ghost use Rattle.std.specs.Prelude.{◌≡◌, IfOk};
 
-use fed_io::{Bytes, NoRoom};
+use fed_io::{Bytes, NoRoom, Text};
 use fed_origin::{GetOptions, LoginStatus, Origin, ReplyKind, WebUrl};
 use fed_suffix::Suffixes;
 use std::alloc::Global;
@@ -66,6 +66,14 @@ pub enum Event {
     Abort {
         call: u32,
     },
+    /// The user goes on at the prompt of a call: the kind `continue`.
+    GoOn {
+        call: u32,
+    },
+    /// The user closes the dialog of a call without a choice.
+    Cancel {
+        call: u32,
+    },
     /// The bytes that came back for the call's request of this kind to the provider at this place in its list; none
     /// where the connection gave nothing.
     Reply {
@@ -73,6 +81,12 @@ pub enum Event {
         provider: u32,
         kind: ReplyKind,
         raw: Bytes,
+    },
+    /// The user chooses the account of this id, of the provider at this place in the call's list.
+    Choose {
+        call: u32,
+        provider: u32,
+        account: Text,
     },
     /// A page calls `navigator.login.setStatus` (Login Status API). The status is not Unknown.
     SetStatus {

@@ -2,11 +2,11 @@
 
 use crate::tests::{GET, LOAD, reads};
 use crate::{Event, Have, LineCause, MemberName, Used, read_event};
-use fed_origin::{LoginStatus, ReplyKind, Scheme};
+use fed_origin::{Context, LoginStatus, Scheme};
 use std::alloc::{AllocError, Global};
 
 // The event of a line that is the first after a header.
-fn event(alloc: Global, line: &str) -> Option<Event> {
+pub fn event(alloc: Global, line: &str) -> Option<Event> {
     let mut used = Used::new(alloc, 0);
     read_event(alloc, line.as_bytes(), &mut used).ok()
 }
@@ -39,6 +39,7 @@ fn is_get(alloc: Global) -> bool {
                     && provider.client.as_str() == "c1"
                     && provider.nonce.is_some()
                     && provider.params.is_none()
+                    && options.context == Context::SignIn
             }
             _ => false,
         },
@@ -83,36 +84,6 @@ fn status_set(alloc: Global, line: &str) -> Option<(u32, LoginStatus)> {
     let event = event(alloc, line)?;
     match &event {
         Event::SetStatus { page, status } => Some((*page, *status)),
-        _ => None,
-    }
-}
-
-fn page_closed(alloc: Global, line: &str) -> Option<u32> {
-    let event = event(alloc, line)?;
-    match &event {
-        Event::ClosePage { page } => Some(*page),
-        _ => None,
-    }
-}
-
-fn call_aborted(alloc: Global, line: &str) -> Option<u32> {
-    let event = event(alloc, line)?;
-    match &event {
-        Event::Abort { call } => Some(*call),
-        _ => None,
-    }
-}
-
-// The call, the provider, the kind and the number of bytes of a reply.
-fn reply_read(alloc: Global, line: &str) -> Option<(u32, u32, ReplyKind, usize)> {
-    let event = event(alloc, line)?;
-    match &event {
-        Event::Reply {
-            call,
-            provider,
-            kind,
-            raw,
-        } => Some((*call, *provider, *kind, raw.as_slice().len())),
         _ => None,
     }
 }
@@ -337,93 +308,6 @@ fn statuses(rt: HostRuntime) {
         );
     }
     assert_eq!(rt; used.events(), 2);
-}
-
-#[test]
-fn closing_and_aborting(rt: HostRuntime) {
-    let mut used = Used::new(rt.alloc(), 0);
-    assert_eq!(rt;
-        page_closed(rt.alloc(), r#"{"do":"closepage","page":7}"#),
-        Some(7)
-    );
-    let abort = r#"{"do":"abort","call":4294967295}"#;
-    assert_eq!(rt; call_aborted(rt.alloc(), abort), Some(u32::MAX));
-    // A call that no line began may be named, and again.
-    assert_eq!(rt; reads(rt.alloc(), abort.as_bytes(), &mut used), Ok(()));
-    assert_eq!(rt; reads(rt.alloc(), abort.as_bytes(), &mut used), Ok(()));
-    let bad = [
-        (r#"{"do":"closepage"}"#, MemberName::Page),
-        (r#"{"do":"closepage","page":"7"}"#, MemberName::Page),
-        (r#"{"do":"abort"}"#, MemberName::Call),
-        (r#"{"do":"abort","call":4294967296}"#, MemberName::Call),
-    ];
-    for (line, name) in bad {
-        assert_eq!(rt;
-            reads(rt.alloc(), line.as_bytes(), &mut used),
-            Err(Some(LineCause::Member(name))),
-            "at {line}"
-        );
-    }
-}
-
-#[test]
-fn replies(rt: HostRuntime) {
-    let first = r#"{"do":"reply","call":1,"to":"wellknown","text":"HTTP/1.1 200 OK"}"#;
-    assert_eq!(rt;
-        reply_read(rt.alloc(), first),
-        Some((1, 0, ReplyKind::WellKnown, 15))
-    );
-    let second = r#"{"do":"reply","raw":"","to":"config","provider":3,"call":1}"#;
-    assert_eq!(rt;
-        reply_read(rt.alloc(), second),
-        Some((1, 3, ReplyKind::Config, 0))
-    );
-    let mut used = Used::new(rt.alloc(), 0);
-    assert_eq!(rt; reads(rt.alloc(), first.as_bytes(), &mut used), Ok(()));
-    assert_eq!(rt; reads(rt.alloc(), second.as_bytes(), &mut used), Ok(()));
-    let bad = [
-        (r#"{"do":"reply","provider":"x"}"#, MemberName::Call),
-        (
-            r#"{"do":"reply","call":1,"provider":"x"}"#,
-            MemberName::Provider,
-        ),
-        (
-            r#"{"do":"reply","call":1,"provider":4294967296}"#,
-            MemberName::Provider,
-        ),
-        (
-            r#"{"do":"reply","call":1,"provider":null,"text":1}"#,
-            MemberName::To,
-        ),
-        (r#"{"do":"reply","call":1,"to":5,"text":1}"#, MemberName::To),
-        (
-            r#"{"do":"reply","call":1,"to":"accounts","text":1}"#,
-            MemberName::To,
-        ),
-        (
-            r#"{"do":"reply","call":1,"to":"well-known","text":""}"#,
-            MemberName::To,
-        ),
-        (r#"{"do":"reply","call":1,"to":"config"}"#, MemberName::Text),
-        (
-            r#"{"do":"reply","call":1,"to":"config","text":"","raw":"="}"#,
-            MemberName::Text,
-        ),
-        (
-            r#"{"do":"reply","call":1,"to":"config","raw":"="}"#,
-            MemberName::Raw,
-        ),
-    ];
-    for (line, name) in bad {
-        assert_eq!(rt;
-            reads(rt.alloc(), line.as_bytes(), &mut used),
-            Err(Some(LineCause::Member(name))),
-            "at {line}"
-        );
-    }
-    // A reply uses no call's number up.
-    assert_eq!(rt; reads(rt.alloc(), GET.as_bytes(), &mut used), Ok(()));
-    assert_eq!(rt; used.events(), 3);
 }
 
 // What follows a header of the time 1,700,000,000: whether each line is read, or why it is bad.

@@ -10,7 +10,8 @@ ghost use Rattle.fed_script.specs.declared.cause.MemberName.TheVariants as names
 
 use crate::cause::{LineCause, MemberName};
 use crate::event::Event;
-use crate::member::{member, not_built, number, optional_text, text, web_url};
+use crate::member::{member, number, optional_text, text, web_url};
+use crate::options::{context, no_options};
 use fed_io::{Fault, Items, NoRoom, Text};
 use fed_origin::{Context, GetOptions, Mediation, Mode, ProviderOptions, WebUrl};
 use serde_json::Value;
@@ -32,6 +33,7 @@ struct ProviderMembers<'a> {
 struct GetMembers<'a> {
     page: u32,
     call: u32,
+    context: Context,
     provider: ProviderMembers<'a>,
 }
 
@@ -75,25 +77,18 @@ fn provider_members(d: &Value) -> Result<ProviderMembers<'_>, LineCause>
     })
 }
 
-fn no_options(d: &Value) -> Result<(), LineCause>
-    ensures { result ≡ spec.no_options (view d.now) }
-{
-    not_built(d, MemberName::Mediation)?;
-    not_built(d, MemberName::Mode)?;
-    not_built(d, MemberName::Activation)?;
-    not_built(d, MemberName::Context)
-}
-
 fn get_members(d: &Value) -> Result<GetMembers<'_>, LineCause>
     ensures { result_map_both spec.get_seen (λ e. e) result ≡ spec.get_members (view d.now) }
 {
     let page = number(d, MemberName::Page)?;
     let call = number(d, MemberName::Call)?;
     no_options(d)?;
+    let context = context(d)?;
     let provider = provider_members(only_provider(d)?)?;
     Ok(GetMembers {
         page,
         call,
+        context,
         provider,
     })
 }
@@ -125,9 +120,13 @@ fn provider_of(
     })
 }
 
-// The options of a call that names its provider alone.
-fn default_options(alloc: Global, provider: ProviderOptions) -> Result<GetOptions, NoRoom>
-    ensures { IfOk result (λ options. options ≡ spec.default_options provider) }
+// The options of a call that names its context and its provider.
+fn options_of(
+    alloc: Global,
+    context: Context,
+    provider: ProviderOptions,
+) -> Result<GetOptions, NoRoom>
+    ensures { IfOk result (λ options. options ≡ spec.options_of context provider) }
 {
     let mut providers = Items::new(alloc);
     providers.push(provider)?;
@@ -135,7 +134,7 @@ fn default_options(alloc: Global, provider: ProviderOptions) -> Result<GetOption
         mediation: Mediation::Optional,
         mode: Mode::Passive,
         activation: false,
-        context: Context::SignIn,
+        context,
         providers,
     })
 }
@@ -152,7 +151,7 @@ pub(crate) fn get(alloc: Global, d: &Value) -> Result<Event, Fault<LineCause>>
             Ok(Event::Get {
                 page: members.page,
                 call: members.call,
-                options: default_options(alloc, provider)?,
+                options: options_of(alloc, members.context, provider)?,
             })
         }
     }

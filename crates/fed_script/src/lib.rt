@@ -2,7 +2,10 @@
 #![tactic(auto)]
 
 mod bytes;
+#[cfg(test)]
+mod call_tests;
 mod cause;
+mod choose;
 mod event;
 #[cfg(test)]
 mod event_tests;
@@ -12,6 +15,7 @@ mod header;
 mod line;
 mod load;
 mod member;
+mod options;
 mod raw;
 mod reply;
 mod single;

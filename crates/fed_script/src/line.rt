@@ -8,13 +8,14 @@ ghost use Rattle.fed_script.specs.Used.{used_after, IsUnused, HasOneProvider, Ha
 ghost use Rattle.std.specs.Result.{result_map_both};
 
 use crate::cause::{LineCause, MemberName};
+use crate::choose::choose;
 use crate::event::Event;
 use crate::get::get;
 use crate::have::have_named;
 use crate::load::load;
 use crate::member::{json, member};
 use crate::reply::reply;
-use crate::single::{abort, at, close_page};
+use crate::single::{abort, at, cancel, close_page, go_on};
 use crate::status::set_status;
 use crate::used::Used;
 use fed_io::Fault;
@@ -39,14 +40,9 @@ fn unread_kind(kind: &str) -> LineCause
     ensures { result ≡ spec.unread_kind kind.now }
 {
     match kind {
-        "continue"
-        | "cancel"
-        | "signin"
-        | "shutwindow"
-        | "choose"
-        | "idpclose"
-        | "prevent"
-        | "disconnect" => { LineCause::Member(MemberName::Do) }
+        "signin" | "shutwindow" | "idpclose" | "prevent" | "disconnect" => {
+            LineCause::Member(MemberName::Do)
+        }
         _ => LineCause::NoKind,
     }
 }
@@ -62,7 +58,10 @@ fn event_of_kind(alloc: Global, kind: &str, d: &Value) -> Result<Event, Fault<Li
         "closepage" => close_page(d).map_err(Fault::Step),
         "get" => get(alloc, d),
         "abort" => abort(d).map_err(Fault::Step),
+        "continue" => go_on(d).map_err(Fault::Step),
+        "cancel" => cancel(d).map_err(Fault::Step),
         "reply" => reply(alloc, d),
+        "choose" => choose(alloc, d),
         "setstatus" => set_status(d).map_err(Fault::Step),
         _ => Err(Fault::Step(unread_kind(kind))),
     }

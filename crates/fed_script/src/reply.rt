@@ -22,6 +22,9 @@ fn reply_kind(word: &str) -> Option<ReplyKind>
     match word {
         "wellknown" => Some(ReplyKind::WellKnown),
         "config" => Some(ReplyKind::Config),
+        "accounts" => Some(ReplyKind::Accounts),
+        "metadata" => Some(ReplyKind::Metadata),
+        "assertion" => Some(ReplyKind::Assertion),
         _ => None,
     }
 }

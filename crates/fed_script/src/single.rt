@@ -31,3 +31,19 @@ pub(crate) fn abort(d: &Value) -> Result<Event, LineCause>
     let call = number(d, MemberName::Call)?;
     Ok(Event::Abort { call })
 }
+
+/// The call whose prompt a line answers.
+pub(crate) fn go_on(d: &Value) -> Result<Event, LineCause>
+    ensures { result ≡ spec.go_on_of (view d.now) }
+{
+    let call = number(d, MemberName::Call)?;
+    Ok(Event::GoOn { call })
+}
+
+/// The call whose dialog a line closes.
+pub(crate) fn cancel(d: &Value) -> Result<Event, LineCause>
+    ensures { result ≡ spec.cancel_of (view d.now) }
+{
+    let call = number(d, MemberName::Call)?;
+    Ok(Event::Cancel { call })
+}

@@ -182,7 +182,11 @@ fn causes_in_their_order(rt: HostRuntime) {
         (r#"{"do":1}"#, LineCause::NoKind),
         (r#"{"do":"jump"}"#, LineCause::NoKind),
         (r#"{"do":"Load"}"#, LineCause::NoKind),
-        (r#"{"do":"continue"}"#, LineCause::Member(MemberName::Do)),
+        (r#"{"do":"signin"}"#, LineCause::Member(MemberName::Do)),
+        (r#"{"do":"shutwindow"}"#, LineCause::Member(MemberName::Do)),
+        (r#"{"do":"idpclose"}"#, LineCause::Member(MemberName::Do)),
+        (r#"{"do":"prevent"}"#, LineCause::Member(MemberName::Do)),
+        (r#"{"do":"Continue"}"#, LineCause::NoKind),
         (r#"{"do":"disconnect"}"#, LineCause::Member(MemberName::Do)),
         (
             r#"{"do":"load","page":null,"url":1,"text":""}"#,
@@ -249,7 +253,7 @@ fn causes_in_their_order(rt: HostRuntime) {
             LineCause::Member(MemberName::Activation),
         ),
         (
-            r#"{"do":"get","page":1,"call":1,"context":"signin"}"#,
+            r#"{"do":"get","page":1,"call":1,"context":"sign-in"}"#,
             LineCause::Member(MemberName::Context),
         ),
         (

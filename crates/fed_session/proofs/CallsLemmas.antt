@@ -18,10 +18,10 @@ use Rattle.fed_script.specs.declared.event.Event.TheVariants.{At, Load, ClosePag
 use Rattle.fed_script.specs.declared.event.Have.{Have}
 use Rattle.fed_script.specs.declared.event.Have.TheVariants as haves
 use Rattle.fed_script.specs.declared.event.Header.{Header}
-use Rattle.fed_session.specs.Effect.{Effect, Closed, Cookie, Login, begun_by}
+use Rattle.fed_session.specs.Effect.{Closed, Cookie, Login, begun_by}
 use Rattle.fed_session.specs.Known.{world_at, is_begun, facts_at}
 use Rattle.fed_session.specs.Row.{effects_of, cookies_with, cookies_from, have_cookies, have_logins, set_cookies, set_logins, cookie_effects, ends_of, close_effects, standing_status, status_effects, is_busy, IsNew, IsRun}
-use Rattle.fed_session.specs.Session.{numbers_of, pending_call, pending_calls, with_kept, with_ended}
+use Rattle.fed_session.specs.Session.{numbers_of, pending_calls, with_kept, with_ended}
 use Rattle.fed_session.specs.Trace.{Row, Trace, begun, calls_of, pending, pending_of, page_at, now_at}
 use Rattle.fed_session.proofs.KeyedLemmas.{IsAbsent, AreDistinct}
 use Rattle.fed_session.proofs.PendingLemmas.{BeginsAtMost, ends_silent, load_silent, get_begins, input_begins_none}
@@ -240,6 +240,10 @@ event_begins T (ClosePage page) = inl (close_begins_none (pending_of T page) pag
 event_begins T (SetStatus page status) = inl (status_begins_none (page_at T page) status)
 event_begins T (Get page call options) = inr (call, refl, get_begins (world_at T) (cookies_with T) (page_at T page) (is_busy page (pending T)) page call options)
 event_begins T (Abort call) = inl (input_begins_none (world_at T) (cookies_with T) (is_begun T call) call (facts_at T call) inputs.Abort)
+event_begins T (events.Choose call provider account) =
+    inl (input_begins_none (world_at T) (cookies_with T) (is_begun T call) call (facts_at T call) (inputs.Choose provider account))
+event_begins T (events.GoOn call) = inl (input_begins_none (world_at T) (cookies_with T) (is_begun T call) call (facts_at T call) inputs.GoOn)
+event_begins T (events.Cancel call) = inl (input_begins_none (world_at T) (cookies_with T) (is_begun T call) call (facts_at T call) inputs.Cancel)
 event_begins T (Reply call provider kind raw) =
     inl (input_begins_none (world_at T) (cookies_with T) (is_begun T call) call (facts_at T call) (inputs.Reply provider kind raw))
 
@@ -259,7 +263,7 @@ apart_after T event new apart = go event (event_begins T event) new
     go e (inl silent) new = none_begun (begun T.rows) _ (said_silent begun_by (effects_of T event) silent) apart
     go (Get page c options) (inr found) new =
         let same : c ≡ found.0 = let is = found.1 in cc in
-        apart_by found.0 (begun T.rows) _ (subst (λ k. list_any (nat_eq k) (begun T.rows) ≡ false) same new) found.2 apart
+        apart_by found.0 (begun T.rows) _ (subst (λ k. list_any (nat_eq k) (begun T.rows) ≡ false) same new.0) found.2 apart
     go e (inr found) new = absurd (cc)
 
 pub apart_begun : (header : Header) (rows : List Row) → IsRun header rows → AreApart (begun rows)

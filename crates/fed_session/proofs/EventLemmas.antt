@@ -1,17 +1,15 @@
 -- What the events without a call owe to the trace.
-use Rattle.std.proofs.Common.{◌≡◌, ℕ, Bool, true, false, nat_eq, ◌+◌, ◌||◌, List, [], ◌∷◌, ◌++◌, Some, None, refl, sym, ap, subst, ◌∙◌, arith, cond, append-nil}
+use Rattle.std.proofs.Common.{◌≡◌, ℕ, Bool, true, false, nat_eq, List, [], ◌∷◌, ◌++◌, Some, None, refl, sym, ap, subst, ◌∙◌, arith, cond, append-nil}
 use Rattle.std.proofs.lemmas.Bool.Decides.{nat_tests}
 use Rattle.std.specs.Prelude.{Option, option_map, option_and_then, unwrap_or}
 use Rattle.std.specs.Option.{option_to_list, option_map_or, option_or}
 use Rattle.std.specs.Map.{lookup, set_value}
-use Rattle.std.specs.List.{filter_map, list_any}
 use Rattle.indexmap.specs.IndexMap.{insert_entry, shift_remove_entry}
 use Rattle.url.specs.Parts.{Parts}
 use Rattle.fed_origin.specs.Origin.{is_trustworthy, same_origin}
 use Rattle.fed_origin.specs.WebUrl.{origin_of}
 use Rattle.fed_origin.specs.declared.origin.Origin.{Origin}
-use Rattle.fed_origin.specs.declared.stage.Stage.{Stage}
-use Rattle.fed_origin.specs.declared.stage.Stage.TheVariants.{Reading, Listing, Ended}
+use Rattle.fed_origin.specs.declared.stage.Stage.TheVariants.{Ended}
 use Rattle.fed_origin.specs.declared.status.LoginStatus.{LoginStatus}
 use Rattle.fed_jar.specs.Cookie.{StoredCookie, cookies_after}
 use Rattle.fed_status.specs.Login.{Logins}
@@ -24,19 +22,19 @@ use Rattle.fed_script.specs.declared.event.Have.TheVariants as haves
 use Rattle.fed_consent.specs.declared.why.Why.{Why}
 use Rattle.fed_consent.specs.declared.why.Why.TheVariants.{NoPage, PageInsecure}
 use Rattle.fed_session.specs.declared.page.Page as kept
-use Rattle.fed_session.specs.Effect.{Effect, Page, Closed, Cookie, Login, Move, Ignored, last_of, page_change, login_change, call_change, stage_change, begun_by, begins, written_by, time_of}
+use Rattle.fed_session.specs.Effect.{Effect, Page, Closed, Cookie, Login, Move, Ignored, page_change, login_change, call_change, stage_change, begun_by, begins, written_by, time_of}
 use Rattle.fed_session.specs.Keyed.{entries_after, last_said}
 use Rattle.fed_session.specs.Known.{known_in, facts_by, facts_at}
 use Rattle.fed_session.specs.Records.{record_of, records_of}
 use Rattle.fed_session.specs.Row.{effects_of, with_event, cookies_from, have_cookies, have_logins, set_cookies, set_logins, cookie_effects, login_effects, ends_of, load_effects, close_effects, status_effects, standing_status}
 use Rattle.fed_session.specs.Session.{State, Stands, origins_of, get_of, numbers_of, pending_calls, kept_at, without_get, with_statuses, have_statuses, status_at, close_records}
-use Rattle.fed_session.specs.Trace.{Trace, pages, pending, pending_of, page_at, stage_at, calls_of, now_at}
+use Rattle.fed_session.specs.Trace.{Trace, pages, pending, pending_of, page_at, calls_of, now_at}
 use Rattle.fed_session.proofs.CallsLemmas.{AreApart, remove_absent, lookup-set_value, numbers-set_value, pending-set_ended, without_get-is, apart_begun, distinct_calls}
-use Rattle.fed_session.proofs.KeyedLemmas.{IsAbsent, AreDistinct, distinct_standing, lookup-standing, lookup-insert_entry, lookup-remove_entry, entries_after-append}
+use Rattle.fed_session.proofs.KeyedLemmas.{AreDistinct, distinct_standing, lookup-standing, lookup-insert_entry, lookup-remove_entry, entries_after-append}
 use Rattle.fed_session.proofs.PagesLemmas.{origins_of-insert_entry, origins_of-remove, distinct_from_origins, lookup-origins_of}
 use Rattle.fed_session.proofs.PendingLemmas.{others, ended, ends_silent, load_rest_silent, load_silent, load_pages, load_calls, load_writes, load_sets, written_then, set_after, calls_of-others_same, calls_of-others_other}
 use Rattle.fed_session.proofs.SilentLemmas.{AllSilent, entries_silent, said_silent, last_silent, last_said_silent, silent_map, silent_append}
-use Rattle.fed_session.proofs.StandsLemmas.{Owes, IsAside, owes_aside, said_of, facts_moved, facts_same}
+use Rattle.fed_session.proofs.StandsLemmas.{Owes, owes_aside, said_of, facts_moved, facts_same}
 
 -- ---- the time
 
@@ -195,7 +193,7 @@ facts_after_ends T line event q (Some call) rest cs effects stages begun inputs 
     go true is =
         none_kept (lookup (nat_eq q) cs)
         ∙ sym (facts_moved T line event q (Some (Some Ended)) None (said ∙ ap (λ b. cond b (Some (Some Ended)) None) is) (last_silent (begins q) (effects_of T event) begun)
-        ∙ over (option_map (said_of T event q) (known_in T.rows q)))
+        ∙ over (option_map (said_of T event q) (known_in T.header T.rows q)))
     go false is =
         h ∙ sym (facts_same T line event q (said ∙ ap (λ b. cond b (Some (Some Ended)) None) is) (last_silent (begins q) (effects_of T event) begun) inputs)
 

@@ -1,54 +1,49 @@
 -- What a get owes to the trace.
-use Rattle.std.proofs.Common.{◌≡◌, ℕ, Bool, true, false, nat_eq, ◌==◌, ◌+◌, ◌||◌, ◌⊎◌, inl, inr, List, [], ◌∷◌, ◌++◌, Some, None, length, refl, sym, ap, subst, ◌∙◌, arith, cond, append-nil}
+use Rattle.std.proofs.Common.{◌≡◌, ℕ, Bool, true, false, nat_eq, ◌⊎◌, inl, inr, List, [], ◌∷◌, ◌++◌, Some, None, length, refl, sym, ap, subst, ◌∙◌, arith, cond}
 use Rattle.std.proofs.lemmas.Bool.Decides.{nat_tests}
 use Rattle.std.specs.Prelude.{Option, slice_get, Ok, Err, Result as Answer, is_some, option_map, option_and_then, unwrap_or}
 use Rattle.std.specs.Option.{option_to_list, option_map_or, option_or}
 use Rattle.std.specs.Map.{lookup, set_value}
 use Rattle.std.specs.List.{filter_map, list_any}
-use Rattle.indexmap.specs.IndexMap.{insert_entry, shift_remove_entry}
+use Rattle.indexmap.specs.IndexMap.{insert_entry}
 use Rattle.url.specs.Parts.{Parts}
 use Rattle.fed_origin.specs.declared.options.GetOptions.{GetOptions}
 use Rattle.fed_origin.specs.declared.options.Mode.{Mode}
 use Rattle.fed_origin.specs.declared.options.ProviderOptions.{ProviderOptions}
-use Rattle.fed_origin.specs.declared.origin.Origin.{Origin}
 use Rattle.fed_origin.specs.declared.scheme.Scheme.{Scheme}
 use Rattle.fed_origin.specs.declared.scheme.Scheme.TheVariants.{Http, Https}
 use Rattle.fed_origin.specs.declared.stage.Stage.{Stage}
-use Rattle.fed_origin.specs.declared.stage.Stage.TheVariants.{Reading, Listing, Ended}
+use Rattle.fed_origin.specs.declared.stage.Stage.TheVariants.{Reading, Ended}
 use Rattle.fed_origin.specs.Origin.{is_trustworthy, same_origin}
 use Rattle.fed_origin.specs.WebUrl.{origin_of, scheme_of}
 use Rattle.fed_jar.specs.Cookie.{cookies_after}
 use Rattle.fed_provider.specs.declared.step.ProviderStep.{ProviderStep}
 use Rattle.fed_provider.specs.WellKnown.{WellKnownUrlOf}
-use Rattle.fed_status.specs.Login.{status_of}
-use Rattle.fed_status.specs.Shared.{World, world_of}
+use Rattle.fed_status.specs.Login.{Logins, status_of}
+use Rattle.fed_status.specs.Shared.{World}
 use Rattle.fed_consent.specs.declared.why.Why.{Why}
-use Rattle.fed_consent.specs.declared.why.Why.TheVariants.{NoPage, PageInsecure, NoCall}
-use Rattle.fed_call.specs.Begun.{Begun}
+use Rattle.fed_consent.specs.declared.why.Why.TheVariants.{NoPage, PageInsecure}
+use Rattle.fed_session.specs.Begun.{Begun}
 use Rattle.fed_call.specs.Facts.{Facts, Outcome, at_stage, started}
-use Rattle.fed_call.specs.Row.{start_row, start_at, by_scheme, by_site, by_gate, is_gated}
-use Rattle.fed_script.specs.declared.event.Event.{Event}
-use Rattle.fed_script.specs.declared.event.Event.TheVariants as events
-use Rattle.fed_script.specs.declared.event.Event.TheVariants.{At, Load, ClosePage, Get, Abort, Reply, SetStatus}
-use Rattle.fed_script.specs.declared.event.Header.{Header}
+use Rattle.fed_call.specs.ReadingRows.{start_row, start_at, by_scheme, by_gate, is_gated}
+use Rattle.fed_script.specs.declared.event.Event.TheVariants.{Get}
 use Rattle.fed_consent.specs.declared.ask.Ask.{Ask}
-use Rattle.fed_session.specs.declared.apply.Sight.{Sight}
 use Rattle.fed_session.specs.declared.page.Page as kept
-use Rattle.fed_session.specs.Effect.{Effect, Begin, Ignored, last_of, page_change, login_change, call_change, stage_change, begun_by, begins, written_by, time_of, is_ignored}
+use Rattle.fed_session.specs.Effect.{Begin, Ignored, last_of, page_change, login_change, call_change, stage_change, begun_by, begins, written_by, time_of}
 use Rattle.fed_session.specs.Keyed.{entries_after, last_said}
 use Rattle.fed_session.specs.Known.{world_at, known_first, facts_at}
 use Rattle.fed_session.specs.Records.{records_of}
-use Rattle.fed_session.specs.Row.{effects_of, with_event, cookies_with, get_outcome, get_effects, standing_get, outcome_effects, moves, is_busy}
-use Rattle.fed_session.specs.Session.{State, Stands, origins_of, get_of, numbers_of, pending_calls, kept_at, world_kept, cookies_of, call_records, get_at, get_kept, begun_as, standing_kept, with_new, holding, with_get}
+use Rattle.fed_session.specs.Row.{effects_of, with_event, cookies_with, get_outcome, get_effects, standing_get, outcome_effects, moves}
+use Rattle.fed_session.specs.Session.{State, Stands, origins_of, get_of, numbers_of, pending_calls, kept_at, world_kept, cookies_by, call_records, login_after, get_at, get_kept, begun_as, standing_kept, with_new, holding, with_get}
 use Rattle.fed_session.specs.Trace.{Trace, logins, pages, pending, page_at, begun, calls_of}
 use Rattle.fed_session.proofs.CallsLemmas.{lookup-set_value, absent_pending_calls, numbers_without, numbers-insert, pending-insert, pending-insert_ended}
 use Rattle.fed_session.proofs.EventLemmas.{page_kept}
-use Rattle.fed_session.proofs.KeyedLemmas.{IsAbsent, AreDistinct, lookup-insert_entry, remove-insert_entry}
-use Rattle.fed_session.proofs.OutcomeLemmas.{option_or-none, outcome_records, outcome_calls, moves_call, moves_no_other}
+use Rattle.fed_session.proofs.KeyedLemmas.{IsAbsent, lookup-insert_entry, remove-insert_entry}
+use Rattle.fed_session.proofs.OutcomeLemmas.{Goes, goes_or_ends, option_or-none, outcome_logins, outcome_records, outcome_calls, moves_call, moves_no_other}
 use Rattle.fed_session.proofs.PagesLemmas.{origins_of-set_value}
 use Rattle.fed_session.proofs.PendingLemmas.{outcome_silent, outcome_begins_none, calls_of-insert_same, calls_of-insert_other, is_busy-kept}
-use Rattle.fed_session.proofs.SightLemmas.{cookies_same, same_get, sight_cookies}
-use Rattle.fed_session.proofs.SilentLemmas.{AllSilent, entries_silent, said_silent, last_silent, last_said_silent, silent_is}
+use Rattle.fed_session.proofs.SightLemmas.{cookies_same, same_get}
+use Rattle.fed_session.proofs.SilentLemmas.{AllSilent, entries_silent, said_silent, last_silent, silent_is}
 use Rattle.fed_session.proofs.StandsLemmas.{Owes, IsAside, owes_aside, facts_moved, facts_same}
 
 -- ---- what all calls look at
@@ -125,37 +120,40 @@ enters : (page call : ℕ) (facts : Facts) (stage : Stage) (p : kept.Page) (ps :
     → facts.page ≡ page → (stage ≡ Ended) ⊎ (p.get ≡ None) → lookup (nat_eq page) ps ≡ Some p → IsAbsent call cs → IsAbsent call es
     → ((q : ℕ) → option_to_list (get_of (lookup (nat_eq q) ps)) ≡ calls_of q es) → pending_calls cs ≡ es
     → Enters page call (at_stage stage facts) stage ps cs es
-enters page call facts Ended p ps cs es same free found absent unbegun gets is =
-    record {
+enters page call facts stage p ps cs es same free found absent unbegun gets is = go (goes_or_ends stage) free
+  where
+    over : Enters page call (at_stage Ended facts) Ended ps cs es
+    over = record {
       pages = refl;
       gets = λ q. gets q ∙ ap (calls_of q) (sym (remove-insert_entry call page es unbegun));
       pending = pending-insert_ended call cs absent ∙ is ∙ sym (remove-insert_entry call page es unbegun);
     }
-enters page call facts Reading p ps cs es same (inl ended) found absent unbegun gets is = absurd (cc)
-enters page call facts Listing p ps cs es same (inl ended) found absent unbegun gets is = absurd (cc)
-enters page call facts Reading p ps cs es same (inr free) found absent unbegun gets is =
-    let holds : with_get page call ps ≡ set_value (nat_eq page) ps (record p { get = Some call }) = ap (λ o. option_map_or (λ p. set_value (nat_eq page) ps (record p { get = Some call })) o ps) found in
-    record {
-      pages = ap origins_of holds ∙ origins_of-set_value page p (record p { get = Some call }) ps refl found;
-      gets = λ q. ap (λ xs. option_to_list (get_of (lookup (nat_eq q) xs))) holds ∙ get_of_new q page call p ps es found free unbegun gets;
-      pending = pending-insert call (record facts { stage = Reading }) cs absent ∙ ap (λ xs. insert_entry nat_eq xs call facts.page) is ∙ ap (insert_entry nat_eq es call) same;
-    }
-enters page call facts Listing p ps cs es same (inr free) found absent unbegun gets is =
-    let holds : with_get page call ps ≡ set_value (nat_eq page) ps (record p { get = Some call }) = ap (λ o. option_map_or (λ p. set_value (nat_eq page) ps (record p { get = Some call })) o ps) found in
-    record {
-      pages = ap origins_of holds ∙ origins_of-set_value page p (record p { get = Some call }) ps refl found;
-      gets = λ q. ap (λ xs. option_to_list (get_of (lookup (nat_eq q) xs))) holds ∙ get_of_new q page call p ps es found free unbegun gets;
-      pending = pending-insert call (record facts { stage = Listing }) cs absent ∙ ap (λ xs. insert_entry nat_eq xs call facts.page) is ∙ ap (insert_entry nat_eq es call) same;
-    }
+
+    goes : Goes stage → p.get ≡ None → Enters page call (at_stage stage facts) stage ps cs es
+    goes going none =
+        let f : Facts = record facts { stage = stage } in
+        let holds : with_get page call ps ≡ set_value (nat_eq page) ps (record p { get = Some call }) = ap (λ o. option_map_or (λ p. set_value (nat_eq page) ps (record p { get = Some call })) o ps) found in
+        let stays = going.stays call (insert_entry nat_eq es call page) in
+        subst (λ after. Enters page call after stage ps cs es) (sym (going.kept facts))
+        (record {
+          pages = ap origins_of holds ∙ origins_of-set_value page p (record p { get = Some call }) ps refl found;
+          gets = λ q. ap (λ xs. option_to_list (get_of (lookup (nat_eq q) xs))) holds ∙ get_of_new q page call p ps es found none unbegun gets ∙ ap (calls_of q) (sym stays);
+          pending = pending-insert call f cs absent ∙ ap (λ xs. insert_entry nat_eq xs call facts.page) is ∙ ap (insert_entry nat_eq es call) same ∙ sym stays;
+        })
+
+    go : (stage ≡ Ended) ⊎ Goes stage → (stage ≡ Ended) ⊎ (p.get ≡ None) → Enters page call (at_stage stage facts) stage ps cs es
+    go (inl ended) free = subst (λ st. Enters page call (at_stage st facts) st ps cs es) (sym ended) over
+    go (inr going) (inl ended) = subst (λ st. Enters page call (at_stage st facts) st ps cs es) (sym ended) over
+    go (inr going) (inr none) = goes going none
 
 owes_taken : (s s' : State) (T : Trace) (line : ℕ) (b : Begun) (p : kept.Page) (outcome : Outcome) (stage : Stage) → Stands s T
     → effects_of T (Get b.page b.call b.options) ≡ Begin b ∷ outcome_effects (cookies_with T) b.call b.page outcome → outcome.stage ≡ Some stage → (stage ≡ Ended) ⊎ (p.get ≡ None)
-    → lookup (nat_eq b.page) s.pages ≡ Some p → lookup (nat_eq b.call) s.calls ≡ None
+    → lookup (nat_eq b.page) s.pages ≡ Some p → lookup (nat_eq b.call) s.calls ≡ None → login_after outcome.effects s.login ≡ s.login
     → s'.rules ≡ s.rules → s'.kept ≡ s.kept → s'.flags ≡ s.flags → s'.time ≡ s.time → s'.cookies ≡ s.cookies → s'.login ≡ s.login
     → s'.pages ≡ holding b.page b.call (Some (at_stage stage (known_first b))) s.pages
     → s'.calls ≡ insert_entry nat_eq s.calls b.call (at_stage stage (known_first b))
     → Owes s s' T line (Get b.page b.call b.options)
-owes_taken s s' T line b p outcome stage h effects moved free found fresh rules kept_same flags time written login kept_pages kept_calls =
+owes_taken s s' T line b p outcome stage h effects moved free found fresh still rules kept_same flags time written login kept_pages kept_calls =
     let event = Get b.page b.call b.options in
     let does = outcome_effects (cookies_with T) b.call b.page outcome in
     let es = pending T in
@@ -168,15 +166,15 @@ owes_taken s s' T line b p outcome stage h effects moved free found fresh rules 
     let moved_by : (q : ℕ) → last_said nat_eq stage_change q (effects_of T event) ≡ last_said nat_eq stage_change q does =
     λ q. ap (last_said nat_eq stage_change q) effects ∙ option_or-none (last_said nat_eq stage_change q does) in
     let begins_of : (q : ℕ) → last_of (begins q) (effects_of T event) ≡ cond (nat_eq q b.call) (Some b) None =
-    λ q. ap (last_of (begins q)) effects ∙ ap (λ o. option_or o (cond (nat_eq q b.call) (Some b) None)) (last_silent (begins q) does (outcome_silent (begins q) (λ c p a k. refl) (λ c p f. refl) (λ w. refl) (λ c s. refl) (cookies_with T) b.call b.page outcome)) in
+    λ q. ap (last_of (begins q)) effects ∙ ap (λ o. option_or o (cond (nat_eq q b.call) (Some b) None)) (last_silent (begins q) does (outcome_silent (begins q) (λ c p a k. refl) (λ c d. refl) (λ o s. refl) (λ c p f. refl) (λ w. refl) (λ c s. refl) (cookies_with T) b.call b.page outcome)) in
     record {
       rules = rules;
       kept = kept_same;
       flags = flags;
-      time = time ∙ sym (ap (λ o. unwrap_or o s.time) (last_silent time_of (effects_of T event) (silent_is time_of (effects_of T event) (Begin b ∷ does) effects (refl, outcome_silent time_of (λ c p a k. refl) (λ c p f. refl) (λ w. refl) (λ c s. refl) (cookies_with T) b.call b.page outcome))));
-      cookies = written ∙ ap (cookies_after s.cookies) (sym (said_silent written_by (effects_of T event) (silent_is written_by (effects_of T event) (Begin b ∷ does) effects (refl, outcome_silent written_by (λ c p a k. refl) (λ c p f. refl) (λ w. refl) (λ c s. refl) (cookies_with T) b.call b.page outcome))));
-      login = login ∙ sym (entries_silent same_origin login_change (effects_of T event) s.login (silent_is login_change (effects_of T event) (Begin b ∷ does) effects (refl, outcome_silent login_change (λ c p a k. refl) (λ c p f. refl) (λ w. refl) (λ c s. refl) (cookies_with T) b.call b.page outcome)));
-      pages = ap origins_of kept_pages ∙ enter.pages ∙ h.pages ∙ sym (entries_silent nat_eq page_change (effects_of T event) (pages T) (silent_is page_change (effects_of T event) (Begin b ∷ does) effects (refl, outcome_silent page_change (λ c p a k. refl) (λ c p f. refl) (λ w. refl) (λ c s. refl) (cookies_with T) b.call b.page outcome)));
+      time = time ∙ sym (ap (λ o. unwrap_or o s.time) (last_silent time_of (effects_of T event) (silent_is time_of (effects_of T event) (Begin b ∷ does) effects (refl, outcome_silent time_of (λ c p a k. refl) (λ c d. refl) (λ o s. refl) (λ c p f. refl) (λ w. refl) (λ c s. refl) (cookies_with T) b.call b.page outcome))));
+      cookies = written ∙ ap (cookies_after s.cookies) (sym (said_silent written_by (effects_of T event) (silent_is written_by (effects_of T event) (Begin b ∷ does) effects (refl, outcome_silent written_by (λ c p a k. refl) (λ c d. refl) (λ o s. refl) (λ c p f. refl) (λ w. refl) (λ c s. refl) (cookies_with T) b.call b.page outcome))));
+      login = login ∙ sym (ap (λ xs. entries_after same_origin login_change xs s.login) effects ∙ outcome_logins (cookies_with T) b.call b.page outcome s.login ∙ still);
+      pages = ap origins_of kept_pages ∙ enter.pages ∙ h.pages ∙ sym (entries_silent nat_eq page_change (effects_of T event) (pages T) (silent_is page_change (effects_of T event) (Begin b ∷ does) effects (refl, outcome_silent page_change (λ c p a k. refl) (λ c d. refl) (λ o s. refl) (λ c p f. refl) (λ w. refl) (λ c s. refl) (cookies_with T) b.call b.page outcome)));
       gets = λ q. ap (λ ps. option_to_list (get_of (lookup (nat_eq q) ps))) kept_pages ∙ enter.gets q ∙ ap (calls_of q) (sym calls_is);
       taken = ap numbers_of kept_calls ∙ numbers-insert b.call facts s.calls fresh
           ∙ ap (λ xs. numbers_of s.calls ++ xs) (sym (ap (filter_map begun_by) effects ∙ ap (λ xs. b.call ∷ xs) (said_silent begun_by does (outcome_begins_none (cookies_with T) b.call b.page outcome))));
@@ -217,6 +215,28 @@ start_comes world mode [] one = absurd (omega (arith, one))
 start_comes world mode (provider ∷ others) one =
     scheme_comes (scheme_of provider.config) provider.config (WellKnownUrlOf world.rules provider.config) (is_gated mode (status_of world.login (origin_of provider.config)))
 
+-- a get sets no status
+gate_still : (config wellknown : Parts) (gated : Bool) (logins : Logins) → login_after (by_gate config wellknown gated).effects logins ≡ logins
+gate_still config wellknown true logins = refl
+gate_still config wellknown false logins = refl
+
+scheme_still : (scheme : Scheme) (config : Parts) (wellknown : Answer Parts ProviderStep) (gated : Bool) (logins : Logins) → login_after (by_scheme scheme config wellknown gated).effects logins ≡ logins
+scheme_still Http config wellknown gated logins = refl
+scheme_still Https config (Err step) gated logins = refl
+scheme_still Https config (Ok wellknown) gated logins = gate_still config wellknown gated logins
+
+still_at : (world : World) (mode : Mode) (provider : Option ProviderOptions) (logins : Logins) → login_after (start_at world mode provider).effects logins ≡ logins
+still_at world mode None logins = refl
+still_at world mode (Some provider) logins =
+    scheme_still (scheme_of provider.config) provider.config (WellKnownUrlOf world.rules provider.config) (is_gated mode (status_of world.login (origin_of provider.config))) logins
+
+pub start_still : (world : World) (options : GetOptions) (logins : Logins) → login_after (start_row world options).effects logins ≡ logins
+start_still world options logins = still_at world options.mode (slice_get options.providers 0) logins
+
+pub get_still : (world : World) (busy : Bool) (options : GetOptions) (logins : Logins) → login_after (get_outcome world busy options).effects logins ≡ logins
+get_still world true options logins = refl
+get_still world false options logins = start_still world options logins
+
 -- what is kept of a get by its stage
 started_is : (b : Begun) (outcome : Outcome) (stage : Stage) → outcome.stage ≡ Some stage → started b.call b.page b.origin b.options outcome ≡ at_stage stage (known_first b)
 started_is b outcome stage is = ap (λ o. at_stage (unwrap_or o Reading) (known_first b)) is
@@ -239,12 +259,12 @@ owes_get s s' T line page call options h fresh one rules kept_same flags time wr
         → Owes s s' T line (Get page call options)
     busy p found (Some other) is effects kept_pages kept_calls =
         let b : Begun = record { call = call; page = page; origin = p.origin; options = options } in
-        owes_taken s s' T line b p (get_outcome (world_kept s) true options) Ended h effects refl (inl refl) found fresh rules kept_same flags time written login kept_pages kept_calls
+        owes_taken s s' T line b p (get_outcome (world_kept s) true options) Ended h effects refl (inl refl) found fresh refl rules kept_same flags time written login kept_pages kept_calls
     busy p found None is effects kept_pages kept_calls =
         let b : Begun = record { call = call; page = page; origin = p.origin; options = options } in
         let comes = start_comes (world_kept s) options.mode options.providers one in
         let begun_is = started_is b (start_row (world_kept s) options) comes.stage comes.is in
-        owes_taken s s' T line b p (start_row (world_kept s) options) comes.stage h effects comes.is (inr is) found fresh rules kept_same flags time written login
+        owes_taken s s' T line b p (start_row (world_kept s) options) comes.stage h effects comes.is (inr is) found fresh (start_still (world_kept s) options s.login) rules kept_same flags time written login
         (kept_pages ∙ ap (λ facts. holding page call (Some facts) s.pages) begun_is) (kept_calls ∙ ap (insert_entry nat_eq s.calls call) begun_is)
 
     trusted : (p : kept.Page) → lookup (nat_eq page) s.pages ≡ Some p → (t : Bool) → is_trustworthy p.origin ≡ t
@@ -274,13 +294,11 @@ get_records line world cookies found p page call options is trusted =
     ∙ ap (λ o. records_of line (get_at world cookies o page call options)) (sym is)
 
 -- by what is seen of a session they are those of the row
-pub get_records-stand : (sight : Sight) (s : State) (T : Trace) (line page call : ℕ) (options : GetOptions) → Stands s T
-    → world_of sight.shared ≡ world_kept s → sight.jar.now ≡ s.cookies → sight.time ≡ s.time
-    → records_of line (get_at (world_of sight.shared) (cookies_of sight) (lookup (nat_eq page) s.pages) page call options) ≡ records_of line (effects_of T (Get page call options))
-get_records-stand sight s T line page call options h world jar_is time =
+pub get_records-stand : (s : State) (T : Trace) (line page call : ℕ) (options : GetOptions) → Stands s T
+    → records_of line (get_at (world_kept s) (cookies_by s.rules s.time s.cookies) (lookup (nat_eq page) s.pages) page call options) ≡ records_of line (effects_of T (Get page call options))
+get_records-stand s T line page call options h =
     let found = lookup (nat_eq page) s.pages in
-    ap (λ w. records_of line (get_at w (cookies_of sight) found page call options)) world
-    ∙ ap (records_of line) (same_get (cookies_of sight) (cookies_with T) (λ ask. sight_cookies sight s world jar_is time ask ∙ cookies_same s T ask h) (world_kept s) (option_map (λ p. p.origin) found) (is_some (get_of found)) page call options)
+    ap (records_of line) (same_get (cookies_by s.rules s.time s.cookies) (cookies_with T) (λ ask. cookies_same s T ask h) (world_kept s) (option_map (λ p. p.origin) found) (is_some (get_of found)) page call options)
     ∙ ap (records_of line) (get_at-stands s T page call options h)
 
 -- a call that the session never took began in no row

@@ -1,25 +1,18 @@
 -- What an input of a call owes to the trace.
-use Rattle.std.proofs.Common.{◌≡◌, ℕ, Bool, true, false, not, nat_eq, ◌==◌, ◌+◌, ◌||◌, ◌&&◌, ◌⊎◌, inl, inr, List, [], ◌∷◌, ◌++◌, Some, None, map, refl, sym, ap, subst, ◌∙◌, arith, cond, append-nil}
+use Rattle.std.proofs.Common.{◌≡◌, ℕ, Bool, true, false, not, nat_eq, ◌==◌, ◌||◌, ◌⊎◌, inl, inr, List, [], ◌∷◌, ◌++◌, Some, None, map, refl, sym, ap, subst, ◌∙◌, arith, cond, append-nil}
 use Rattle.std.proofs.lemmas.Bool.Decides.{nat_tests}
 use Rattle.std.specs.Prelude.{Option, filter, is_some, option_map, option_and_then, unwrap_or}
-use Rattle.std.specs.Option.{option_to_list, option_map_or, option_or}
+use Rattle.std.specs.Option.{option_to_list, option_map_or}
 use Rattle.std.specs.Map.{lookup, set_value}
 use Rattle.std.specs.List.{filter_map, list_any}
 use Rattle.indexmap.specs.IndexMap.{shift_remove_entry}
 use Rattle.fed_origin.specs.declared.stage.ReplyKind.{ReplyKind}
-use Rattle.fed_origin.specs.declared.stage.ReplyKind.TheVariants as kinds
 use Rattle.fed_origin.specs.declared.stage.Stage.{Stage}
-use Rattle.fed_origin.specs.declared.stage.Stage.TheVariants.{Reading, Listing, Ended}
+use Rattle.fed_origin.specs.declared.stage.Stage.TheVariants.{Ended}
 use Rattle.fed_origin.specs.Origin.{same_origin}
-use Rattle.fed_jar.specs.Cookie.{StoredCookie, cookies_after}
-use Rattle.fed_jar.specs.Send.{jar_text}
-use Rattle.fed_jar.specs.Writes as jar
-use Rattle.fed_suffix.specs.Rule.{RuleSet}
-use Rattle.fed_status.specs.Shared.{World, world_of}
+use Rattle.fed_jar.specs.Cookie.{cookies_after}
+use Rattle.fed_status.specs.Shared.{World}
 use Rattle.fed_consent.specs.declared.ask.Ask.{Ask}
-use Rattle.fed_consent.specs.declared.ask.Ask.TheVariants as asks
-use Rattle.fed_consent.specs.declared.effect.Effect.{Effect as CallEffect}
-use Rattle.fed_consent.specs.declared.effect.Effect.TheVariants as does
 use Rattle.fed_consent.specs.declared.input.Input.{Input}
 use Rattle.fed_consent.specs.declared.input.Input.TheVariants as inputs
 use Rattle.fed_consent.specs.declared.why.Why.{Why}
@@ -29,25 +22,25 @@ use Rattle.fed_call.specs.Facts.{Facts, Outcome, at_stage, with_input, facts_aft
 use Rattle.fed_call.specs.Row.{call_row}
 use Rattle.fed_script.specs.declared.event.Event.{Event}
 use Rattle.fed_script.specs.declared.event.Event.TheVariants as events
-use Rattle.fed_session.specs.declared.apply.Sight.{Sight}
 use Rattle.fed_session.specs.declared.page.Page as kept
-use Rattle.fed_session.specs.Effect.{Effect, Ignored, last_of, page_change, login_change, call_change, stage_change, begun_by, begins, written_by, time_of, is_ignored}
+use Rattle.fed_session.specs.Effect.{Ignored, last_of, page_change, login_change, call_change, stage_change, begun_by, begins, written_by, time_of, is_ignored}
 use Rattle.fed_session.specs.Keyed.{entries_after, last_said}
 use Rattle.fed_session.specs.Known.{world_at, is_begun, input_to, with_said, known_in, facts_by, facts_at}
 use Rattle.fed_session.specs.Records.{records_of}
-use Rattle.fed_session.specs.Row.{effects_of, with_event, cookies_with, call_effect, outcome_effects, moves, input_effects, page_of}
-use Rattle.fed_session.specs.Session.{State, Stands, Brings, origins_of, get_of, numbers_of, pending_call, pending_calls, kept_at, world_kept, cookies_by, cookies_of, call_records, with_ended, kept_after, input_at, input_kept, freed, freed_by, with_kept, without_call}
-use Rattle.fed_session.specs.Trace.{Trace, pages, pending, stage_at, calls_of, now_at, writes}
-use Rattle.fed_session.proofs.CallsLemmas.{lookup-set_value, set_absent, with_kept-is, numbers-set_value, pending-set_ended, absent_pending_calls}
+use Rattle.fed_session.specs.Row.{effects_of, with_event, cookies_with, outcome_effects, moves, input_effects}
+use Rattle.fed_session.specs.Session.{State, Stands, Brings, origins_of, get_of, numbers_of, pending_calls, kept_at, world_kept, cookies_by, call_records, login_after, outcome_at, with_ended, kept_after, input_at, input_kept, freed, freed_by, with_kept, without_call}
+use Rattle.fed_session.specs.Trace.{Trace, pages, pending, stage_at, calls_of}
+use Rattle.fed_session.proofs.CallsLemmas.{lookup-set_value, set_absent, with_kept-is, numbers-set_value, pending-set_ended}
 use Rattle.fed_session.proofs.EventLemmas.{calls_distinct}
+use Rattle.fed_session.proofs.FactsLemmas.{same_page, with_input-at}
 use Rattle.fed_session.proofs.GetLemmas.{world_same}
 use Rattle.fed_session.proofs.KeyedLemmas.{IsAbsent, AreDistinct, distinct_standing}
-use Rattle.fed_session.proofs.OutcomeLemmas.{outcome_calls, moves_call, moves_no_other, ignored_outcome, outcome_records}
+use Rattle.fed_session.proofs.OutcomeLemmas.{Goes, goes_or_ends, at_stage-again, outcome_logins, outcome_calls, moves_call, moves_no_other, ignored_outcome, outcome_records}
 use Rattle.fed_session.proofs.PagesLemmas.{origins_of-set_value}
-use Rattle.fed_session.proofs.PendingLemmas.{outcome_silent, outcome_begins_none, input_begins_none}
-use Rattle.fed_session.proofs.SightLemmas.{cookies_same, same_input, sight_cookies}
-use Rattle.fed_session.proofs.SilentLemmas.{AllSilent, entries_silent, said_silent, last_silent, last_said_silent, silent_is}
-use Rattle.fed_session.proofs.StandsLemmas.{Owes, IsAside, owes_aside, said_of, facts_moved, facts_same}
+use Rattle.fed_session.proofs.PendingLemmas.{outcome_silent, outcome_begins_none}
+use Rattle.fed_session.proofs.SightLemmas.{cookies_same, same_input}
+use Rattle.fed_session.proofs.SilentLemmas.{AllSilent, entries_silent, said_silent, last_silent, silent_is}
+use Rattle.fed_session.proofs.StandsLemmas.{Owes, owes_aside, said_of, facts_moved, facts_same}
 
 -- ---- what the session keeps of a call
 
@@ -73,9 +66,9 @@ input_at-stands s T call input h =
 -- ---- an input that is not taken
 
 -- an input that was ignored says nothing
-ignored_says : (input : Option Input) (f : Facts) → with_said true input f ≡ f
-ignored_says None f = refl
-ignored_says (Some input) f = refl
+ignored_says : (world : World) (input : Option Input) (f : Facts) → with_said world true input f ≡ f
+ignored_says world None f = refl
+ignored_says world (Some input) f = refl
 
 owes_refused : (s s' : State) (T : Trace) (line : ℕ) (event : Event) (why : Why) → Stands s T → effects_of T event ≡ Ignored why ∷ []
     → s'.rules ≡ s.rules → s'.kept ≡ s.kept → s'.flags ≡ s.flags → s'.time ≡ s.time → s'.cookies ≡ s.cookies → s'.login ≡ s.login → s'.pages ≡ s.pages → s'.calls ≡ s.calls
@@ -88,7 +81,7 @@ owes_refused s s' T line event why h is rules kept_same flags time written login
       begun = subst (AllSilent begun_by) (sym is) (refl, tt);
       stages = subst (AllSilent stage_change) (sym is) (refl, tt);
       begins_none = λ q. subst (AllSilent (begins q)) (sym is) (refl, tt);
-      inputs = λ q f. ap (λ xs. with_said (list_any is_ignored xs) (input_to q event) f) is ∙ ignored_says (input_to q event) f;
+      inputs = λ q f. ap (λ xs. with_said (world_at T) (list_any is_ignored xs) (input_to q event) f) is ∙ ignored_says (world_at T) (input_to q event) f;
     })
     rules kept_same flags
     (time ∙ sym (ap (λ xs. unwrap_or (last_of time_of xs) s.time) is))
@@ -161,7 +154,7 @@ calls_of-remove_other q page call (e ∷ es) ne h = go (calls_of-remove_other q 
         under false rest = rest
 
 -- a call that is looked up with its page is among the calls of the page
-is_listed : (page call : ℕ) (es : List (ℕ × ℕ)) → lookup (nat_eq call) es ≡ Some page → list_any (nat_eq call) (calls_of page es) ≡ true
+pub is_listed : (page call : ℕ) (es : List (ℕ × ℕ)) → lookup (nat_eq call) es ≡ Some page → list_any (nat_eq call) (calls_of page es) ≡ true
 is_listed page call [] h = absurd (cc)
 is_listed page call (e ∷ es) h = go (is_listed page call es) (nat_eq call e.0) refl h
   where
@@ -298,82 +291,34 @@ goes call facts ps cs es found distinct apart gets is =
       pending = pending-set_ended call cs distinct ∙ ap (shift_remove_entry (nat_eq call)) is;
     }
 
--- a stage at which a call goes on
-pub record Goes (stage : Stage) : Type 0 where
-  pub kept : (f : Facts) → at_stage stage f ≡ Some (record f { stage = stage })
-  pub stays : (call : ℕ) (es : List (ℕ × ℕ)) → entries_after nat_eq call_change (moves call (Some stage)) es ≡ es
-
-pub goes_or_ends : (stage : Stage) → (stage ≡ Ended) ⊎ Goes stage
-goes_or_ends Ended = inl refl
-goes_or_ends Reading = inr (record { kept = λ f. refl; stays = λ call es. refl })
-goes_or_ends Listing = inr (record { kept = λ f. refl; stays = λ call es. refl })
-
-same_page : (ignored : Bool) (input : Input) (facts : Facts) → (with_input ignored input facts).page ≡ facts.page
-same_page true input facts = refl
-same_page false (inputs.Reply place kinds.WellKnown raw) facts = refl
-same_page false (inputs.Reply place kinds.Config raw) facts = refl
-same_page false (inputs.Reply place kinds.Accounts raw) facts = refl
-same_page false (inputs.Reply place kinds.Metadata raw) facts = refl
-same_page false (inputs.Reply place kinds.Assertion raw) facts = refl
-same_page false (inputs.Reply place kinds.Disconnect raw) facts = refl
-same_page false (inputs.Choose place account) facts = refl
-same_page false inputs.GoOn facts = refl
-same_page false inputs.Cancel facts = refl
-same_page false inputs.SignIn facts = refl
-same_page false inputs.Shut facts = refl
-same_page false inputs.Resume facts = refl
-same_page false inputs.Abort facts = refl
-
-leaves : (call : ℕ) (facts : Facts) (input : Input) (ignored : Bool) (moved : Option Stage) (ps : List (ℕ × kept.Page)) (cs : List (ℕ × Option Facts)) (es : List (ℕ × ℕ))
+leaves : (world : World) (call : ℕ) (facts : Facts) (input : Input) (ignored : Bool) (moved : Option Stage) (ps : List (ℕ × kept.Page)) (cs : List (ℕ × Option Facts)) (es : List (ℕ × ℕ))
     → Goes facts.stage → lookup (nat_eq call) cs ≡ Some (Some facts) → AreDistinct cs → AreDistinct es
     → ((q : ℕ) → option_to_list (get_of (lookup (nat_eq q) ps)) ≡ calls_of q es) → pending_calls cs ≡ es
-    → Leaves call facts (at_stage (unwrap_or moved facts.stage) (with_input ignored input facts)) moved ps cs es
-leaves call facts input ignored None ps cs es going found distinct apart gets is =
-    let f = with_input ignored input facts in
+    → Leaves call facts (at_stage (unwrap_or moved facts.stage) (with_input world ignored input facts)) moved ps cs es
+leaves world call facts input ignored None ps cs es going found distinct apart gets is =
+    let f = with_input world ignored input facts in
     subst (λ after. Leaves call facts after None ps cs es) (sym (going.kept f))
-    (goes_on call facts (record f { stage = facts.stage }) None ps cs es (same_page ignored input facts) refl found gets is)
-leaves call facts input ignored (Some stage) ps cs es going found distinct apart gets is = go (goes_or_ends stage)
+    (goes_on call facts (record f { stage = facts.stage }) None ps cs es (same_page world ignored input facts) refl found gets is)
+leaves world call facts input ignored (Some stage) ps cs es going found distinct apart gets is = go (goes_or_ends stage)
   where
     f : Facts
-    f = with_input ignored input facts
+    f = with_input world ignored input facts
 
     go : (stage ≡ Ended) ⊎ Goes stage → Leaves call facts (at_stage stage f) (Some stage) ps cs es
     go (inl over) = subst (λ st. Leaves call facts (at_stage st f) (Some st) ps cs es) (sym over) (goes call facts ps cs es found distinct apart gets is)
     go (inr further) =
         subst (λ after. Leaves call facts after (Some stage) ps cs es) (sym (further.kept f))
-        (goes_on call facts (record f { stage = stage }) (Some stage) ps cs es (same_page ignored input facts) (further.stays call es) found gets is)
+        (goes_on call facts (record f { stage = stage }) (Some stage) ps cs es (same_page world ignored input facts) (further.stays call es) found gets is)
 
 -- ---- what is known of a pending call after an input
 
--- what an input says does not hang on the stage
-with_input-at : (ignored : Bool) (input : Input) (f : Facts) (stage : Stage) → with_input ignored input (record f { stage = stage }) ≡ record (with_input ignored input f) { stage = stage }
-with_input-at true input f stage = refl
-with_input-at false (inputs.Reply place kinds.WellKnown raw) f stage = refl
-with_input-at false (inputs.Reply place kinds.Config raw) f stage = refl
-with_input-at false (inputs.Reply place kinds.Accounts raw) f stage = refl
-with_input-at false (inputs.Reply place kinds.Metadata raw) f stage = refl
-with_input-at false (inputs.Reply place kinds.Assertion raw) f stage = refl
-with_input-at false (inputs.Reply place kinds.Disconnect raw) f stage = refl
-with_input-at false (inputs.Choose place account) f stage = refl
-with_input-at false inputs.GoOn f stage = refl
-with_input-at false inputs.Cancel f stage = refl
-with_input-at false inputs.SignIn f stage = refl
-with_input-at false inputs.Shut f stage = refl
-with_input-at false inputs.Resume f stage = refl
-with_input-at false inputs.Abort f stage = refl
-
-at_stage-again : (stage other : Stage) (f : Facts) → at_stage stage (record f { stage = other }) ≡ at_stage stage f
-at_stage-again Ended other f = refl
-at_stage-again Reading other f = refl
-at_stage-again Listing other f = refl
-
-facts_step : (moved : Option Stage) (ignored : Bool) (input : Input) (stage : Stage) (known : Facts)
-    → at_stage (unwrap_or moved stage) (with_input ignored input (record known { stage = stage }))
-    ≡ facts_by (unwrap_or (option_map Some moved) (Some stage)) (Some (with_input ignored input known))
-facts_step None ignored input stage known =
-    ap (at_stage stage) (with_input-at ignored input known stage) ∙ at_stage-again stage stage (with_input ignored input known)
-facts_step (Some next) ignored input stage known =
-    ap (at_stage next) (with_input-at ignored input known stage) ∙ at_stage-again next stage (with_input ignored input known)
+pub facts_step : (world : World) (moved : Option Stage) (ignored : Bool) (input : Input) (stage : Stage) (known : Facts)
+    → at_stage (unwrap_or moved stage) (with_input world ignored input (record known { stage = stage }))
+    ≡ facts_by (unwrap_or (option_map Some moved) (Some stage)) (Some (with_input world ignored input known))
+facts_step world None ignored input stage known =
+    ap (at_stage stage) (with_input-at world ignored input known stage) ∙ at_stage-again stage stage (with_input world ignored input known)
+facts_step world (Some next) ignored input stage known =
+    ap (at_stage next) (with_input-at world ignored input known stage) ∙ at_stage-again next stage (with_input world ignored input known)
 
 -- a call of which something is known is at a stage at which it goes on
 pub record Known (facts : Facts) (stage : Option Stage) (known : Option Facts) : Type 0 where
@@ -404,32 +349,32 @@ known_by facts (Some stage) (Some before) h = go (goes_or_ends stage)
 
 owes_pending : (s s' : State) (T : Trace) (line : ℕ) (event : Event) (call : ℕ) (input : Input) (facts : Facts) (outcome : Outcome) → Stands s T → Brings T event call input
     → effects_of T event ≡ outcome_effects (cookies_with T) call facts.page outcome → lookup (nat_eq call) s.calls ≡ Some (Some facts)
-    → s'.rules ≡ s.rules → s'.kept ≡ s.kept → s'.flags ≡ s.flags → s'.time ≡ s.time → s'.cookies ≡ s.cookies → s'.login ≡ s.login
-    → s'.pages ≡ freed (Some facts) (facts_after facts input outcome) s.pages
-    → s'.calls ≡ set_value (nat_eq call) s.calls (facts_after facts input outcome)
+    → s'.rules ≡ s.rules → s'.kept ≡ s.kept → s'.flags ≡ s.flags → s'.time ≡ s.time → s'.cookies ≡ s.cookies → s'.login ≡ login_after outcome.effects s.login
+    → s'.pages ≡ freed (Some facts) (facts_after (world_at T) facts input outcome) s.pages
+    → s'.calls ≡ set_value (nat_eq call) s.calls (facts_after (world_at T) facts input outcome)
     → Owes s s' T line event
 owes_pending s s' T line event call input facts outcome h brings effects found rules kept_same flags time written login kept_pages kept_calls =
     let ignored = list_any call_facts.is_ignored outcome.effects in
-    let after = facts_after facts input outcome in
+    let after = facts_after (world_at T) facts input outcome in
     let does = outcome_effects (cookies_with T) call facts.page outcome in
     let known_is : facts_at T call ≡ Some facts = sym (h.facts call) ∙ ap (option_and_then (λ kept. kept)) found in
-    let about = known_by facts (stage_at T call) (known_in T.rows call) known_is in
-    let leave = leaves call facts input ignored outcome.stage s.pages s.calls (pending T) about.going found (calls_distinct s T h) (distinct_standing call_change T.rows) h.gets h.pending in
+    let about = known_by facts (stage_at T call) (known_in T.header T.rows call) known_is in
+    let leave = leaves (world_at T) call facts input ignored outcome.stage s.pages s.calls (pending T) about.going found (calls_distinct s T h) (distinct_standing call_change T.rows) h.gets h.pending in
     let calls_is : entries_after nat_eq call_change (effects_of T event) (pending T) ≡ entries_after nat_eq call_change (moves call outcome.stage) (pending T) =
     ap (λ xs. entries_after nat_eq call_change xs (pending T)) effects ∙ outcome_calls (cookies_with T) call facts.page outcome (pending T) in
     let begins_none : (q : ℕ) → last_of (begins q) (effects_of T event) ≡ None =
-    λ q. last_silent (begins q) (effects_of T event) (silent_is (begins q) (effects_of T event) does effects (outcome_silent (begins q) (λ c p a k. refl) (λ c p f. refl) (λ w. refl) (λ c s. refl) (cookies_with T) call facts.page outcome)) in
-    let said : (q : ℕ) (f : Facts) → said_of T event q f ≡ with_said ignored (cond (nat_eq q call) (Some input) None) f =
-    λ q f. ap (λ xs. with_said (list_any is_ignored xs) (input_to q event) f) effects ∙ ap (λ b. with_said b (input_to q event) f) (ignored_outcome (cookies_with T) call facts.page outcome)
-    ∙ ap (λ i. with_said ignored i f) (brings.inputs q) in
+    λ q. last_silent (begins q) (effects_of T event) (silent_is (begins q) (effects_of T event) does effects (outcome_silent (begins q) (λ c p a k. refl) (λ c d. refl) (λ o s. refl) (λ c p f. refl) (λ w. refl) (λ c s. refl) (cookies_with T) call facts.page outcome)) in
+    let said : (q : ℕ) (f : Facts) → said_of T event q f ≡ with_said (world_at T) ignored (cond (nat_eq q call) (Some input) None) f =
+    λ q f. ap (λ xs. with_said (world_at T) (list_any is_ignored xs) (input_to q event) f) effects ∙ ap (λ b. with_said (world_at T) b (input_to q event) f) (ignored_outcome (cookies_with T) call facts.page outcome)
+    ∙ ap (λ i. with_said (world_at T) ignored i f) (brings.inputs q) in
     record {
       rules = rules;
       kept = kept_same;
       flags = flags;
-      time = time ∙ sym (ap (λ o. unwrap_or o s.time) (last_silent time_of (effects_of T event) (silent_is time_of (effects_of T event) does effects (outcome_silent time_of (λ c p a k. refl) (λ c p f. refl) (λ w. refl) (λ c s. refl) (cookies_with T) call facts.page outcome))));
-      cookies = written ∙ ap (cookies_after s.cookies) (sym (said_silent written_by (effects_of T event) (silent_is written_by (effects_of T event) does effects (outcome_silent written_by (λ c p a k. refl) (λ c p f. refl) (λ w. refl) (λ c s. refl) (cookies_with T) call facts.page outcome))));
-      login = login ∙ sym (entries_silent same_origin login_change (effects_of T event) s.login (silent_is login_change (effects_of T event) does effects (outcome_silent login_change (λ c p a k. refl) (λ c p f. refl) (λ w. refl) (λ c s. refl) (cookies_with T) call facts.page outcome)));
-      pages = ap origins_of kept_pages ∙ leave.pages ∙ h.pages ∙ sym (entries_silent nat_eq page_change (effects_of T event) (pages T) (silent_is page_change (effects_of T event) does effects (outcome_silent page_change (λ c p a k. refl) (λ c p f. refl) (λ w. refl) (λ c s. refl) (cookies_with T) call facts.page outcome)));
+      time = time ∙ sym (ap (λ o. unwrap_or o s.time) (last_silent time_of (effects_of T event) (silent_is time_of (effects_of T event) does effects (outcome_silent time_of (λ c p a k. refl) (λ c d. refl) (λ o s. refl) (λ c p f. refl) (λ w. refl) (λ c s. refl) (cookies_with T) call facts.page outcome))));
+      cookies = written ∙ ap (cookies_after s.cookies) (sym (said_silent written_by (effects_of T event) (silent_is written_by (effects_of T event) does effects (outcome_silent written_by (λ c p a k. refl) (λ c d. refl) (λ o s. refl) (λ c p f. refl) (λ w. refl) (λ c s. refl) (cookies_with T) call facts.page outcome))));
+      login = login ∙ sym (ap (λ xs. entries_after same_origin login_change xs s.login) effects ∙ outcome_logins (cookies_with T) call facts.page outcome s.login);
+      pages = ap origins_of kept_pages ∙ leave.pages ∙ h.pages ∙ sym (entries_silent nat_eq page_change (effects_of T event) (pages T) (silent_is page_change (effects_of T event) does effects (outcome_silent page_change (λ c p a k. refl) (λ c d. refl) (λ o s. refl) (λ c p f. refl) (λ w. refl) (λ c s. refl) (cookies_with T) call facts.page outcome)));
       gets = λ q. ap (λ ps. option_to_list (get_of (lookup (nat_eq q) ps))) kept_pages ∙ leave.gets q ∙ ap (calls_of q) (sym calls_is);
       taken = ap numbers_of kept_calls ∙ numbers-set_value call after s.calls ∙ sym (append-nil (numbers_of s.calls))
           ∙ ap (λ xs. numbers_of s.calls ++ xs) (sym (said_silent begun_by (effects_of T event) (silent_is begun_by (effects_of T event) does effects (outcome_begins_none (cookies_with T) call facts.page outcome))));
@@ -440,32 +385,32 @@ owes_pending s s' T line event call input facts outcome h brings effects found r
   where
     facts_input : (s : State) (T : Trace) (line : ℕ) (event : Event) (call : ℕ) (input : Input) (facts : Facts) (outcome : Outcome) (q : ℕ) → Stands s T
         → effects_of T event ≡ outcome_effects (cookies_with T) call facts.page outcome → lookup (nat_eq call) s.calls ≡ Some (Some facts)
-        → Known facts (stage_at T call) (known_in T.rows call)
+        → Known facts (stage_at T call) (known_in T.header T.rows call)
         → ((q : ℕ) → last_of (begins q) (effects_of T event) ≡ None)
-        → ((q : ℕ) (f : Facts) → said_of T event q f ≡ with_said (list_any call_facts.is_ignored outcome.effects) (cond (nat_eq q call) (Some input) None) f)
+        → ((q : ℕ) (f : Facts) → said_of T event q f ≡ with_said (world_at T) (list_any call_facts.is_ignored outcome.effects) (cond (nat_eq q call) (Some input) None) f)
         → (b : Bool) → nat_eq q call ≡ b
-        → option_and_then (λ kept. kept) (cond b (option_map (λ x. facts_after facts input outcome) (lookup (nat_eq q) s.calls)) (lookup (nat_eq q) s.calls)) ≡ facts_at (with_event T line event) q
+        → option_and_then (λ kept. kept) (cond b (option_map (λ x. facts_after (world_at T) facts input outcome) (lookup (nat_eq q) s.calls)) (lookup (nat_eq q) s.calls)) ≡ facts_at (with_event T line event) q
     facts_input s T line event call input facts outcome q h effects found about begins_none said true is =
         let key : q ≡ call = grind (arith, nat_tests, is) in
         let ignored = list_any call_facts.is_ignored outcome.effects in
         let own : nat_eq call call ≡ true = grind (arith, nat_tests) in
         let moved = option_map Some outcome.stage in
-        let said_now : said_of T event call about.before ≡ with_input ignored input about.before =
-        said call about.before ∙ ap (λ b. with_said ignored (cond b (Some input) None) about.before) own in
-        let at_call : facts_after facts input outcome ≡ facts_at (with_event T line event) call =
-        ap (λ f. at_stage (unwrap_or outcome.stage facts.stage) (with_input ignored input f)) about.is
-        ∙ facts_step outcome.stage ignored input facts.stage about.before
+        let said_now : said_of T event call about.before ≡ with_input (world_at T) ignored input about.before =
+        said call about.before ∙ ap (λ b. with_said (world_at T) ignored (cond b (Some input) None) about.before) own in
+        let at_call : facts_after (world_at T) facts input outcome ≡ facts_at (with_event T line event) call =
+        ap (λ f. at_stage (unwrap_or outcome.stage facts.stage) (with_input (world_at T) ignored input f)) about.is
+        ∙ facts_step (world_at T) outcome.stage ignored input facts.stage about.before
         ∙ ap (λ f. facts_by (unwrap_or moved (Some facts.stage)) (Some f)) (sym said_now)
         ∙ ap (λ st. facts_by (unwrap_or moved st) (Some (said_of T event call about.before))) (sym about.stage_is)
         ∙ ap (λ o. facts_by (unwrap_or moved (stage_at T call)) (option_map (said_of T event call) o)) (sym about.known_is)
         ∙ sym (facts_moved T line event call moved None (ap (last_said nat_eq stage_change call) effects ∙ moves_call (cookies_with T) call facts.page outcome call own) (begins_none call)) in
-        ap (λ k. option_and_then (λ kept. kept) (option_map (λ x. facts_after facts input outcome) (lookup (nat_eq k) s.calls))) key
-        ∙ ap (λ o. option_and_then (λ kept. kept) (option_map (λ x. facts_after facts input outcome) o)) found
+        ap (λ k. option_and_then (λ kept. kept) (option_map (λ x. facts_after (world_at T) facts input outcome) (lookup (nat_eq k) s.calls))) key
+        ∙ ap (λ o. option_and_then (λ kept. kept) (option_map (λ x. facts_after (world_at T) facts input outcome) o)) found
         ∙ at_call ∙ ap (facts_at (with_event T line event)) (sym key)
     facts_input s T line event call input facts outcome q h effects found about begins_none said false is =
         h.facts q
         ∙ sym (facts_same T line event q (ap (last_said nat_eq stage_change q) effects ∙ moves_no_other (cookies_with T) call facts.page outcome q is) (begins_none q)
-        (λ f. said q f ∙ ap (λ b. with_said (list_any call_facts.is_ignored outcome.effects) (cond b (Some input) None) f) is))
+        (λ f. said q f ∙ ap (λ b. with_said (world_at T) (list_any call_facts.is_ignored outcome.effects) (cond b (Some input) None) f) is))
 
 -- ---- an input as the code takes it
 
@@ -496,7 +441,8 @@ pending_records line world cookies call page input (Some facts) found is at =
 -- ---- an input, whole
 
 pub owes_input : (s s' : State) (T : Trace) (line : ℕ) (event : Event) (call : ℕ) (input : Input) → Stands s T → Brings T event call input
-    → s'.rules ≡ s.rules → s'.kept ≡ s.kept → s'.flags ≡ s.flags → s'.time ≡ s.time → s'.cookies ≡ s.cookies → s'.login ≡ s.login
+    → s'.rules ≡ s.rules → s'.kept ≡ s.kept → s'.flags ≡ s.flags → s'.time ≡ s.time → s'.cookies ≡ s.cookies
+    → s'.login ≡ login_after (outcome_at (world_kept s) (lookup (nat_eq call) s.calls) input).effects s.login
     → s'.pages ≡ freed_by (world_kept s) (lookup (nat_eq call) s.calls) input s.pages
     → s'.calls ≡ input_kept (world_kept s) call input s.calls
     → Owes s s' T line event
@@ -520,18 +466,22 @@ owes_input s s' T line event call input h brings rules kept_same flags time writ
         kept_calls ∙ with_kept-is call (kept_after (world_kept s) (kept_at call s.calls) input) s.calls
         ∙ ap (λ o. set_value (nat_eq call) s.calls (kept_after (world_kept s) (option_and_then (λ kept. kept) o) input)) is
 
+    login_at : (found : Option (Option Facts)) → lookup (nat_eq call) s.calls ≡ found → s'.login ≡ login_after (outcome_at (world_kept s) found input).effects s.login
+    login_at found is = login ∙ ap (λ o. login_after (outcome_at (world_kept s) o input).effects s.login) is
+
     go : (found : Option (Option Facts)) → lookup (nat_eq call) s.calls ≡ found → Owes s s' T line event
     go None is =
-        owes_refused s s' T line event NoCall h (effects_at None is) rules kept_same flags time written login
+        owes_refused s s' T line event NoCall h (effects_at None is) rules kept_same flags time written (login_at None is)
         (kept_pages ∙ ap (λ o. freed_by (world_kept s) o input s.pages) is)
         (calls_at None is ∙ set_absent call None s.calls is)
     go (Some None) is =
-        owes_refused s s' T line event CallEnded h (effects_at (Some None) is) rules kept_same flags time written login
+        owes_refused s s' T line event CallEnded h (effects_at (Some None) is) rules kept_same flags time written (login_at (Some None) is)
         (kept_pages ∙ ap (λ o. freed_by (world_kept s) o input s.pages) is)
         (calls_at (Some None) is ∙ set_same call None s.calls is)
     go (Some (Some facts)) is =
         let world = world_same s T h in
-        owes_pending s s' T line event call input facts (call_row (world_at T) (Some facts) input) h brings (effects_at (Some (Some facts)) is) is rules kept_same flags time written login
+        owes_pending s s' T line event call input facts (call_row (world_at T) (Some facts) input) h brings (effects_at (Some (Some facts)) is) is rules kept_same flags time written
+        (login_at (Some (Some facts)) is ∙ ap (λ w. login_after (call_row w (Some facts) input).effects s.login) world)
         (kept_pages ∙ ap (λ o. freed_by (world_kept s) o input s.pages) is ∙ ap (λ w. freed (Some facts) (kept_after w (Some facts) input) s.pages) world)
         (calls_at (Some (Some facts)) is ∙ ap (λ w. set_value (nat_eq call) s.calls (kept_after w (Some facts) input)) world)
 
@@ -543,13 +493,18 @@ abort_brings T call = record { effects = refl; new = tt; inputs = λ q. refl }
 pub reply_brings : (T : Trace) (call provider : ℕ) (kind : ReplyKind) (raw : List ℕ) → Brings T (events.Reply call provider kind raw) call (inputs.Reply provider kind raw)
 reply_brings T call provider kind raw = record { effects = refl; new = tt; inputs = λ q. refl }
 
+pub choose_brings : (T : Trace) (call provider : ℕ) (account : List ℕ) → Brings T (events.Choose call provider account) call (inputs.Choose provider account)
+choose_brings T call provider account = record { effects = refl; new = tt; inputs = λ q. refl }
+
+pub go_on_brings : (T : Trace) (call : ℕ) → Brings T (events.GoOn call) call inputs.GoOn
+go_on_brings T call = record { effects = refl; new = tt; inputs = λ q. refl }
+
+pub cancel_brings : (T : Trace) (call : ℕ) → Brings T (events.Cancel call) call inputs.Cancel
+cancel_brings T call = record { effects = refl; new = tt; inputs = λ q. refl }
+
 -- ---- what is seen of a session
 
--- the records of an input by what is seen
-pub input_records : (sight : Sight) (s : State) (T : Trace) (line : ℕ) (event : Event) (call : ℕ) (input : Input) → Stands s T → Brings T event call input
-    → world_of sight.shared ≡ world_kept s → sight.jar.now ≡ s.cookies → sight.time ≡ s.time
-    → records_of line (input_at (world_of sight.shared) (cookies_of sight) (lookup (nat_eq call) s.calls) call input) ≡ records_of line (effects_of T event)
-input_records sight s T line event call input h brings world jar_is time =
-    ap (λ w. records_of line (input_at w (cookies_of sight) (lookup (nat_eq call) s.calls) call input)) world
-    ∙ ap (records_of line) (same_input (cookies_of sight) (cookies_by s.rules s.time s.cookies) (sight_cookies sight s world jar_is time) (world_kept s) (is_some (lookup (nat_eq call) s.calls)) call (kept_at call s.calls) input)
-    ∙ ap (records_of line) (input_at-stands s T call input h ∙ sym brings.effects)
+-- the records of an input
+pub input_records : (s : State) (T : Trace) (line : ℕ) (event : Event) (call : ℕ) (input : Input) → Stands s T → Brings T event call input
+    → records_of line (input_at (world_kept s) (cookies_by s.rules s.time s.cookies) (lookup (nat_eq call) s.calls) call input) ≡ records_of line (effects_of T event)
+input_records s T line event call input h brings = ap (records_of line) (input_at-stands s T call input h ∙ sym brings.effects)

@@ -11,7 +11,7 @@ use Rattle.url.specs.Parts.{Parts}
 use Rattle.fed_origin.specs.declared.options.GetOptions.{GetOptions}
 use Rattle.fed_origin.specs.declared.origin.Origin.{Origin}
 use Rattle.fed_origin.specs.declared.stage.Stage.{Stage}
-use Rattle.fed_origin.specs.declared.stage.Stage.TheVariants.{Reading, Listing, Ended}
+use Rattle.fed_origin.specs.declared.stage.Stage.TheVariants.{Reading, Listing, Mismatch, Choosing, Prompting, Asserting, Ended}
 use Rattle.fed_origin.specs.declared.status.LoginStatus.{LoginStatus}
 use Rattle.fed_origin.specs.Origin.{is_trustworthy, same_origin}
 use Rattle.fed_origin.specs.WebUrl.{origin_of}
@@ -19,13 +19,14 @@ use Rattle.fed_jar.specs.Cookie.{StoredCookie}
 use Rattle.fed_status.specs.Login.{Logins, with_status}
 use Rattle.fed_status.specs.Shared.{World}
 use Rattle.fed_consent.specs.declared.ask.Ask.{Ask}
+use Rattle.fed_consent.specs.declared.dialog.Dialog.{Dialog}
 use Rattle.fed_consent.specs.declared.finish.Finish.{Finish}
 use Rattle.fed_consent.specs.declared.input.Input.{Input}
 use Rattle.fed_consent.specs.declared.why.Why.{Why}
-use Rattle.fed_call.specs.Begun.{Begun}
+use Rattle.fed_session.specs.Begun.{Begun}
 use Rattle.fed_call.specs.Facts.{Facts, Outcome}
 use Rattle.fed_call.specs.Row.{call_row}
-use Rattle.fed_session.specs.Effect.{Effect, Time, Page, Closed, Cookie, Login, Begin, Move, Sent, Result, Ignored, page_change, login_change, call_change, begun_by, written_by}
+use Rattle.fed_session.specs.Effect.{Effect, Time, Page, Closed, Cookie, Login, Begin, Move, Sent, Shown, Result, Ignored, page_change, login_change, call_change, begun_by, written_by}
 use Rattle.fed_session.specs.Keyed.{entries_after}
 use Rattle.fed_session.specs.Row.{ends_of, cookie_effects, login_effects, load_effects, is_busy, standing_get, get_effects, get_outcome, outcome_effects, call_effect, moves, input_effects, page_of}
 use Rattle.fed_session.specs.Session.{with_statuses}
@@ -167,13 +168,14 @@ load_sets calls page url cookies statuses logins =
 
 -- ---- what a call does says of stages alone
 
--- the outcome of a call says nothing of what requests, results, reasons and moves do not say
+-- the outcome of a call says nothing of what requests, dialogs, statuses, results, reasons and moves do not say
 pub outcome_silent : {A : Type 0} (said : Effect → Option A) → ((call provider : ℕ) (ask : Ask) (cookies : List ℕ) → said (Sent call provider ask cookies) ≡ None)
+    → ((call : ℕ) (dialog : Dialog) → said (Shown call dialog) ≡ None) → ((origin : Origin) (status : LoginStatus) → said (Login origin status) ≡ None)
     → ((call page : ℕ) (finish : Finish) → said (Result call page finish) ≡ None) → ((why : Why) → said (Ignored why) ≡ None) → ((call : ℕ) (stage : Stage) → said (Move call stage) ≡ None)
     → (cookies : Ask → List ℕ) (call page : ℕ) (outcome : Outcome) → AllSilent said (outcome_effects cookies call page outcome)
-outcome_silent said sent result ignored move cookies call page outcome =
+outcome_silent said sent shown login result ignored move cookies call page outcome =
     silent_append said (filter_map (call_effect cookies call page) outcome.effects) (moves call outcome.stage)
-    (silent_call said sent result ignored cookies call page outcome.effects) (go outcome.stage)
+    (silent_call said sent shown login result ignored cookies call page outcome.effects) (go outcome.stage)
   where
     go : (stage : Option Stage) → AllSilent said (moves call stage)
     go None = tt
@@ -185,7 +187,7 @@ BeginsAtMost call effects = (filter_map begun_by effects ≡ []) ⊎ (filter_map
 
 pub outcome_begins_none : (cookies : Ask → List ℕ) (call page : ℕ) (outcome : Outcome) → AllSilent begun_by (outcome_effects cookies call page outcome)
 outcome_begins_none cookies call page outcome =
-    outcome_silent begun_by (λ c p a k. refl) (λ c p f. refl) (λ w. refl) (λ c s. refl) cookies call page outcome
+    outcome_silent begun_by (λ c p a k. refl) (λ c d. refl) (λ o s. refl) (λ c p f. refl) (λ w. refl) (λ c s. refl) cookies call page outcome
 
 standing_begins : (world : World) (cookies : Ask → List ℕ) (trusted busy : Bool) (b : Begun) → BeginsAtMost b.call (standing_get world cookies trusted busy b)
 standing_begins world cookies false busy b = inl refl
@@ -223,12 +225,17 @@ absent_after c (Begin b ∷ effects) es f h =
 absent_after c (Move call Ended ∷ effects) es f h = absent_after c effects (shift_remove_entry (nat_eq call) es) f (absent_after_remove c call es h)
 absent_after c (Move call Reading ∷ effects) es f h = absent_after c effects es f h
 absent_after c (Move call Listing ∷ effects) es f h = absent_after c effects es f h
+absent_after c (Move call Mismatch ∷ effects) es f h = absent_after c effects es f h
+absent_after c (Move call Choosing ∷ effects) es f h = absent_after c effects es f h
+absent_after c (Move call Prompting ∷ effects) es f h = absent_after c effects es f h
+absent_after c (Move call Asserting ∷ effects) es f h = absent_after c effects es f h
 absent_after c (Time time ∷ effects) es f h = absent_after c effects es f h
 absent_after c (Page page origin ∷ effects) es f h = absent_after c effects es f h
 absent_after c (Closed page ∷ effects) es f h = absent_after c effects es f h
 absent_after c (Cookie cookie ∷ effects) es f h = absent_after c effects es f h
 absent_after c (Login origin status ∷ effects) es f h = absent_after c effects es f h
 absent_after c (Sent call provider ask cookies ∷ effects) es f h = absent_after c effects es f h
+absent_after c (Shown call dialog ∷ effects) es f h = absent_after c effects es f h
 absent_after c (Result call page finish ∷ effects) es f h = absent_after c effects es f h
 absent_after c (Ignored why ∷ effects) es f h = absent_after c effects es f h
 

@@ -1,14 +1,17 @@
 -- Effects that say nothing of a kind.
-use Rattle.std.proofs.Common.{◌≡◌, ℕ, Bool, true, false, nat_eq, List, [], ◌∷◌, ◌++◌, Some, None, map, refl, sym, ap, subst, ◌∙◌, cond}
-use Rattle.std.specs.Prelude.{Option, ⊤}
+use Rattle.std.proofs.Common.{◌≡◌, ℕ, Bool, List, [], ◌∷◌, ◌++◌, None, map, refl, sym, ap, subst, ◌∙◌}
+use Rattle.std.specs.Prelude.{Option}
 use Rattle.std.specs.Option.{option_or}
 use Rattle.std.specs.List.{filter_map, cons_option, AllByRecursion}
+use Rattle.fed_origin.specs.declared.origin.Origin.{Origin}
+use Rattle.fed_origin.specs.declared.status.LoginStatus.{LoginStatus}
 use Rattle.fed_consent.specs.declared.ask.Ask.{Ask}
+use Rattle.fed_consent.specs.declared.dialog.Dialog.{Dialog}
 use Rattle.fed_consent.specs.declared.effect.Effect.{Effect as CallEffect}
 use Rattle.fed_consent.specs.declared.effect.Effect.TheVariants as does
 use Rattle.fed_consent.specs.declared.finish.Finish.{Finish}
 use Rattle.fed_consent.specs.declared.why.Why.{Why}
-use Rattle.fed_session.specs.Effect.{Effect, Sent, Result, Ignored, last_of}
+use Rattle.fed_session.specs.Effect.{Effect, Login, Sent, Shown, Result, Ignored, last_of}
 use Rattle.fed_session.specs.Keyed.{Change, changed, entries_after, last_said, says}
 use Rattle.fed_session.specs.Row.{call_effect}
 
@@ -48,24 +51,27 @@ pub silent_append : {A : Type 0} (said : Effect → Option A) (xs ys : List Effe
 silent_append said [] ys h k = k
 silent_append said (x ∷ xs) ys h k = (h.0, silent_append said xs ys h.1 k)
 
--- what is silent on requests, results and reasons is silent on what a call does
+-- what is silent on requests, dialogs, statuses, results and reasons is silent on what a call does
 pub silent_call : {A : Type 0} (said : Effect → Option A) → ((call provider : ℕ) (ask : Ask) (cookies : List ℕ) → said (Sent call provider ask cookies) ≡ None)
+    → ((call : ℕ) (dialog : Dialog) → said (Shown call dialog) ≡ None) → ((origin : Origin) (status : LoginStatus) → said (Login origin status) ≡ None)
     → ((call page : ℕ) (finish : Finish) → said (Result call page finish) ≡ None) → ((why : Why) → said (Ignored why) ≡ None)
     → (cookies : Ask → List ℕ) (call page : ℕ) (effects : List CallEffect) → AllSilent said (filter_map (call_effect cookies call page) effects)
-silent_call said sent result ignored cookies call page [] = tt
-silent_call said sent result ignored cookies call page (does.Send provider ask ∷ effects) =
-    (sent call provider ask (cookies ask), silent_call said sent result ignored cookies call page effects)
-silent_call said sent result ignored cookies call page (does.Finish finish ∷ effects) =
-    (result call page finish, silent_call said sent result ignored cookies call page effects)
-silent_call said sent result ignored cookies call page (does.Ignored why ∷ effects) =
-    (ignored why, silent_call said sent result ignored cookies call page effects)
-silent_call said sent result ignored cookies call page (does.Dialog dialog ∷ effects) = silent_call said sent result ignored cookies call page effects
-silent_call said sent result ignored cookies call page (does.Window url ∷ effects) = silent_call said sent result ignored cookies call page effects
-silent_call said sent result ignored cookies call page (does.SetLogin origin status ∷ effects) = silent_call said sent result ignored cookies call page effects
-silent_call said sent result ignored cookies call page (does.Keep triple ∷ effects) = silent_call said sent result ignored cookies call page effects
-silent_call said sent result ignored cookies call page (does.Forget triple ∷ effects) = silent_call said sent result ignored cookies call page effects
-silent_call said sent result ignored cookies call page (does.ForgetPair p q ∷ effects) = silent_call said sent result ignored cookies call page effects
-silent_call said sent result ignored cookies call page (does.ClearFlag origin ∷ effects) = silent_call said sent result ignored cookies call page effects
+silent_call said sent shown login result ignored cookies call page [] = tt
+silent_call said sent shown login result ignored cookies call page (does.Send provider ask ∷ effects) =
+    (sent call provider ask (cookies ask), silent_call said sent shown login result ignored cookies call page effects)
+silent_call said sent shown login result ignored cookies call page (does.Finish finish ∷ effects) =
+    (result call page finish, silent_call said sent shown login result ignored cookies call page effects)
+silent_call said sent shown login result ignored cookies call page (does.Ignored why ∷ effects) =
+    (ignored why, silent_call said sent shown login result ignored cookies call page effects)
+silent_call said sent shown login result ignored cookies call page (does.Dialog dialog ∷ effects) =
+    (shown call dialog, silent_call said sent shown login result ignored cookies call page effects)
+silent_call said sent shown login result ignored cookies call page (does.Window url ∷ effects) = silent_call said sent shown login result ignored cookies call page effects
+silent_call said sent shown login result ignored cookies call page (does.SetLogin origin status ∷ effects) =
+    (login origin status, silent_call said sent shown login result ignored cookies call page effects)
+silent_call said sent shown login result ignored cookies call page (does.Keep triple ∷ effects) = silent_call said sent shown login result ignored cookies call page effects
+silent_call said sent shown login result ignored cookies call page (does.Forget triple ∷ effects) = silent_call said sent shown login result ignored cookies call page effects
+silent_call said sent shown login result ignored cookies call page (does.ForgetPair p q ∷ effects) = silent_call said sent shown login result ignored cookies call page effects
+silent_call said sent shown login result ignored cookies call page (does.ClearFlag origin ∷ effects) = silent_call said sent shown login result ignored cookies call page effects
 
 -- effects that are silent ones are silent
 pub silent_is : {A : Type 0} (said : Effect → Option A) (effects others : List Effect) → effects ≡ others → AllSilent said others → AllSilent said effects

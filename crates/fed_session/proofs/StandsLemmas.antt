@@ -1,33 +1,24 @@
 -- A session that stands for a trace stands for it with one event more.
-use Rattle.std.proofs.Common.{◌≡◌, ℕ, Bool, true, false, nat_eq, ◌+◌, ◌||◌, List, [], ◌∷◌, ◌++◌, Some, None, length, refl, sym, ap, subst, ◌∙◌, arith, cond, append-nil}
-use Rattle.std.proofs.lemmas.Bool.Decides.{nat_tests}
-use Rattle.std.specs.Prelude.{Option, is_some, option_map, option_and_then, unwrap_or}
-use Rattle.std.specs.Option.{option_to_list, option_map_or, option_or}
-use Rattle.std.specs.Map.{lookup, set_value}
+use Rattle.std.proofs.Common.{◌≡◌, ℕ, true, nat_eq, ◌+◌, List, [], ◌∷◌, ◌++◌, Some, None, refl, sym, ap, ◌∙◌, arith, append-nil}
+use Rattle.std.specs.Prelude.{Option, option_map, unwrap_or}
+use Rattle.std.specs.Option.{option_to_list, option_or}
+use Rattle.std.specs.Map.{lookup}
 use Rattle.std.specs.List.{filter_map, list_any}
-use Rattle.indexmap.specs.IndexMap.{insert_entry, shift_remove_entry}
-use Rattle.url.specs.Parts.{Parts}
-use Rattle.fed_origin.specs.Origin.{is_trustworthy, same_origin}
-use Rattle.fed_origin.specs.WebUrl.{origin_of}
-use Rattle.fed_origin.specs.declared.origin.Origin.{Origin}
+use Rattle.fed_origin.specs.Origin.{same_origin}
 use Rattle.fed_origin.specs.declared.stage.Stage.{Stage}
-use Rattle.fed_origin.specs.declared.stage.Stage.TheVariants.{Reading, Listing, Ended}
-use Rattle.fed_origin.specs.declared.status.LoginStatus.{LoginStatus}
 use Rattle.fed_jar.specs.Cookie.{StoredCookie, with_cookie, cookies_after}
 use Rattle.fed_jar.specs.Writes as jar
 use Rattle.fed_jar.proofs.WriteLaws.{jar_is_standing}
-use Rattle.fed_status.specs.Login.{Logins}
-use Rattle.fed_call.specs.Begun.{Begun}
+use Rattle.fed_session.specs.Begun.{Begun}
 use Rattle.fed_call.specs.Facts.{Facts}
 use Rattle.fed_script.specs.declared.event.Event.{Event}
 use Rattle.fed_script.specs.declared.event.Header.{Header}
-use Rattle.fed_session.specs.declared.page.Page as kept
-use Rattle.fed_session.specs.Effect.{Effect, last_of, page_change, login_change, call_change, stage_change, begun_by, begins, written_by, time_of, is_ignored}
+use Rattle.fed_session.specs.Effect.{last_of, page_change, login_change, call_change, stage_change, begun_by, begins, written_by, time_of, is_ignored}
 use Rattle.fed_session.specs.Keyed.{entries_after, last_said}
-use Rattle.fed_session.specs.Known.{input_to, known_first, with_said, known_in, facts_by, facts_at}
+use Rattle.fed_session.specs.Known.{world_at, input_to, known_first, with_said, known_in, facts_by, facts_at}
 use Rattle.fed_session.specs.Row.{effects_of, with_event, IsNew}
 use Rattle.fed_session.specs.Session.{State, Stands, origins_of, get_of, numbers_of, pending_calls, kept_at}
-use Rattle.fed_session.specs.Trace.{Trace, Row, pages, pending, stage_at, last_in, calls_of, now_at, writes}
+use Rattle.fed_session.specs.Trace.{Trace, pages, pending, stage_at, last_in, calls_of, writes}
 use Rattle.fed_session.proofs.KeyedLemmas.{unwrap_or-option_or}
 use Rattle.fed_session.proofs.SilentLemmas.{AllSilent, entries_silent, said_silent, last_silent, last_said_silent}
 
@@ -102,15 +93,15 @@ stands_new s header alive steps rules time none login kept_none flags kept_pages
 
 -- what the event says of a call
 abbrev pub said_of : (T : Trace) (event : Event) (q : ℕ) → Facts → Facts
-said_of T event q = with_said (list_any is_ignored (effects_of T event)) (input_to q event)
+said_of T event q = with_said (world_at T) (list_any is_ignored (effects_of T event)) (input_to q event)
 
 -- the stage that a call comes to, and what is known of it then
 pub facts_moved : (T : Trace) (line : ℕ) (event : Event) (q : ℕ) (moved : Option (Option Stage)) (began : Option Begun)
     → last_said nat_eq stage_change q (effects_of T event) ≡ moved → last_of (begins q) (effects_of T event) ≡ began
-    → facts_at (with_event T line event) q ≡ facts_by (unwrap_or moved (stage_at T q)) (option_or (option_map known_first began) (option_map (said_of T event q) (known_in T.rows q)))
+    → facts_at (with_event T line event) q ≡ facts_by (unwrap_or moved (stage_at T q)) (option_or (option_map known_first began) (option_map (said_of T event q) (known_in T.header T.rows q)))
 facts_moved T line event q moved began m b =
-    ap (λ x. facts_by (unwrap_or x (stage_at T q)) (option_or (option_map known_first (last_of (begins q) (effects_of T event))) (option_map (said_of T event q) (known_in T.rows q)))) m
-    ∙ ap (λ x. facts_by (unwrap_or moved (stage_at T q)) (option_or (option_map known_first x) (option_map (said_of T event q) (known_in T.rows q)))) b
+    ap (λ x. facts_by (unwrap_or x (stage_at T q)) (option_or (option_map known_first (last_of (begins q) (effects_of T event))) (option_map (said_of T event q) (known_in T.header T.rows q)))) m
+    ∙ ap (λ x. facts_by (unwrap_or moved (stage_at T q)) (option_or (option_map known_first x) (option_map (said_of T event q) (known_in T.header T.rows q)))) b
 
 map_same : {A : Type 0} (f : A → A) → ((x : A) → f x ≡ x) → (o : Option A) → option_map f o ≡ o
 map_same f same None = refl
@@ -120,7 +111,7 @@ map_same f same (Some x) = ap Some (same x)
 pub facts_same : (T : Trace) (line : ℕ) (event : Event) (q : ℕ) → last_said nat_eq stage_change q (effects_of T event) ≡ None → last_of (begins q) (effects_of T event) ≡ None
     → ((f : Facts) → said_of T event q f ≡ f) → facts_at (with_event T line event) q ≡ facts_at T q
 facts_same T line event q m b same =
-    facts_moved T line event q None None m b ∙ ap (facts_by (stage_at T q)) (map_same (said_of T event q) same (known_in T.rows q))
+    facts_moved T line event q None None m b ∙ ap (facts_by (stage_at T q)) (map_same (said_of T event q) same (known_in T.header T.rows q))
 
 -- ---- an event that says nothing of pages and calls
 

@@ -41,7 +41,7 @@ shown_by T all h ((n, kept) ∷ cs) within distinct =
         → map with_stage (filter_map shown_call ((n, kept) ∷ cs)) ≡ map (staged_by (stage_at T)) (pending_calls ((n, kept) ∷ cs))
     go None is rest = rest
     go (Some facts) is rest =
-        let about = known_by facts (stage_at T n) (known_in T.rows n) (sym is) in
+        let about = known_by facts (stage_at T n) (known_in T.header T.rows n) (sym is) in
         ap (λ o. (n, facts.page, o) ∷ map with_stage (filter_map shown_call cs)) (sym about.stage_is) ∙ ap (λ xs. (n, facts.page, stage_at T n) ∷ xs) rest
 
 pub shown : (s : State) (T : Trace) → Stands s T → map with_stage (filter_map shown_call s.calls) ≡ staged T

@@ -7,9 +7,10 @@ use Rattle.fed_origin.specs.declared.stage.Stage.TheVariants.{Ended}
 use Rattle.fed_origin.specs.declared.status.LoginStatus.{LoginStatus}
 use Rattle.fed_jar.specs.Cookie.{StoredCookie}
 use Rattle.fed_consent.specs.declared.ask.Ask.{Ask}
+use Rattle.fed_consent.specs.declared.dialog.Dialog.{Dialog}
 use Rattle.fed_consent.specs.declared.finish.Finish.{Finish}
 use Rattle.fed_consent.specs.declared.why.Why.{Why}
-use Rattle.fed_call.specs.Begun.{Begun}
+use Rattle.fed_session.specs.Begun.{Begun}
 use Rattle.fed_session.specs.Keyed.{Change}
 
 pub data Effect : Type 0 where
@@ -29,6 +30,8 @@ pub data Effect : Type 0 where
   Move : (call : ℕ) → (stage : Stage) → Effect
   -- a request of the call to a provider, with the text of its cookies
   Sent : (call : ℕ) → (provider : ℕ) → (ask : Ask) → (cookies : List ℕ) → Effect
+  -- a dialog of the call is shown
+  Shown : (call : ℕ) → (dialog : Dialog) → Effect
   -- what the call of the page gets
   Result : (call : ℕ) → (page : ℕ) → (finish : Finish) → Effect
   -- the event was not taken

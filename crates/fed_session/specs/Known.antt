@@ -1,16 +1,16 @@
 -- What is known of a call: how it began, what the inputs that it took said, and its stage.
-use Rattle.std.specs.Prelude.{ℕ, Bool, false, nat_eq, List, [], ◌∷◌, Option, Some, None, option_map, if◌then◌else◌}
+use Rattle.std.specs.Prelude.{ℕ, Bool, nat_eq, List, [], ◌∷◌, Option, Some, None, option_map, if◌then◌else◌}
 use Rattle.std.specs.Option.{option_or}
 use Rattle.std.specs.List.{list_any}
 use Rattle.fed_origin.specs.declared.stage.Stage.{Stage}
-use Rattle.fed_origin.specs.declared.stage.Stage.TheVariants.{Reading}
 use Rattle.fed_status.specs.Shared.{World}
 use Rattle.fed_consent.specs.declared.input.Input.{Input}
 use Rattle.fed_consent.specs.declared.input.Input.TheVariants as inputs
-use Rattle.fed_call.specs.Begun.{Begun}
-use Rattle.fed_call.specs.Facts.{Facts, at_stage, with_input}
+use Rattle.fed_session.specs.Begun.{Begun}
+use Rattle.fed_call.specs.Facts.{Facts, at_stage, fresh, with_input}
 use Rattle.fed_script.specs.declared.event.Event.{Event}
 use Rattle.fed_script.specs.declared.event.Event.TheVariants as events
+use Rattle.fed_script.specs.declared.event.Header.{Header}
 use Rattle.fed_session.specs.Effect.{last_of, begins, is_ignored}
 use Rattle.fed_session.specs.Trace.{Row, Trace, logins, stage_at, begun}
 
@@ -26,31 +26,26 @@ is_begun T call = list_any (nat_eq call) (begun T.rows)
 abbrev pub input_to : ℕ → Event → Option Input
 input_to call (events.Abort c) = if nat_eq call c then Some inputs.Abort else None
 input_to call (events.Reply c provider kind raw) = if nat_eq call c then Some (inputs.Reply provider kind raw) else None
+input_to call (events.Choose c provider account) = if nat_eq call c then Some (inputs.Choose provider account) else None
+input_to call (events.GoOn c) = if nat_eq call c then Some inputs.GoOn else None
+input_to call (events.Cancel c) = if nat_eq call c then Some inputs.Cancel else None
 input_to call _ = None
 
 -- what is known of a call of which no input was taken
 abbrev pub known_first : Begun → Facts
-known_first b = record {
-  call = b.call;
-  page = b.page;
-  origin = b.origin;
-  options = b.options;
-  stage = Reading;
-  heard = false;
-  config = None;
-}
+known_first b = fresh b.call b.page b.origin b.options
 
--- what is known of a call after an input, if there is one, by whether it was ignored
-abbrev pub with_said : Bool → Option Input → Facts → Facts
-with_said ignored None facts = facts
-with_said ignored (Some input) facts = with_input ignored input facts
+-- what is known of a call after an input, if there is one, among what all calls looked at then, by whether it was ignored
+abbrev pub with_said : World → Bool → Option Input → Facts → Facts
+with_said world ignored None facts = facts
+with_said world ignored (Some input) facts = with_input world ignored input facts
 
 -- what is known of a call, but for its stage: how it began, and what each input that it took said
-abbrev pub known_in : List Row → ℕ → Option Facts
-known_in [] call = None
-known_in (row ∷ rows) call =
+abbrev pub known_in : Header → List Row → ℕ → Option Facts
+known_in header [] call = None
+known_in header (row ∷ rows) call =
     option_or (option_map known_first (last_of (begins call) row.effects))
-    (option_map (with_said (list_any is_ignored row.effects) (input_to call row.event)) (known_in rows call))
+    (option_map (with_said (world_at (record { header = header; rows = rows })) (list_any is_ignored row.effects) (input_to call row.event)) (known_in header rows call))
 
 abbrev pub facts_by : Option Stage → Option Facts → Option Facts
 facts_by (Some stage) (Some known) = at_stage stage known
@@ -59,4 +54,4 @@ facts_by None known = None
 
 -- what is known of a call that is not over
 abbrev pub facts_at : Trace → ℕ → Option Facts
-facts_at T call = facts_by (stage_at T call) (known_in T.rows call)
+facts_at T call = facts_by (stage_at T call) (known_in T.header T.rows call)

@@ -1,6 +1,9 @@
+pub mod Begun
+pub mod Cause
 pub mod Effect
 pub mod Keyed
 pub mod Known
+pub mod Laws
 pub mod Records
 pub mod Row
 pub mod Session

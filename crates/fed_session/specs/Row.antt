@@ -1,13 +1,11 @@
 -- What each event does, by what is looked up: the tables, row by row.
-use Rattle.std.specs.Prelude.{◌≡◌, ℕ, Bool, true, false, nat_eq, ◌==◌, List, [], ◌∷◌, ◌++◌, map, codes, Option, Some, None, is_some, option_and_then, Result as Answer, Ok, Err, ⊤}
+use Rattle.std.specs.Prelude.{◌≡◌, ℕ, Bool, true, false, nat_eq, ◌==◌, List, [], ◌∷◌, ◌++◌, length, map, codes, Option, Some, None, option_and_then, Result as Answer, Ok, Err, ⊤}
 use Rattle.std.specs.List.{list_any, filter_map}
-use Rattle.std.specs.Result.{result_ok}
 use Rattle.url.specs.Parts.{Parts}
 use Rattle.fed_origin.specs.declared.options.GetOptions.{GetOptions}
 use Rattle.fed_origin.specs.declared.origin.Origin.{Origin}
-use Rattle.fed_origin.specs.declared.stage.ReplyKind.TheVariants as kinds
 use Rattle.fed_origin.specs.declared.stage.Stage.{Stage}
-use Rattle.fed_origin.specs.declared.stage.Stage.TheVariants.{Reading, Ended}
+use Rattle.fed_origin.specs.declared.stage.Stage.TheVariants.{Ended}
 use Rattle.fed_origin.specs.declared.status.LoginStatus.{LoginStatus}
 use Rattle.fed_origin.specs.Origin.{is_trustworthy}
 use Rattle.fed_origin.specs.WebUrl.{origin_of}
@@ -30,9 +28,8 @@ use Rattle.fed_consent.specs.declared.finish.FailStep.TheVariants.{CallPending}
 use Rattle.fed_consent.specs.declared.input.Input.{Input}
 use Rattle.fed_consent.specs.declared.input.Input.TheVariants as inputs
 use Rattle.fed_consent.specs.declared.why.Why.TheVariants.{NoPage, PageInsecure, NoCall}
-use Rattle.fed_call.specs.Begun.{Begun}
-use Rattle.fed_provider.specs.declared.config.Config.{Config}
-use Rattle.fed_call.specs.Facts.{Facts, Outcome, at_stage, config_read, provider_at}
+use Rattle.fed_session.specs.Begun.{Begun}
+use Rattle.fed_call.specs.Facts.{Facts, Outcome}
 use Rattle.fed_call.specs.Row.{fails, plain, start_row, call_row}
 use Rattle.fed_script.specs.declared.event.Event.{Event}
 use Rattle.fed_script.specs.declared.event.Event.TheVariants as events
@@ -40,7 +37,7 @@ use Rattle.fed_script.specs.declared.event.Event.TheVariants.{At, Load, ClosePag
 use Rattle.fed_script.specs.declared.event.Have.{Have}
 use Rattle.fed_script.specs.declared.event.Have.TheVariants as haves
 use Rattle.fed_script.specs.declared.event.Header.{Header}
-use Rattle.fed_session.specs.Effect.{Effect, Time, Page, Closed, Cookie, Login, Begin, Move, Sent, Result, Ignored}
+use Rattle.fed_session.specs.Effect.{Effect, Time, Page, Closed, Cookie, Login, Begin, Move, Sent, Shown, Result, Ignored}
 use Rattle.fed_session.specs.Known.{world_at, is_begun, facts_at}
 use Rattle.fed_session.specs.Trace.{Row, Trace, page_at, pending, pending_of, now_at, writes, begun}
 
@@ -50,11 +47,14 @@ use Rattle.fed_session.specs.Trace.{Row, Trace, page_at, pending, pending_of, no
 abbrev pub cookies_with : Trace → Ask → List ℕ
 cookies_with T (asks.Accounts to) = jar.cookie_text T.header.rules to (now_at T) (writes T)
 cookies_with T (asks.Disconnect to client hint origin) = jar.cookie_text T.header.rules to (now_at T) (writes T)
+cookies_with T (asks.Assertion ask) = jar.cookie_text T.header.rules ask.to (now_at T) (writes T)
 cookies_with T _ = []
 
--- what a call of the page does, with the cookies of its requests; dialogs, windows, statuses and permissions come later
+-- what a call of the page does, with the cookies of its requests; windows and permissions come later
 abbrev pub call_effect : (Ask → List ℕ) → ℕ → ℕ → CallEffect → Option Effect
 call_effect cookies call page (does.Send provider ask) = Some (Sent call provider ask (cookies ask))
+call_effect cookies call page (does.Dialog dialog) = Some (Shown call dialog)
+call_effect cookies call page (does.SetLogin origin status) = Some (Login origin status)
 call_effect cookies call page (does.Finish finish) = Some (Result call page finish)
 call_effect cookies call page (does.Ignored why) = Some (Ignored why)
 call_effect cookies call page _ = None
@@ -189,6 +189,10 @@ effects_of T (Get page call options) = get_effects (world_at T) (cookies_with T)
 effects_of T (Abort call) = input_effects (world_at T) (cookies_with T) (is_begun T call) call (facts_at T call) inputs.Abort
 effects_of T (Reply call provider kind raw) =
     input_effects (world_at T) (cookies_with T) (is_begun T call) call (facts_at T call) (inputs.Reply provider kind raw)
+effects_of T (events.Choose call provider account) =
+    input_effects (world_at T) (cookies_with T) (is_begun T call) call (facts_at T call) (inputs.Choose provider account)
+effects_of T (events.GoOn call) = input_effects (world_at T) (cookies_with T) (is_begun T call) call (facts_at T call) inputs.GoOn
+effects_of T (events.Cancel call) = input_effects (world_at T) (cookies_with T) (is_begun T call) call (facts_at T call) inputs.Cancel
 effects_of T (SetStatus page status) = status_effects (page_at T page) status
 
 -- the row of an event at this line after what happened
@@ -199,9 +203,9 @@ row_of T line event = record { line = line; event = event; effects = effects_of 
 abbrev pub with_event : Trace → ℕ → Event → Trace
 with_event T line event = record { header = T.header; rows = row_of T line event ∷ T.rows }
 
--- the call of a get never began before
+-- the call of a get never began before, and it has one provider
 abbrev pub IsNew : List Row → Event → Type 0
-IsNew rows (Get page call options) = list_any (nat_eq call) (begun rows) ≡ false
+IsNew rows (Get page call options) = (list_any (nat_eq call) (begun rows) ≡ false) × (length options.providers ≡ 1)
 IsNew rows _ = ⊤
 
 -- each row is that of its event after the rows before it

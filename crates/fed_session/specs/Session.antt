@@ -1,7 +1,7 @@
 -- What contracts see of a session, and which traces it stands for.
 use Rattle.std.specs.Prelude.{◌≡◌, ℕ, ◌+◌, Bool, true, false, nat_eq, List, [], ◌∷◌, length, map, Option, Some, None, is_some, option_map, option_and_then, if◌then◌else◌, ⊤}
 use Rattle.std.specs.Option.{option_to_list, option_map_or}
-use Rattle.std.specs.List.{filter_map}
+use Rattle.std.specs.List.{filter_map, AllByRecursion}
 use Rattle.std.specs.Map.{lookup, set_value}
 use Rattle.indexmap.specs.IndexMap.{insert_entry}
 use Rattle.fed_origin.specs.declared.options.GetOptions.{GetOptions}
@@ -18,16 +18,19 @@ use Rattle.fed_status.specs.Shared.{World}
 use Rattle.fed_consent.specs.declared.ask.Ask.{Ask}
 use Rattle.fed_consent.specs.declared.ask.Ask.TheVariants as asks
 use Rattle.fed_consent.specs.declared.effect.Effect.{Effect as CallEffect}
+use Rattle.fed_consent.specs.declared.effect.Effect.TheVariants as does
 use Rattle.fed_consent.specs.declared.input.Input.{Input}
-use Rattle.fed_consent.specs.declared.why.Why.TheVariants.{NoPage}
-use Rattle.fed_call.specs.Facts.{Facts, started, next_facts}
-use Rattle.fed_call.specs.Row.{start_row, call_row}
+use Rattle.fed_consent.specs.declared.why.Why.TheVariants.{NoPage, NoCall}
+use Rattle.fed_call.specs.Facts.{Facts, Outcome, started, next_facts}
+use Rattle.fed_call.specs.Row.{ignored, start_row, call_row}
 use Rattle.fed_script.specs.declared.event.Event.{Event}
 use Rattle.fed_script.specs.declared.event.Event.TheVariants.{Get}
 use Rattle.fed_script.specs.declared.event.Have.{Have}
 use Rattle.fed_script.specs.declared.event.Have.TheVariants as haves
+use Rattle.fed_script.specs.Used.{IsKnown}
 use Rattle.fed_session.specs.declared.apply.Sight.{Sight}
 use Rattle.fed_session.specs.declared.out.Out.{Out}
+use Rattle.fed_session.specs.declared.apply.Statuses.{Statuses}
 use Rattle.fed_session.specs.declared.page.Page.{Page}
 use Rattle.fed_session.specs.declared.view.View.{View}
 use Rattle.fed_session.specs.Effect.{Effect, Ignored}
@@ -137,11 +140,34 @@ world_kept s = record { rules = s.rules; login = s.login; kept = s.kept; flags =
 abbrev pub cookies_by : RuleSet → ℕ → List StoredCookie → Ask → List ℕ
 cookies_by rules now cookies (asks.Accounts to) = jar_text rules to now cookies
 cookies_by rules now cookies (asks.Disconnect to client hint origin) = jar_text rules to now cookies
+cookies_by rules now cookies (asks.Assertion ask) = jar_text rules ask.to now cookies
 cookies_by rules now cookies _ = []
 
 -- the Cookie field of a request by what is seen
 abbrev pub cookies_of : Sight → Ask → List ℕ
-cookies_of sight ask = cookies_by sight.shared.rules.now sight.time sight.jar.now ask
+cookies_of sight ask = cookies_by sight.rules.now sight.time sight.jar.now ask
+
+-- what all calls look at, by the rules and the statuses of a session
+abbrev pub world_in : RuleSet → Statuses → World
+world_in rules statuses = record { rules = rules; login = statuses.login; kept = statuses.kept; flags = statuses.flags }
+
+-- a status that a call sets was said
+abbrev pub SetsKnown : CallEffect → Type 0
+SetsKnown (does.SetLogin origin status) = IsKnown status
+SetsKnown _ = ⊤
+
+-- the same of all that a call does
+abbrev pub AllSetKnown : List CallEffect → Type 0
+AllSetKnown effects = AllByRecursion SetsKnown effects
+
+-- the login statuses after what a call does
+abbrev pub login_by : CallEffect → Logins → Logins
+login_by (does.SetLogin origin status) logins = with_status logins origin status
+login_by _ logins = logins
+
+abbrev pub login_after : List CallEffect → Logins → Logins
+login_after [] logins = logins
+login_after (effect ∷ effects) logins = login_after effects (login_by effect logins)
 
 -- the records of what a call of the page does
 abbrev pub call_records : ℕ → (Ask → List ℕ) → ℕ → ℕ → List CallEffect → List Out
@@ -215,7 +241,12 @@ input_at world cookies found call input =
 
 -- what is kept of a call after an input
 abbrev pub kept_after : World → Option Facts → Input → Option Facts
-kept_after world facts input = next_facts facts input (call_row world facts input)
+kept_after world facts input = next_facts world facts input (call_row world facts input)
+
+-- what an input does, by what is kept of its call
+abbrev pub outcome_at : World → Option (Option Facts) → Input → Outcome
+outcome_at world None input = ignored NoCall
+outcome_at world (Some facts) input = call_row world facts input
 
 -- the calls after an input of one of them
 abbrev pub input_kept : World → ℕ → Input → List (ℕ × Option Facts) → List (ℕ × Option Facts)

@@ -1,4 +1,4 @@
-//! What a call does, as records.
+//! What a call does: statuses that it sets, and records.
 ghost use Rattle.std.specs.Prelude.{◌≡◌, ◌++◌, [], ◌∷◌, IfOk, OnOk, Some};
 ghost use Rattle.std.specs.Option.{option_to_list};
 ghost use Rattle.std.specs.List.{filter_map};
@@ -8,7 +8,7 @@ ghost use Rattle.fed_status.specs.Shared.{world_of};
 ghost use Rattle.fed_session.specs.Effect.{Sent, Ignored};
 ghost use Rattle.fed_session.specs.Records.{records_of, record_of};
 ghost use Rattle.fed_session.specs.Row.{call_effect};
-ghost use Rattle.fed_session.specs.Session.{cookies_of, call_records};
+ghost use Rattle.fed_session.specs.Session.{cookies_of, call_records, world_in, AllSetKnown, SetsKnown, login_after, login_by};
 
 use crate::out::Out;
 use fed_consent::{Ask, Effect, Finish, Why};
@@ -19,36 +19,46 @@ use fed_status::{KeptSet, LoginMap, Shared, SilentFlags};
 use fed_suffix::Suffixes;
 use std::alloc::Global;
 
-/// What calls look at: what is shared, the cookies, and the time in seconds since 1970.
+/// What calls look at beside the statuses: the public suffix rules, the cookies, and the time in seconds since 1970.
 #[derive(Clone, Copy)]
 pub(crate) struct Sight<'a> {
-    pub shared: Shared<'a>,
+    pub rules: &'a Suffixes,
     pub jar: &'a Jar,
     pub time: u64,
 }
 
-/// What calls look at, by its parts.
-pub(crate) fn sight_of<'a>(
-    rules: &'a Suffixes,
-    login: &'a LoginMap,
-    kept: &'a KeptSet,
-    flags: &'a SilentFlags,
-    jar: &'a Jar,
-    time: u64,
-) -> Sight<'a>
-    ensures world { world_of result.shared ≡ record { rules = rules.now; login = login.now; kept = kept.now; flags = flags.now } }
-    ensures jar { result.jar.now ≡ jar.now }
-    ensures time { result.time ≡ time }
-{
-    Sight {
-        shared: Shared {
+/// What calls look at and set: the login statuses, the kept permissions and the prevent-silent flags.
+#[derive(Drop)]
+pub struct Statuses {
+    pub login: LoginMap,
+    pub kept: KeptSet,
+    pub flags: SilentFlags,
+}
+
+impl Statuses {
+    /// Nothing is set or kept.
+    pub(crate) fn new(alloc: Global) -> Statuses
+        ensures login { result.login ≡ [] }
+        ensures kept { result.kept ≡ [] }
+        ensures flags { result.flags ≡ [] }
+    {
+        Statuses {
+            login: LoginMap::new(alloc),
+            kept: KeptSet::new(alloc),
+            flags: SilentFlags::new(alloc),
+        }
+    }
+
+    /// What is lent to a call.
+    pub(crate) fn lent<'a>(&'a self, rules: &'a Suffixes) -> Shared<'a>
+        ensures { world_of result ≡ world_in rules.now self.now }
+    {
+        Shared {
             rules,
-            login,
-            kept,
-            flags,
-        },
-        jar,
-        time,
+            login: &self.login,
+            kept: &self.kept,
+            flags: &self.flags,
+        }
     }
 }
 
@@ -61,24 +71,51 @@ pub(crate) fn ignored(alloc: Global, line: u32, why: Why) -> Result<Items<Out>, 
     Ok(outs)
 }
 
-/// The records of what a call of the page does, in their order.
-pub(crate) fn records(
+/// What a call of the page does, in its order: statuses are set, and the rest is answered as records.
+pub(crate) fn apply(
     alloc: Global,
     line: u32,
     sight: Sight<'_>,
+    statuses: &mut Statuses,
     call: u32,
     page: u32,
     effects: Items<Effect>,
 ) -> Result<Items<Out>, NoRoom>
-    ensures { IfOk result (λ outs. outs ≡ call_records line (cookies_of sight.entry) call page effects) }
+    requires { AllSetKnown effects }
+    ensures outs { IfOk result (λ outs. outs ≡ call_records line (cookies_of sight.entry) call page effects) }
+    ensures login { OnOk result (statuses.new.login ≡ login_after effects statuses.old.login) }
+    ensures kept { statuses.new.kept ≡ statuses.old.kept }
+    ensures flags { statuses.new.flags ≡ statuses.old.flags }
 {
     let mut outs = Items::new(alloc);
     for effect in effects.into_vec() {
+        set_status(statuses, &effect)?;
         if let Some(out) = record(alloc, line, sight, call, page, effect)? {
             outs.push(out)?;
         }
     }
     Ok(outs)
+}
+
+// Sets the login status that a call sets, if it sets one.
+fn set_status(statuses: &mut Statuses, effect: &Effect) -> Result<(), NoRoom>
+    requires { SetsKnown effect.now }
+    ensures login { OnOk result (statuses.new.login ≡ login_by effect.now statuses.old.login) }
+    ensures kept { statuses.new.kept ≡ statuses.old.kept }
+    ensures flags { statuses.new.flags ≡ statuses.old.flags }
+{
+    match effect {
+        Effect::SetLogin(origin, status) => statuses.login.set(origin, *status),
+        Effect::Send(_, _)
+        | Effect::Dialog(_)
+        | Effect::Window(_)
+        | Effect::Keep(_)
+        | Effect::Forget(_)
+        | Effect::ForgetPair(_, _)
+        | Effect::ClearFlag(_)
+        | Effect::Finish(_)
+        | Effect::Ignored(_) => Ok(()),
+    }
 }
 
 // The record of what a call of the page does, if it is written.
@@ -96,6 +133,7 @@ fn record(
         Effect::Send(provider, ask) => {
             Ok(Some(request(alloc, line, sight, call, provider, &ask)?))
         }
+        Effect::Dialog(dialog) => Ok(Some(Out::Dialog { line, call, dialog })),
         Effect::Finish(finish) => Ok(Some(Out::Answer {
             line,
             call,
@@ -103,9 +141,8 @@ fn record(
             finish,
         })),
         Effect::Ignored(why) => Ok(Some(Out::Ignored { line, why })),
-        Effect::Dialog(_)
+        Effect::SetLogin(_, _)
         | Effect::Window(_)
-        | Effect::SetLogin(_, _)
         | Effect::Keep(_)
         | Effect::Forget(_)
         | Effect::ForgetPair(_, _)
@@ -141,10 +178,11 @@ fn cookies(alloc: Global, sight: Sight<'_>, ask: &Ask) -> Result<Bytes, NoRoom>
 {
     match ask {
         Ask::Accounts { to } | Ask::Disconnect { to, .. } => {
-            sight
-                .jar
-                .cookie_text(alloc, sight.shared.rules, to, sight.time)
+            sight.jar.cookie_text(alloc, sight.rules, to, sight.time)
         }
+        Ask::Assertion(ask) => sight
+            .jar
+            .cookie_text(alloc, sight.rules, ask.to(), sight.time),
         Ask::WellKnown { .. } | Ask::Config { .. } | Ask::Metadata { .. } => Bytes::of(alloc, b""),
     }
 }

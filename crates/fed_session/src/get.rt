@@ -5,9 +5,9 @@ ghost use Rattle.fed_call.specs.Row.{fails, plain};
 ghost use Rattle.fed_status.specs.Shared.{world_of};
 ghost use Rattle.fed_session.specs.Records.{records_of};
 ghost use Rattle.fed_session.specs.Row.{get_outcome};
-ghost use Rattle.fed_session.specs.Session.{cookies_of, get_at, get_kept, with_new, holding, begun_as};
+ghost use Rattle.fed_session.specs.Session.{cookies_of, world_in, get_at, get_kept, with_new, holding, begun_as};
 
-use crate::apply::{Sight, ignored, records};
+use crate::apply::{Sight, Statuses, apply, ignored};
 use crate::calls::{Calls, Kept};
 use crate::out::Out;
 use crate::page::{Page, hold};
@@ -15,6 +15,7 @@ use fed_call::CallState;
 use fed_consent::{Effect, FailStep, Failure, Finish, Why};
 use fed_io::{Items, NoRoom};
 use fed_origin::{GetOptions, Origin};
+use fed_status::Shared;
 use indexmap::IndexMap;
 use std::alloc::Global;
 
@@ -23,6 +24,7 @@ pub(crate) fn get(
     alloc: Global,
     line: u32,
     sight: Sight<'_>,
+    statuses: &mut Statuses,
     pages: &mut IndexMap<u32, Page>,
     calls: &mut Calls,
     page: u32,
@@ -30,9 +32,12 @@ pub(crate) fn get(
     options: &GetOptions,
 ) -> Result<Items<Out>, NoRoom>
     requires { length options.now.providers ≡ 1 }
-    ensures outs { IfOk result (λ outs. outs ≡ records_of line (get_at (world_of sight.entry.shared) (cookies_of sight.entry) (lookup (nat_eq page) pages.old.entries) page call options.now)) }
-    ensures pages { OnOk result (pages.new.entries ≡ holding page call (get_kept (world_of sight.entry.shared) (lookup (nat_eq page) pages.old.entries) page call options.now) pages.old.entries) }
-    ensures calls { OnOk result (calls.new.entries ≡ with_new call (get_kept (world_of sight.entry.shared) (lookup (nat_eq page) pages.old.entries) page call options.now) calls.old.entries) }
+    ensures outs { IfOk result (λ outs. outs ≡ records_of line (get_at (world_in sight.entry.rules.now statuses.old) (cookies_of sight.entry) (lookup (nat_eq page) pages.old.entries) page call options.now)) }
+    ensures login { OnOk result (statuses.new.login ≡ statuses.old.login) }
+    ensures kept { statuses.new.kept ≡ statuses.old.kept }
+    ensures flags { statuses.new.flags ≡ statuses.old.flags }
+    ensures pages { OnOk result (pages.new.entries ≡ holding page call (get_kept (world_in sight.entry.rules.now statuses.old) (lookup (nat_eq page) pages.old.entries) page call options.now) pages.old.entries) }
+    ensures calls { OnOk result (calls.new.entries ≡ with_new call (get_kept (world_in sight.entry.rules.now statuses.old) (lookup (nat_eq page) pages.old.entries) page call options.now) calls.old.entries) }
 {
     let Some(found) = pages.get(&page) else {
         return ignored(alloc, line, Why::NoPage);
@@ -42,7 +47,7 @@ pub(crate) fn get(
     }
     let (kept, effects) = begin(
         alloc,
-        sight,
+        &statuses.lent(sight.rules),
         found.get.is_some(),
         page,
         call,
@@ -51,13 +56,14 @@ pub(crate) fn get(
     )?;
     hold(pages, page, call, &kept);
     calls.insert(call, kept)?;
-    records(alloc, line, sight, call, page, effects)
+    let outs = apply(alloc, line, sight, statuses, call, page, effects)?;
+    Ok(outs)
 }
 
 // A get that is taken: what is kept of it, and what it does.
 fn begin(
     alloc: Global,
-    sight: Sight<'_>,
+    shared: &Shared<'_>,
     busy: bool,
     page: u32,
     call: u32,
@@ -65,8 +71,8 @@ fn begin(
     options: &GetOptions,
 ) -> Result<(Kept, Items<Effect>), NoRoom>
     requires { length options.now.providers ≡ 1 }
-    ensures effects { IfOk result (λ r. r.1 ≡ (get_outcome (world_of sight.entry.shared) busy options.now).effects) }
-    ensures kept { IfOk result (λ r. r.0 ≡ begun_as (world_of sight.entry.shared) busy page call origin.now options.now) }
+    ensures effects { IfOk result (λ r. r.1 ≡ (get_outcome (world_of shared.now) busy options.now).effects) }
+    ensures kept { IfOk result (λ r. r.0 ≡ begun_as (world_of shared.now) busy page call origin.now options.now) }
 {
     if busy {
         return Ok((Kept::over(), pending_elsewhere(alloc)?));
@@ -77,7 +83,7 @@ fn begin(
         page,
         origin.copy(alloc)?,
         options.copy(alloc)?,
-        &sight.shared,
+        shared,
     )?;
     Ok((Kept::of(alloc, state)?, effects))
 }

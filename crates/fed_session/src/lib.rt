@@ -5,6 +5,7 @@ mod apply;
 mod calls;
 mod get;
 mod input;
+pub mod laws;
 mod load;
 mod out;
 mod page;

@@ -8,7 +8,7 @@ ghost use Rattle.fed_session.specs.Row.{row_of, with_event};
 ghost use Rattle.fed_session.specs.Session.{Stands, Shows, IsFresh, Brings, revived, stepped};
 ghost use Rattle.fed_session.specs.Trace.{Trace};
 
-use crate::apply::sight_of;
+use crate::apply::{Sight, Statuses};
 use crate::calls::Calls;
 use crate::get::get;
 use crate::input::take_input;
@@ -38,9 +38,7 @@ pub struct Session {
     time: u64,
     rules: Suffixes,
     jar: Jar,
-    login: LoginMap,
-    kept: KeptSet,
-    flags: SilentFlags,
+    statuses: Statuses,
     pages: IndexMap<u32, Page>,
     calls: Calls,
 }
@@ -55,7 +53,7 @@ impl Model for Session {
 
     ghost coded = { Prim.hlevel (codes, set.code {R = rule_cmp} rule_code) };
 
-    ghost view = { λ s. record { alive = s.alive; steps = s.steps; time = s.time; rules = s.rules; cookies = s.jar; login = s.login; kept = s.kept; flags = s.flags; pages = s.pages.entries; calls = s.calls.entries } };
+    ghost view = { λ s. record { alive = s.alive; steps = s.steps; time = s.time; rules = s.rules; cookies = s.jar; login = s.statuses.login; kept = s.statuses.kept; flags = s.statuses.flags; pages = s.pages.entries; calls = s.calls.entries } };
 }
 
 impl Session {
@@ -70,9 +68,7 @@ impl Session {
             time: header.now,
             rules: header.rules,
             jar: Jar::new(alloc),
-            login: LoginMap::new(alloc),
-            kept: KeptSet::new(alloc),
-            flags: SilentFlags::new(alloc),
+            statuses: Statuses::new(alloc),
             pages: IndexMap::new(alloc),
             calls: IndexMap::new(alloc),
         })
@@ -93,9 +89,11 @@ impl Session {
             time: header.now,
             rules: header.rules,
             jar,
-            login,
-            kept: KeptSet::new(alloc),
-            flags: SilentFlags::new(alloc),
+            statuses: Statuses {
+                login,
+                kept: KeptSet::new(alloc),
+                flags: SilentFlags::new(alloc),
+            },
             pages: IndexMap::new(alloc),
             calls: IndexMap::new(alloc),
         }
@@ -151,7 +149,7 @@ impl Session {
                 Ok(outs)
             }
             Event::SetStatus { page, status } => {
-                let (pages, login) = (&self.pages, &mut self.login);
+                let (pages, login) = (&self.pages, &mut self.statuses.login);
                 let outs = set_page_status(self.alloc, line, pages, login, *page, *status)?;
                 Ok(outs)
             }
@@ -161,6 +159,19 @@ impl Session {
                 options,
             } => self.get(line, *page, *call, options),
             Event::Abort { call } => self.input(line, *call, &Input::Abort),
+            Event::GoOn { call } => self.input(line, *call, &Input::GoOn),
+            Event::Cancel { call } => self.input(line, *call, &Input::Cancel),
+            Event::Choose {
+                call,
+                provider,
+                account,
+            } => {
+                let choice = Input::Choose {
+                    provider: *provider,
+                    account: account.copy(self.alloc)?,
+                };
+                self.input(line, *call, &choice)
+            }
             Event::Reply {
                 call,
                 provider,
@@ -188,7 +199,7 @@ impl Session {
         take_have(
             self.alloc,
             &mut self.jar,
-            &mut self.login,
+            &mut self.statuses.login,
             &self.rules,
             self.time,
             have,
@@ -209,7 +220,13 @@ impl Session {
             url,
             time: self.time,
         };
-        take_head(self.alloc, &mut self.jar, &mut self.login, source, raw)?;
+        take_head(
+            self.alloc,
+            &mut self.jar,
+            &mut self.statuses.login,
+            source,
+            raw,
+        )?;
         Ok(Items::new(self.alloc))
     }
 
@@ -228,18 +245,16 @@ impl Session {
         ensures steps { self.new.steps ≡ self.old.steps }
         ensures alive { self.new.alive ≡ self.old.alive }
     {
-        let sight = sight_of(
-            &self.rules,
-            &self.login,
-            &self.kept,
-            &self.flags,
-            &self.jar,
-            self.time,
-        );
+        let sight = Sight {
+            rules: &self.rules,
+            jar: &self.jar,
+            time: self.time,
+        };
         let outs = get(
             self.alloc,
             line,
             sight,
+            &mut self.statuses,
             &mut self.pages,
             &mut self.calls,
             page,
@@ -256,18 +271,16 @@ impl Session {
         ensures steps { self.new.steps ≡ self.old.steps }
         ensures alive { self.new.alive ≡ self.old.alive }
     {
-        let sight = sight_of(
-            &self.rules,
-            &self.login,
-            &self.kept,
-            &self.flags,
-            &self.jar,
-            self.time,
-        );
+        let sight = Sight {
+            rules: &self.rules,
+            jar: &self.jar,
+            time: self.time,
+        };
         let outs = take_input(
             self.alloc,
             line,
             sight,
+            &mut self.statuses,
             &mut self.pages,
             &mut self.calls,
             call,
@@ -286,7 +299,7 @@ impl Session {
         }
         Ok(View {
             now: self.time,
-            login: shown_logins(self.alloc, &self.login)?,
+            login: shown_logins(self.alloc, &self.statuses.login)?,
             kept: Items::new(self.alloc),
             silent: Items::new(self.alloc),
             cookies: Items::from_vec(self.jar.list(self.alloc)?),

@@ -63,6 +63,9 @@ untaken_after T line (events.Load page url raw) used h = untaken_same used.calls
 untaken_after T line (events.ClosePage page) used h = untaken_same used.calls (begun T.rows) _ (begins_none T (events.ClosePage page) refl) h
 untaken_after T line (events.Abort call) used h = untaken_same used.calls (begun T.rows) _ (begins_none T (events.Abort call) refl) h
 untaken_after T line (events.Reply call provider kind raw) used h = untaken_same used.calls (begun T.rows) _ (begins_none T (events.Reply call provider kind raw) refl) h
+untaken_after T line (events.Choose call provider account) used h = untaken_same used.calls (begun T.rows) _ (begins_none T (events.Choose call provider account) refl) h
+untaken_after T line (events.GoOn call) used h = untaken_same used.calls (begun T.rows) _ (begins_none T (events.GoOn call) refl) h
+untaken_after T line (events.Cancel call) used h = untaken_same used.calls (begun T.rows) _ (begins_none T (events.Cancel call) refl) h
 untaken_after T line (events.SetStatus page status) used h = untaken_same used.calls (begun T.rows) _ (begins_none T (events.SetStatus page status) refl) h
 
 -- an event more

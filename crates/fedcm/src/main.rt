@@ -3,6 +3,8 @@
 
 #[cfg(test)]
 mod call_tests;
+#[cfg(test)]
+mod dialog_tests;
 mod print;
 mod program;
 mod read;
@@ -10,6 +12,8 @@ mod run;
 mod status;
 #[cfg(test)]
 mod tests;
+#[cfg(test)]
+mod token_tests;
 mod top;
 
 use program::program;

@@ -1,19 +1,25 @@
-use Rattle.std.proofs.Common.{◌≡◌, ◌∙◌, ap, sym, true, Some, nat_eq}
-use Rattle.std.proofs.lemmas.Result.{IfOk-weaker}
+use Rattle.std.proofs.Common.{◌≡◌, ◌∙◌, ap, sym, subst, true, Some, nat_eq}
 use Rattle.std.specs.Map.{lookup}
 use Rattle.fed_origin.specs.Origin.{is_trustworthy}
 use Rattle.fed_status.specs.Shared.{world_of}
 use Rattle.fed_session.specs.Row.{get_outcome}
-use Rattle.fed_session.specs.Session.{cookies_of, call_records}
-use Rattle.fed_session.proofs.GetLemmas.{get_records}
+use Rattle.fed_session.specs.Session.{cookies_of, call_records, world_in, login_after, AllSetKnown}
+use Rattle.fed_session.proofs.GetLemmas.{get_records, get_still}
+use Rattle.fed_session.proofs.SetsLemmas.{get_sets_known}
 use Rattle.fed_session.proofs.get.get.Goals as goal
+
+pub apply-requires : goal.apply-requires
+apply-requires c = subst AllSetKnown (sym c.in_ok-kept.ensures.effects) (get_sets_known (world_of c.lent.result) c.is_some.result c.args.options.now)
 
 pub returns-clause-outs : goal.returns-clause-outs
 returns-clause-outs c =
     let found : lookup (nat_eq c.args.page) c.args.pages.now.entries ≡ Some c.in-Some.found.now = sym c.in-Some.ensures.value in
     let trusted : is_trustworthy c.in-Some.found.now.origin ≡ true = sym c.is_trustworthy.ensures ∙ c.if-not-is_trustworthy.false in
-    IfOk-weaker c.records.result _ _
-    (λ outs h. h ∙ ap (call_records c.args.line (cookies_of c.args.sight) c.args.call c.args.page) c.in_ok-kept.ensures.effects
-    ∙ ap (λ b. call_records c.args.line (cookies_of c.args.sight) c.args.call c.args.page (get_outcome (world_of c.args.sight.shared) b c.args.options.now).effects) c.is_some.ensures
-    ∙ get_records c.args.line (world_of c.args.sight.shared) (cookies_of c.args.sight) (lookup (nat_eq c.args.page) c.args.pages.now.entries) c.in-Some.found.now c.args.page c.args.call c.args.options.now found trusted)
-    c.records.ensures
+    c.in_ok-outs.ensures.outs ∙ ap (call_records c.args.line (cookies_of c.args.sight) c.args.call c.args.page) c.in_ok-kept.ensures.effects
+    ∙ ap (λ w. call_records c.args.line (cookies_of c.args.sight) c.args.call c.args.page (get_outcome w c.is_some.result c.args.options.now).effects) c.lent.ensures
+    ∙ ap (λ b. call_records c.args.line (cookies_of c.args.sight) c.args.call c.args.page (get_outcome (world_in c.args.sight.rules.now c.args.statuses.now) b c.args.options.now).effects) c.is_some.ensures
+    ∙ get_records c.args.line (world_in c.args.sight.rules.now c.args.statuses.now) (cookies_of c.args.sight) (lookup (nat_eq c.args.page) c.args.pages.now.entries) c.in-Some.found.now c.args.page c.args.call c.args.options.now found trusted
+
+pub returns-clause-login : goal.returns-clause-login
+returns-clause-login c =
+    c.in_ok-outs.ensures.login ∙ ap (λ fx. login_after fx c.args.statuses.now.login) c.in_ok-kept.ensures.effects ∙ get_still (world_of c.lent.result) c.is_some.result c.args.options.now c.args.statuses.now.login

@@ -1,19 +1,34 @@
-use Rattle.std.proofs.Common.{◌≡◌, ◌∙◌, ap, sym, Some, nat_eq}
+use Rattle.std.proofs.Common.{◌≡◌, ◌∙◌, ap, sym, subst, Some, nat_eq}
 use Rattle.std.specs.Prelude.{option_and_then}
 use Rattle.std.specs.Map.{lookup}
+use Rattle.fed_call.specs.Row.{call_row}
 use Rattle.fed_call.specs.State.{facts_of}
 use Rattle.fed_status.specs.Shared.{world_of}
-use Rattle.fed_session.specs.Session.{cookies_of, call_records, kept_after, with_kept}
+use Rattle.fed_session.specs.Session.{cookies_of, call_records, kept_after, with_kept, world_in, login_after, outcome_at, AllSetKnown}
 use Rattle.fed_session.proofs.InputLemmas.{pending_records, lent_and_back}
+use Rattle.fed_session.proofs.SetsLemmas.{row_sets_known}
 use Rattle.fed_session.proofs.input.take_input.Goals as goal
+
+pub apply-requires : goal.apply-requires
+apply-requires c = subst AllSetKnown (sym c.in_ok-state.ensures.effects) (row_sets_known (world_of c.lent.result) (facts_of c.in-Some-into_state.state) c.args.input.now)
 
 pub returns-clause-outs : goal.returns-clause-outs
 returns-clause-outs c =
     let known = facts_of c.in-Some-into_state.state in
     let is : c.in-Some.kept ≡ known = sym c.in-Some-into_state.ensures in
     let found : lookup (nat_eq c.args.call) c.args.calls.now.entries ≡ Some known = sym c.in-Some.ensures.state ∙ ap Some is in
-    c.in_ok-outs.ensures ∙ ap (call_records c.args.line (cookies_of c.args.sight) c.args.call c.in-Some-page.page) c.in_ok-state.ensures.effects
-    ∙ pending_records c.args.line (world_of c.args.sight.shared) (cookies_of c.args.sight) c.args.call c.in-Some-page.page c.args.input.now known (lookup (nat_eq c.args.call) c.args.calls.now.entries) found c.in-Some-page.ensures
+    c.in_ok-outs.ensures.outs ∙ ap (call_records c.args.line (cookies_of c.args.sight) c.args.call c.in-Some-page.page) c.in_ok-state.ensures.effects
+    ∙ ap (λ w. call_records c.args.line (cookies_of c.args.sight) c.args.call c.in-Some-page.page (call_row w known c.args.input.now).effects) c.lent.ensures
+    ∙ pending_records c.args.line (world_in c.args.sight.rules.now c.args.statuses.now) (cookies_of c.args.sight) c.args.call c.in-Some-page.page c.args.input.now known (lookup (nat_eq c.args.call) c.args.calls.now.entries) found c.in-Some-page.ensures
+
+pub returns-clause-login : goal.returns-clause-login
+returns-clause-login c =
+    let known = facts_of c.in-Some-into_state.state in
+    let is : c.in-Some.kept ≡ known = sym c.in-Some-into_state.ensures in
+    let found : lookup (nat_eq c.args.call) c.args.calls.now.entries ≡ Some known = sym c.in-Some.ensures.state ∙ ap Some is in
+    c.in_ok-outs.ensures.login ∙ ap (λ fx. login_after fx c.args.statuses.now.login) c.in_ok-state.ensures.effects
+    ∙ ap (λ w. login_after (call_row w known c.args.input.now).effects c.args.statuses.now.login) c.lent.ensures
+    ∙ ap (λ o. login_after (outcome_at (world_in c.args.sight.rules.now c.args.statuses.now) o c.args.input.now).effects c.args.statuses.now.login) (sym found)
 
 pub returns-clause-calls : goal.returns-clause-calls
 returns-clause-calls c =
@@ -22,4 +37,5 @@ returns-clause-calls c =
     let found : lookup (nat_eq c.args.call) c.args.calls.now.entries ≡ Some known = sym c.in-Some.ensures.state ∙ ap Some is in
     c.give_back.ensures ∙ ap (with_kept c.args.call c.in_ok-kept.kept) c.lend.ensures.calls ∙ lent_and_back c.args.call c.in_ok-kept.kept c.args.calls.now.entries
     ∙ ap (λ kept. with_kept c.args.call kept c.args.calls.now.entries)
-    (c.in_ok-kept.ensures ∙ c.in_ok-state.ensures.state ∙ ap (λ o. kept_after (world_of c.args.sight.shared) (option_and_then (λ kept. kept) o) c.args.input.now) (sym found))
+    (c.in_ok-kept.ensures ∙ c.in_ok-state.ensures.state ∙ ap (λ w. kept_after w known c.args.input.now) c.lent.ensures
+    ∙ ap (λ o. kept_after (world_in c.args.sight.rules.now c.args.statuses.now) (option_and_then (λ kept. kept) o) c.args.input.now) (sym found))

@@ -1,4 +1,4 @@
-use Rattle.std.proofs.Common.{◌≡◌, ◌∙◌, ◌++◌, ◌∷◌, [], ap, sym, take}
+use Rattle.std.proofs.Common.{◌∙◌, ◌++◌, ◌∷◌, [], ap, sym, take}
 use Rattle.fed_session.proofs.ViewLemmas.{take_next, take_none}
 use Rattle.fed_session.proofs.view.shown_logins.Goals as goal
 use Rattle.fed_session.proofs.view.shown_logins.Goals.{in-Some+in_ok-copy+in_ok-push, in_default}

@@ -1,7 +1,7 @@
-use Rattle.std.proofs.Common.{◌≡◌, ◌∙◌, ap, sym, subst, refl, nat_eq, None}
+use Rattle.std.proofs.Common.{◌≡◌, ◌∙◌, sym, subst, refl, nat_eq, None}
 use Rattle.std.specs.Map.{lookup}
 use Rattle.fed_script.specs.declared.event.Event.TheVariants as events
-use Rattle.fed_session.specs.Session.{State, Stands, revived, get_kept, holding, with_new}
+use Rattle.fed_session.specs.Session.{State, Stands, revived}
 use Rattle.fed_session.proofs.GetLemmas.{owes_get, get_records-stand, is_new}
 use Rattle.fed_session.proofs.StandsLemmas.{stands_after}
 use Rattle.fed_session.proofs.session.Session.get.Goals as goal
@@ -9,13 +9,9 @@ use Rattle.fed_session.proofs.session.Session.get.Goals as goal
 pub returns-clause-row : goal.returns-clause-row
 returns-clause-row c = λ T h.
     let before = subst (λ (s : State). Stands (revived s) T) (sym c.self.view_is) h in
-    let fresh = subst (λ (s : State). lookup (nat_eq c.args.call) s.calls ≡ None) (sym c.self.view_is) c.requires.fresh in
-    let world = c.sight_of-sight.ensures.world in
-    let found = lookup (nat_eq c.args.page) c.self.inside.pages.entries in (
-      c.in_ok-outs.ensures.outs
-          ∙ get_records-stand c.sight_of-sight.result _ T c.args.line c.args.page c.args.call c.args.options.now before world c.sight_of-sight.ensures.jar c.sight_of-sight.ensures.time,
-      stands_after _ _ T c.args.line (events.Get c.args.page c.args.call c.args.options.now) before (is_new _ T c.args.call before fresh) refl refl
-          (owes_get _ _ T c.args.line c.args.page c.args.call c.args.options.now before fresh c.requires.one refl refl refl refl refl refl
-          (c.in_ok-outs.ensures.pages ∙ ap (λ w. holding c.args.page c.args.call (get_kept w found c.args.page c.args.call c.args.options.now) c.self.inside.pages.entries) world)
-          (c.in_ok-outs.ensures.calls ∙ ap (λ w. with_new c.args.call (get_kept w found c.args.page c.args.call c.args.options.now) c.self.inside.calls.entries) world)),
+    let fresh = subst (λ (s : State). lookup (nat_eq c.args.call) s.calls ≡ None) (sym c.self.view_is) c.requires.fresh in (
+      c.in_ok-outs.ensures.outs ∙ get_records-stand _ T c.args.line c.args.page c.args.call c.args.options.now before,
+      stands_after _ _ T c.args.line (events.Get c.args.page c.args.call c.args.options.now) before (is_new _ T c.args.call before fresh, c.requires.one) refl refl
+          (owes_get _ _ T c.args.line c.args.page c.args.call c.args.options.now before fresh c.requires.one refl c.in_ok-outs.ensures.kept c.in_ok-outs.ensures.flags refl refl c.in_ok-outs.ensures.login
+          c.in_ok-outs.ensures.pages c.in_ok-outs.ensures.calls),
     )

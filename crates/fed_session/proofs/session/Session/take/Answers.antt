@@ -1,9 +1,7 @@
-use Rattle.std.proofs.Common.{◌≡◌, ◌∙◌, ap, sym, subst, refl, nat_eq}
-use Rattle.std.specs.Map.{lookup}
+use Rattle.std.proofs.Common.{◌∙◌, sym, subst, refl}
 use Rattle.fed_script.specs.declared.event.Event.TheVariants as events
 use Rattle.fed_session.specs.Session.{State, Stands, revived}
 use Rattle.fed_session.proofs.EventLemmas.{owes_close, close_records-stand, owes_status, status_records-stand}
-use Rattle.fed_session.proofs.InputLemmas.{abort_brings, reply_brings}
 use Rattle.fed_session.proofs.StandsLemmas.{stands_after}
 use Rattle.fed_session.proofs.session.Session.take.Goals as goal
 

@@ -1,0 +1,83 @@
+-- The rows of a call that shows a dialog.
+use Rattle.std.specs.Prelude.{ℕ, Bool, true, false, List, Option, Some, None, option_and_then, not}
+use Rattle.fed_origin.specs.declared.options.ProviderOptions.{ProviderOptions}
+use Rattle.fed_origin.specs.declared.stage.Stage.{Stage}
+use Rattle.fed_origin.specs.declared.stage.Stage.TheVariants as stages
+use Rattle.fed_origin.specs.declared.stage.ReplyKind.{ReplyKind}
+use Rattle.fed_origin.specs.declared.stage.ReplyKind.TheVariants as kinds
+use Rattle.fed_provider.specs.declared.metadata.PolicyLinks.{PolicyLinks}
+use Rattle.fed_provider.specs.Metadata.{MetadataOf}
+use Rattle.fed_status.specs.Shared.{World}
+use Rattle.fed_consent.specs.declared.finish.FailStep.TheVariants as steps
+use Rattle.fed_consent.specs.declared.why.Why.TheVariants.{NotWaited, NotOffered, NoAccount}
+use Rattle.fed_consent.specs.Consent.{Agreement, Candidate, agreement, chosen}
+use Rattle.fed_consent.specs.declared.manner.Manner.{Manner}
+use Rattle.fed_consent.specs.declared.manner.Manner.TheVariants.{Chosen, Prompted}
+use Rattle.fed_call.specs.AssertingRows.{asserts}
+use Rattle.fed_call.specs.Facts.{Facts, Outcome, provider_at}
+use Rattle.fed_call.specs.Outcomes.{fails, ignored, stays, moves, plain}
+use Rattle.fed_call.specs.ListingRows.{prompt_dialog, prompts}
+
+-- ---- metadata
+
+-- the account is shown with these links
+abbrev pub links_shown : World → Facts → Option Candidate → PolicyLinks → Outcome
+links_shown world facts None links = stays
+links_shown world facts (Some candidate) links = moves stages.Prompting (prompt_dialog world facts candidate links)
+
+-- a metadata reply, by whether the prompt waits for it, if the call has its provider (row C26, else C36)
+abbrev pub metadata_reply : World → Facts → Bool → Option ProviderOptions → List ℕ → Outcome
+metadata_reply world facts false provider raw = ignored NotWaited
+metadata_reply world facts true None raw = ignored NotWaited
+metadata_reply world facts true (Some provider) raw = links_shown world facts facts.picked (MetadataOf raw)
+
+-- a reply for the provider, at a prompt
+abbrev pub prompting_reply : World → Facts → Option ProviderOptions → ReplyKind → List ℕ → Outcome
+prompting_reply world facts provider kinds.Metadata raw = metadata_reply world facts facts.waits provider raw
+prompting_reply world facts provider _ raw = ignored NotWaited
+
+-- ---- the user's words
+
+-- what the user agreed to of an account
+abbrev pub agreed_to : Facts → Candidate → Manner → Bool → Agreement
+agreed_to facts candidate manner disclosure =
+    agreement (record { call = facts.call; provider = 0; candidate = candidate }) manner disclosure
+
+-- an account was chosen: the token is asked for where it is connected, and else there is a prompt (rows C22, C23, C24)
+abbrev pub settles : World → Facts → ProviderOptions → Candidate → Bool → Outcome
+settles world facts provider candidate true = asserts facts (Some provider) facts.config (agreed_to facts candidate Chosen false)
+settles world facts provider candidate false = prompts world facts provider candidate
+
+-- a choice, by the provider and by the account that it names, if there are such (else row C25)
+abbrev pub choice : World → Facts → Option ProviderOptions → Option Candidate → Outcome
+choice world facts None candidate = ignored NoAccount
+choice world facts (Some provider) None = ignored NoAccount
+choice world facts (Some provider) (Some candidate) = settles world facts provider candidate candidate.connected
+
+-- an account with this id of the provider at this place was chosen, by the stage (else row C36)
+abbrev pub chose : World → Facts → Stage → ℕ → List ℕ → Outcome
+chose world facts stages.Choosing place id =
+    choice world facts (provider_at place facts.options) (option_and_then (chosen id) facts.listed)
+chose world facts _ place id = ignored NotOffered
+
+-- the user went on with the prompt, by whether it waits (row C27, else C36)
+abbrev pub goes_on : Facts → Bool → Option Candidate → Outcome
+goes_on facts true picked = ignored NotOffered
+goes_on facts false None = stays
+goes_on facts false (Some candidate) =
+    asserts facts (provider_at 0 facts.options) facts.config (agreed_to facts candidate Prompted (not candidate.connected))
+
+-- the user went on, by the stage (else row C36)
+abbrev pub went_on : Facts → Stage → Outcome
+went_on facts stages.Prompting = goes_on facts facts.waits facts.picked
+went_on facts _ = ignored NotOffered
+
+-- the dialog was closed, by the stage (row C31, else C36)
+abbrev pub cancelled : Stage → Outcome
+cancelled stages.Reading = ignored NotOffered
+cancelled stages.Listing = ignored NotOffered
+cancelled stages.Mismatch = fails (plain steps.UserCancelled)
+cancelled stages.Choosing = fails (plain steps.UserCancelled)
+cancelled stages.Prompting = fails (plain steps.UserCancelled)
+cancelled stages.Asserting = ignored NotOffered
+cancelled stages.Ended = ignored NotOffered

@@ -1,0 +1,138 @@
+-- The rows of a call that awaits its accounts.
+use Rattle.std.specs.Prelude.{ℕ, Bool, true, false, List, [], ◌∷◌, map, zip, Option, Some, None, option_map, Result, Ok, Err}
+use Rattle.url.specs.Parts.{Parts, serialize}
+use Rattle.fed_origin.specs.declared.origin.Origin.{Origin}
+use Rattle.fed_origin.specs.declared.options.GetOptions.{GetOptions}
+use Rattle.fed_origin.specs.declared.options.ProviderOptions.{ProviderOptions}
+use Rattle.fed_origin.specs.declared.options.Mediation.{Mediation}
+use Rattle.fed_origin.specs.declared.options.Mediation.TheVariants.{Silent, Optional, Required}
+use Rattle.fed_origin.specs.declared.options.Mode.{Mode}
+use Rattle.fed_origin.specs.declared.options.Mode.TheVariants.{Passive, Active}
+use Rattle.fed_origin.specs.declared.stage.Stage.TheVariants as stages
+use Rattle.fed_origin.specs.declared.stage.ReplyKind.{ReplyKind}
+use Rattle.fed_origin.specs.declared.stage.ReplyKind.TheVariants as kinds
+use Rattle.fed_origin.specs.declared.status.LoginStatus.{LoginStatus}
+use Rattle.fed_origin.specs.declared.status.LoginStatus.TheVariants.{Unknown, LoggedIn, LoggedOut}
+use Rattle.fed_origin.specs.WebUrl.{origin_of}
+use Rattle.fed_suffix.specs.Registrable.{party}
+use Rattle.fed_provider.specs.declared.metadata.PolicyLinks.{PolicyLinks}
+use Rattle.fed_accounts.specs.declared.account.Account.{Account}
+use Rattle.fed_accounts.specs.declared.step.AccountsStep.{AccountsStep}
+use Rattle.fed_status.specs.Login.{status_of}
+use Rattle.fed_status.specs.Shared.{World}
+use Rattle.fed_consent.specs.declared.ask.Ask.TheVariants.{Metadata}
+use Rattle.fed_consent.specs.declared.dialog.Dialog.TheVariants as dialogs
+use Rattle.fed_consent.specs.declared.dialog.Shown.{Shown}
+use Rattle.fed_consent.specs.declared.effect.Effect.{Effect}
+use Rattle.fed_consent.specs.declared.effect.Effect.TheVariants.{Send, Dialog, SetLogin}
+use Rattle.fed_consent.specs.declared.finish.Failure.{Failure}
+use Rattle.fed_consent.specs.declared.why.Why.TheVariants.{NotWaited}
+use Rattle.fed_consent.specs.Consent.{Listed, Candidate}
+use Rattle.fed_call.specs.Accounts.{accounts_of, listed_of, candidate_of}
+use Rattle.fed_call.specs.Facts.{Facts, Outcome, metadata_endpoint}
+use Rattle.fed_call.specs.Outcomes.{fails, ignored, stays, moves, after, accounts_failure}
+
+-- ---- dialogs
+
+-- the party of the page's host
+abbrev pub site_of : World → Origin → List ℕ
+site_of world page = party world.rules page.host
+
+-- an account as a dialog shows it
+abbrev pub shown : Account → Bool → Shown
+shown account connected =
+    record {
+      provider = 0;
+      id = account.id;
+      name = account.name;
+      email = account.email;
+      given_name = account.given_name;
+      picture = account.picture;
+      connected = connected;
+    }
+
+-- the accounts as a dialog shows them, in their order
+abbrev pub all_shown : Listed → List Shown
+all_shown listed = map (λ entry. shown entry.0 entry.1) (zip listed.accounts listed.connected)
+
+-- the accounts are shown, to choose one of
+abbrev pub choice_dialog : World → Facts → Listed → Effect
+choice_dialog world facts listed =
+    Dialog (dialogs.Choose (all_shown listed) facts.options.context (site_of world facts.origin))
+
+-- an account is shown, to go on with, and the links of the client, serialized
+abbrev pub prompt_dialog : World → Facts → Candidate → PolicyLinks → Effect
+prompt_dialog world facts candidate links =
+    Dialog
+    (dialogs.Prompt (shown candidate.account candidate.connected) facts.options.context (site_of world facts.origin)
+    (option_map serialize links.privacy) (option_map serialize links.terms))
+
+abbrev pub no_links : PolicyLinks
+no_links = record { privacy = None; terms = None }
+
+-- ---- accounts that are refused
+
+-- the call is passive and not silent, and the user was logged in
+abbrev pub is_mismatch : Mode → Mediation → LoginStatus → Bool
+is_mismatch Active mediation status = false
+is_mismatch Passive Silent status = false
+is_mismatch Passive Optional LoggedIn = true
+is_mismatch Passive Optional LoggedOut = false
+is_mismatch Passive Optional Unknown = false
+is_mismatch Passive Required LoggedIn = true
+is_mismatch Passive Required LoggedOut = false
+is_mismatch Passive Required Unknown = false
+
+-- the user hears of it (row C15), or the page (row C16)
+abbrev pub by_mismatch : List ℕ → Failure → Bool → Outcome
+by_mismatch site failure true = moves stages.Mismatch (Dialog (dialogs.Mismatch 0 site failure))
+by_mismatch site failure false = fails failure
+
+-- the accounts of the provider's origin are refused, or none fits the hints: the user is logged out there
+abbrev pub refused : World → Facts → Origin → Failure → Outcome
+refused world facts provider failure =
+    after (SetLogin provider LoggedOut)
+    (by_mismatch (site_of world facts.origin) failure
+    (is_mismatch facts.options.mode facts.options.mediation (status_of world.login provider)))
+
+-- ---- accounts that are good
+
+-- What comes first of a prompt, by whether the account is connected and by the metadata endpoint: it is shown, or the links of
+-- the client are asked for.
+abbrev pub prompt_effect : World → Facts → ProviderOptions → Candidate → Bool → Option Parts → Effect
+prompt_effect world facts provider candidate true endpoint = prompt_dialog world facts candidate no_links
+prompt_effect world facts provider candidate false None = prompt_dialog world facts candidate no_links
+prompt_effect world facts provider candidate false (Some to) = Send 0 (Metadata to provider.client facts.origin)
+
+-- the user is to go on with this account
+abbrev pub prompts : World → Facts → ProviderOptions → Candidate → Outcome
+prompts world facts provider candidate =
+    moves stages.Prompting (prompt_effect world facts provider candidate candidate.connected (metadata_endpoint facts.config))
+
+-- several accounts (row C19), or one (rows C20, C21); there is never none
+abbrev pub offers : World → Facts → ProviderOptions → List Account → Outcome
+offers world facts provider [] = stays
+offers world facts provider (only ∷ []) =
+    prompts world facts provider (candidate_of world facts.origin provider only)
+offers world facts provider (first ∷ second ∷ more) =
+    moves stages.Choosing (choice_dialog world facts (listed_of world facts.origin provider (first ∷ second ∷ more)))
+
+-- good accounts: the user is logged in at the provider
+abbrev pub accepted : World → Facts → ProviderOptions → List Account → Outcome
+accepted world facts provider accounts =
+    after (SetLogin (origin_of provider.config) LoggedIn) (offers world facts provider accounts)
+
+-- the first accounts reply, by what was read
+abbrev pub by_accounts : World → Facts → ProviderOptions → Result (List Account) AccountsStep → Outcome
+by_accounts world facts provider (Err step) = refused world facts (origin_of provider.config) (accounts_failure step)
+by_accounts world facts provider (Ok accounts) = accepted world facts provider accounts
+
+-- an accounts reply, if the call has its provider (else row C36)
+abbrev pub accounts_reply : World → Facts → Option ProviderOptions → List ℕ → Outcome
+accounts_reply world facts None raw = ignored NotWaited
+accounts_reply world facts (Some provider) raw = by_accounts world facts provider (accounts_of raw provider)
+
+-- a reply for the provider
+abbrev pub listing_reply : World → Facts → Option ProviderOptions → ReplyKind → List ℕ → Outcome
+listing_reply world facts provider kinds.Accounts raw = accounts_reply world facts provider raw
+listing_reply world facts provider _ raw = ignored NotWaited

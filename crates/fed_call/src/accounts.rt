@@ -1,0 +1,86 @@
+//! The accounts that a call is about.
+ghost use Rattle.std.specs.Prelude.{◌≡◌, IfOk, map};
+ghost use Rattle.fed_origin.specs.WebUrl.{origin_of};
+ghost use Rattle.fed_call.specs.Accounts as spec;
+
+use crate::begun::Call;
+use fed_accounts::{Account, Accounts, AccountsStep, connected, keep_hinted, read_accounts};
+use fed_io::{Fault, Items, NoRoom, Text};
+use fed_origin::{Origin, ProviderOptions};
+use fed_status::KeptSet;
+use std::alloc::Global;
+
+/// The accounts in an accounts reply that the hints of the call ask for, or the step at which they are refused.
+#[tactic(auto, unfolding(crate::specs::Accounts::accounts_of))]
+pub fn hinted_accounts(
+    alloc: Global,
+    raw: &[u8],
+    provider: &ProviderOptions,
+) -> Result<Result<Accounts, AccountsStep>, NoRoom>
+    ensures { IfOk result (λ read. read ≡ spec.accounts_of raw.now provider.now) }
+{
+    let accounts = match read_accounts(alloc, raw) {
+        Ok(accounts) => accounts,
+        Err(Fault::Step(step)) => return Ok(Err(step)),
+        Err(Fault::NoRoom) => return Err(NoRoom),
+    };
+    let login = provider.login_hint.as_ref();
+    let domain = provider.domain_hint.as_ref();
+    match keep_hinted(alloc, accounts, login, domain) {
+        Ok(accounts) => Ok(Ok(accounts)),
+        Err(Fault::Step(step)) => Ok(Err(step)),
+        Err(Fault::NoRoom) => Err(NoRoom),
+    }
+}
+
+// Whether an account of the provider's origin is connected to the client at pages of an origin.
+fn is_connected(
+    kept: &KeptSet,
+    page: &Origin,
+    provider: &Origin,
+    client: &Text,
+    account: &Account,
+) -> bool
+    ensures { result ≡ spec.is_connected kept.now page.now provider.now client.now account.now }
+{
+    connected(account, client, kept.has(page, provider, &account.id))
+}
+
+// Of each account of the provider's origin, in their order, whether it is connected to the client at pages of an origin.
+fn connections_at(
+    alloc: Global,
+    kept: &KeptSet,
+    page: &Origin,
+    provider: &Origin,
+    client: &Text,
+    accounts: &[Account],
+) -> Result<Items<bool>, NoRoom>
+    ensures { IfOk result (λ all. all ≡ map (spec.is_connected kept.now page.now provider.now client.now) accounts.now) }
+{
+    let mut all = Items::new(alloc);
+    for account in accounts {
+        all.push(is_connected(kept, page, provider, client, account))?;
+    }
+    Ok(all)
+}
+
+/// Of each of these accounts of the call's provider, in their order, whether it is connected.
+pub fn connections(
+    alloc: Global,
+    kept: &KeptSet,
+    begun: &Call,
+    accounts: &[Account],
+) -> Result<Items<bool>, NoRoom>
+    ensures { IfOk result (λ all. all ≡ map (spec.is_connected kept.now begun.now.origin (origin_of begun.now.provider.config) begun.now.provider.client) accounts.now) }
+{
+    let options = &begun.provider;
+    let provider = Origin::of_url(alloc, &options.config)?;
+    connections_at(
+        alloc,
+        kept,
+        &begun.origin,
+        &provider,
+        &options.client,
+        accounts,
+    )
+}

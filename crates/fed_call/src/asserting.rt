@@ -1,0 +1,191 @@
+//! A call whose token is awaited.
+ghost use Rattle.std.specs.Prelude.{◌≡◌, ◌∷◌, [], Some, None, false, IfOk};
+ghost use Rattle.fed_consent.specs.declared.input.Input.TheVariants as inputs;
+ghost use Rattle.fed_consent.specs.Consent.{assertion_fields};
+ghost use Rattle.fed_call.specs.AssertingRows as spec;
+ghost use Rattle.fed_call.specs.Begun.{options_of};
+ghost use Rattle.fed_call.specs.Facts.{facts_after, provider_at};
+ghost use Rattle.fed_call.specs.Outcomes.{ignored};
+ghost use Rattle.fed_call.specs.Row.{input_row, stage_reply};
+ghost use Rattle.fed_call.specs.State.{begun_facts, facts_of, asserting_facts};
+ghost use Rattle.fed_origin.specs.Origin.{origin_text};
+ghost use Rattle.fed_status.specs.Shared.{world_of};
+ghost use Rattle.fed_token.specs.Read.{AssertionOf};
+
+use crate::CallState;
+use crate::begun::Call;
+use crate::effects::{fails, finishes, not_taken, one, plain, token_refused};
+use fed_accounts::Account;
+use fed_consent::{Ask, Consent, Effect, FailStep, Finish, Input, Why};
+use fed_io::{Fault, Items, NoRoom};
+use fed_origin::{Origin, ReplyKind, Stage};
+use fed_provider::Config;
+use fed_status::Shared;
+use fed_token::read_assertion;
+use std::alloc::Global;
+
+/// A call whose token is awaited.
+#[derive(Drop)]
+pub struct Asserting {
+    pub(crate) begun: Call,
+    pub(crate) config: Config,
+    /// The account that the token is for.
+    pub(crate) account: Account,
+    pub(crate) connected: bool,
+    /// Whether it was settled on without the user.
+    pub(crate) auto: bool,
+}
+
+impl Asserting {
+    /// The call after an input, and what it does there.
+    pub(crate) fn advance(
+        self,
+        alloc: Global,
+        input: &Input,
+        shared: &Shared<'_>,
+    ) -> Result<(CallState, Items<Effect>), NoRoom>
+        ensures effects { IfOk result (λ r. r.1 ≡ (input_row (world_of shared.now) (asserting_facts self) input.now).effects) }
+        ensures state { IfOk result (λ r. facts_of r.0 ≡ facts_after (world_of shared.now) (asserting_facts self) input.now (input_row (world_of shared.now) (asserting_facts self) input.now)) }
+    {
+        match input {
+            Input::Reply {
+                provider,
+                kind,
+                raw,
+            } => self.reply(alloc, shared, *provider, *kind, raw.as_slice()),
+            Input::Abort => fails(alloc, plain(FailStep::Aborted)),
+            Input::Choose { .. }
+            | Input::GoOn
+            | Input::Cancel
+            | Input::SignIn
+            | Input::Shut
+            | Input::Resume => self.ignores(alloc, Why::NotOffered),
+        }
+    }
+
+    // A reply for the provider at this place.
+    fn reply(
+        self,
+        alloc: Global,
+        shared: &Shared<'_>,
+        place: u32,
+        kind: ReplyKind,
+        raw: &[u8],
+    ) -> Result<(CallState, Items<Effect>), NoRoom>
+        ensures effects { IfOk result (λ r. r.1 ≡ (stage_reply (world_of shared.now) (asserting_facts self) Stage.Asserting place kind raw.now).effects) }
+        ensures state { IfOk result (λ r. facts_of r.0 ≡ facts_after (world_of shared.now) (asserting_facts self) (inputs.Reply place kind raw.now) (stage_reply (world_of shared.now) (asserting_facts self) Stage.Asserting place kind raw.now)) }
+    {
+        match kind {
+            ReplyKind::Assertion => self.assertion_reply(alloc, shared, place, raw),
+            ReplyKind::WellKnown
+            | ReplyKind::Config
+            | ReplyKind::Accounts
+            | ReplyKind::Metadata
+            | ReplyKind::Disconnect => self.ignores(alloc, Why::NotWaited),
+        }
+    }
+
+    // An assertion reply: it is taken of the provider that the call has, and ends the call.
+    fn assertion_reply(
+        self,
+        alloc: Global,
+        shared: &Shared<'_>,
+        place: u32,
+        raw: &[u8],
+    ) -> Result<(CallState, Items<Effect>), NoRoom>
+        ensures effects { IfOk result (λ r. r.1 ≡ (spec.assertion_reply (asserting_facts self) (provider_at place (options_of self.begun)) raw.now).effects) }
+        ensures state { IfOk result (λ r. facts_of r.0 ≡ facts_after (world_of shared.now) (asserting_facts self) (inputs.Reply place ReplyKind.Assertion raw.now) (spec.assertion_reply (asserting_facts self) (provider_at place (options_of self.begun)) raw.now)) }
+    {
+        if self.begun.has(place) {
+            return self.answered(alloc, raw);
+        }
+        self.ignores(alloc, Why::NotWaited)
+    }
+
+    // The assertion reply of the provider.
+    fn answered(self, alloc: Global, raw: &[u8]) -> Result<(CallState, Items<Effect>), NoRoom>
+        ensures effects { IfOk result (λ r. r.1 ≡ (spec.assertion_reply (asserting_facts self) (Some self.begun.provider) raw.now).effects) }
+        ensures state { IfOk result (λ r. facts_of r.0 ≡ None) }
+    {
+        ended(alloc, &self.begun.origin, self.auto, raw)
+    }
+
+    // The call does not take the event.
+    fn ignores(self, alloc: Global, why: Why) -> Result<(CallState, Items<Effect>), NoRoom>
+        ensures effects { IfOk result (λ r. r.1 ≡ (ignored why).effects) }
+        ensures state { IfOk result (λ r. r.0 ≡ CallState.Asserting self) }
+    {
+        let effects = not_taken(alloc, why)?;
+        Ok((CallState::Asserting(self), effects))
+    }
+}
+
+// The page of this origin gets what the reply says, and the call is over.
+fn ended(
+    alloc: Global,
+    origin: &Origin,
+    auto: bool,
+    raw: &[u8],
+) -> Result<(CallState, Items<Effect>), NoRoom>
+    ensures effects { IfOk result (λ r. r.1 ≡ Effect.Finish (spec.token_given auto (AssertionOf raw.now (origin_text origin.now))) ∷ []) }
+    ensures state { IfOk result (λ r. facts_of r.0 ≡ None) }
+{
+    let finish = token_given(alloc, origin, auto, raw)?;
+    finishes(alloc, finish)
+}
+
+// What the page of this origin gets by the reply: the token, the step at which the reply is refused, or the provider's error.
+fn token_given(alloc: Global, origin: &Origin, auto: bool, raw: &[u8]) -> Result<Finish, NoRoom>
+    ensures { IfOk result (λ finish. finish ≡ spec.token_given auto (AssertionOf raw.now (origin_text origin.now))) }
+{
+    match read_assertion(alloc, raw, origin) {
+        Ok(token) => Ok(Finish::Token {
+            auto,
+            provider: 0,
+            token,
+        }),
+        Err(Fault::Step(step)) => Ok(token_refused(step)),
+        Err(Fault::NoRoom) => Err(NoRoom),
+    }
+}
+
+// The request for a token, on which the consent is spent; on want of memory it is voided.
+fn assertion_request(
+    alloc: Global,
+    begun: &Call,
+    config: &Config,
+    consent: Consent,
+) -> Result<Items<Effect>, NoRoom>
+    ensures { IfOk result (λ effects. effects ≡ Effect.Send 0 (Ask.Assertion (assertion_fields consent config.now.assertion begun.now.origin begun.now.provider)) ∷ []) }
+{
+    match consent.spend(alloc, &config.assertion, &begun.origin, &begun.provider) {
+        Ok(ask) => one(alloc, Effect::Send(0, ask)),
+        Err((NoRoom, consent)) => {
+            consent.void();
+            Err(NoRoom)
+        }
+    }
+}
+
+/// The user agreed to the account: the token for it is asked for. On want of memory the consent is voided.
+pub fn asserts(
+    alloc: Global,
+    begun: Call,
+    config: Config,
+    account: Account,
+    connected: bool,
+    consent: Consent,
+) -> Result<(CallState, Items<Effect>), NoRoom>
+    ensures effects { IfOk result (λ r. r.1 ≡ (spec.asserts (begun_facts begun) (Some begun.provider) (Some config) consent).effects) }
+    ensures state { IfOk result (λ r. r.0 ≡ CallState.Asserting (record { begun = begun; config = config; account = account; connected = connected; auto = false })) }
+{
+    let effects = assertion_request(alloc, &begun, &config, consent)?;
+    let state = Asserting {
+        begun,
+        config,
+        account,
+        connected,
+        auto: false,
+    };
+    Ok((CallState::Asserting(state), effects))
+}

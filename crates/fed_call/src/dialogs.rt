@@ -1,0 +1,173 @@
+//! What the user is shown.
+ghost use Rattle.std.specs.Prelude.{◌≡◌, IfOk, IsAscii, length, option_map};
+ghost use Rattle.std.specs.Option.{option_copied};
+ghost use Rattle.url.specs.Parts.{serialize};
+ghost use Rattle.fed_suffix.specs.Registrable.{party};
+ghost use Rattle.fed_status.specs.Shared.{world_of};
+ghost use Rattle.fed_consent.specs.declared.effect.Effect.TheVariants as effects;
+ghost use Rattle.fed_call.specs.Facts.{metadata_endpoint};
+ghost use Rattle.fed_call.specs.ListingRows as spec;
+ghost use Rattle.fed_call.specs.State.{begun_facts};
+
+use crate::begun::Call;
+use fed_accounts::Account;
+use fed_consent::{Ask, Chooser, Dialog, Effect, Prompt, Shown};
+use fed_io::{Items, NoRoom, Text};
+use fed_origin::{Host, WebUrl};
+use fed_provider::PolicyLinks;
+use fed_status::Shared;
+use fed_suffix::Suffixes;
+use std::alloc::Global;
+use std::str;
+
+// The text of a registrable domain.
+fn domain_text(domain: &[u8]) -> &str
+    requires { IsAscii domain.now }
+    ensures { result.now ≡ domain.now }
+{
+    match str::from_utf8(domain) {
+        Ok(text) => text,
+        Err(_) => unreachable!(),
+    }
+}
+
+/// The party of a host.
+#[tactic(auto, unfolding(fed_suffix::specs::Registrable::party))]
+pub fn site(alloc: Global, rules: &Suffixes, host: &Host) -> Result<Text, NoRoom>
+    ensures { IfOk result (λ site. site ≡ party rules.now host.now) }
+{
+    let _kind = host.kind();
+    match rules.registrable(host) {
+        Some(domain) => Text::of(alloc, domain_text(domain)),
+        None => host.text.copy(alloc),
+    }
+}
+
+fn copy_text(alloc: Global, text: &Option<Text>) -> Result<Option<Text>, NoRoom>
+    ensures { IfOk result (λ copy. copy ≡ text.now) }
+{
+    match text {
+        Some(text) => Ok(Some(text.copy(alloc)?)),
+        None => Ok(None),
+    }
+}
+
+// An account as a dialog shows it.
+fn shown(alloc: Global, account: &Account, connected: bool) -> Result<Shown, NoRoom>
+    ensures { IfOk result (λ shown. shown ≡ spec.shown account.now connected) }
+{
+    Ok(Shown {
+        provider: 0,
+        id: account.id.copy(alloc)?,
+        name: account.name.copy(alloc)?,
+        email: account.email.copy(alloc)?,
+        given_name: copy_text(alloc, &account.given_name)?,
+        picture: copy_text(alloc, &account.picture)?,
+        connected,
+    })
+}
+
+// The accounts as a dialog shows them, in their order.
+fn all_shown(
+    alloc: Global,
+    accounts: &[Account],
+    connected: &[bool],
+) -> Result<Items<Shown>, NoRoom>
+    requires { length connected.now ≡ length accounts.now }
+    ensures { IfOk result (λ all. all ≡ spec.all_shown (record { accounts = accounts.now; connected = connected.now })) }
+{
+    let mut all = Items::new(alloc);
+    for (place, account) in accounts.iter().enumerate() {
+        all.push(shown(alloc, account, connected[place])?)?;
+    }
+    Ok(all)
+}
+
+/// The accounts are shown, to choose one of.
+pub fn choice_dialog(
+    alloc: Global,
+    shared: &Shared<'_>,
+    begun: &Call,
+    chooser: &Chooser,
+) -> Result<Effect, NoRoom>
+    ensures { IfOk result (λ effect. effect ≡ spec.choice_dialog (world_of shared.now) (begun_facts begun.now) chooser.now.listed) }
+{
+    let accounts = all_shown(alloc, chooser.accounts().list(), chooser.connected())?;
+    let site = site(alloc, shared.rules, &begun.origin.host)?;
+    Ok(Effect::Dialog(Dialog::Choose {
+        accounts,
+        context: begun.context,
+        site,
+    }))
+}
+
+// A link, serialized.
+fn link(alloc: Global, url: &Option<WebUrl>) -> Result<Option<Text>, NoRoom>
+    ensures { IfOk result (λ link. link ≡ option_map serialize url.now) }
+{
+    match url {
+        Some(url) => Ok(Some(Text::of(alloc, url.as_str())?)),
+        None => Ok(None),
+    }
+}
+
+/// The account of a prompt is shown, to go on with, and these links.
+pub fn prompt_dialog(
+    alloc: Global,
+    shared: &Shared<'_>,
+    begun: &Call,
+    prompt: &Prompt,
+    links: &PolicyLinks,
+) -> Result<Effect, NoRoom>
+    ensures { IfOk result (λ effect. effect ≡ spec.prompt_dialog (world_of shared.now) (begun_facts begun.now) prompt.now.pick.candidate links.now) }
+{
+    let account = shown(alloc, prompt.account(), prompt.connected())?;
+    let site = site(alloc, shared.rules, &begun.origin.host)?;
+    let privacy = link(alloc, &links.privacy)?;
+    let terms = link(alloc, &links.terms)?;
+    Ok(Effect::Dialog(Dialog::Prompt {
+        account,
+        context: begun.context,
+        site,
+        privacy,
+        terms,
+    }))
+}
+
+/// What comes first of a prompt: it is shown without links, or the links of the client are asked for, where the account is
+/// not connected and there is a metadata endpoint.
+pub fn prompt_effect(
+    alloc: Global,
+    shared: &Shared<'_>,
+    begun: &Call,
+    prompt: &Prompt,
+    endpoint: &Option<WebUrl>,
+) -> Result<Effect, NoRoom>
+    ensures { IfOk result (λ effect. effect ≡ spec.prompt_effect (world_of shared.now) (begun_facts begun.now) begun.now.provider prompt.now.pick.candidate prompt.now.pick.candidate.connected endpoint.now) }
+{
+    match endpoint {
+        Some(to) if !prompt.connected() => metadata_request(alloc, begun, to),
+        _ => prompt_dialog(alloc, shared, begun, prompt, &no_links()),
+    }
+}
+
+fn no_links() -> PolicyLinks
+    ensures { result ≡ spec.no_links }
+{
+    PolicyLinks {
+        privacy: None,
+        terms: None,
+    }
+}
+
+// The links of the client are asked for.
+fn metadata_request(alloc: Global, begun: &Call, to: &WebUrl) -> Result<Effect, NoRoom>
+    ensures { IfOk result (λ effect. effect ≡ effects.Send 0 (Ask.Metadata to.now begun.now.provider.client begun.now.origin)) }
+{
+    let ask = Ask::Metadata {
+        to: to.copy(alloc)?,
+        client: begun.provider.client.copy(alloc)?,
+        origin: begun.origin.copy(alloc)?,
+    };
+    Ok(Effect::Send(0, ask))
+}

@@ -1,0 +1,54 @@
+//! A call whose user is shown that the provider gave no account.
+ghost use Rattle.std.specs.Prelude.{◌≡◌, IfOk};
+ghost use Rattle.fed_call.specs.Facts.{facts_after};
+ghost use Rattle.fed_call.specs.Outcomes.{ignored};
+ghost use Rattle.fed_call.specs.Row.{input_row};
+ghost use Rattle.fed_call.specs.State.{facts_of, mismatch_facts};
+ghost use Rattle.fed_status.specs.Shared.{world_of};
+
+use crate::CallState;
+use crate::begun::Call;
+use crate::effects::{fails, not_taken, plain};
+use fed_consent::{Effect, FailStep, Input, Why};
+use fed_io::{Items, NoRoom};
+use fed_provider::Config;
+use fed_status::Shared;
+use std::alloc::Global;
+
+/// A call whose user is shown that the provider gave no account, though it had said that he is logged in.
+#[derive(Drop)]
+pub struct Mismatch {
+    pub(crate) begun: Call,
+    pub(crate) config: Config,
+}
+
+impl Mismatch {
+    /// The call after an input, and what it does there.
+    pub(crate) fn advance(
+        self,
+        alloc: Global,
+        input: &Input,
+        shared: &Shared<'_>,
+    ) -> Result<(CallState, Items<Effect>), NoRoom>
+        ensures effects { IfOk result (λ r. r.1 ≡ (input_row (world_of shared.now) (mismatch_facts self) input.now).effects) }
+        ensures state { IfOk result (λ r. facts_of r.0 ≡ facts_after (world_of shared.now) (mismatch_facts self) input.now (input_row (world_of shared.now) (mismatch_facts self) input.now)) }
+    {
+        match input {
+            Input::Cancel => fails(alloc, plain(FailStep::UserCancelled)),
+            Input::Abort => fails(alloc, plain(FailStep::Aborted)),
+            Input::Reply { .. } => self.ignores(alloc, Why::NotWaited),
+            Input::Choose { .. } | Input::GoOn | Input::SignIn | Input::Shut | Input::Resume => {
+                self.ignores(alloc, Why::NotOffered)
+            }
+        }
+    }
+
+    // The call does not take the event.
+    fn ignores(self, alloc: Global, why: Why) -> Result<(CallState, Items<Effect>), NoRoom>
+        ensures effects { IfOk result (λ r. r.1 ≡ (ignored why).effects) }
+        ensures state { IfOk result (λ r. r.0 ≡ CallState.Mismatch self) }
+    {
+        let effects = not_taken(alloc, why)?;
+        Ok((CallState::Mismatch(self), effects))
+    }
+}

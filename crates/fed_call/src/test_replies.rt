@@ -1,0 +1,114 @@
+//! Inputs of the calls in tests, each named by a word.
+use fed_consent::Input;
+use fed_io::{Bytes, Items, NoRoom, Text};
+use fed_origin::ReplyKind;
+use std::alloc::Global;
+
+const OK: &str = "HTTP/1.1 200 OK\r\nContent-Type: application/json\r\n\r\n";
+
+const SHARED: &str =
+    "HTTP/1.1 200 OK\r\nContent-Type: application/json\r\nAccess-Control-Allow-Origin: https://rp.example\r\nAccess-Control-Allow-Credentials: true\r\n\r\n";
+
+const DENIED: &str = "{\"error\":{\"code\":\"access_denied\"}}";
+
+const LOST: &str = "HTTP/1.1 404 Not Found\r\nContent-Type: application/json\r\n\r\n{}";
+
+const FILE: &str = "{\"provider_urls\":[\"https://accounts.idp.example/fedcm.json\"]}";
+
+const MEMBERS: &str =
+    "{\"accounts_endpoint\":\"/accounts\",\"id_assertion_endpoint\":\"/assert\",\"login_url\":\"/login\"}";
+
+const LINKED: &str =
+    "{\"accounts_endpoint\":\"/accounts\",\"id_assertion_endpoint\":\"/assert\",\"login_url\":\"/login\",\"client_metadata_endpoint\":\"/client\"}";
+
+const ANN: &str = "{\"accounts\":[{\"id\":\"u1\",\"name\":\"Ann\",\"email\":\"ann@idp.example\"}]}";
+
+const APPROVED: &str =
+    "{\"accounts\":[{\"id\":\"u1\",\"name\":\"Ann\",\"email\":\"ann@idp.example\",\"approved_clients\":[\"c1\"]}]}";
+
+const BOTH: &str =
+    "{\"accounts\":[{\"id\":\"u1\",\"name\":\"Ann\",\"email\":\"ann@idp.example\",\"approved_clients\":[\"c1\"]},{\"id\":\"u2\",\"name\":\"Bob\",\"email\":\"bob@idp.example\"}]}";
+
+const LINKS: &str = "{\"privacy_policy_url\":\"https://rp.example/privacy\"}";
+
+fn reply(
+    alloc: Global,
+    provider: u32,
+    kind: ReplyKind,
+    head: &str,
+    body: &str,
+) -> Result<Input, NoRoom> {
+    let text = format!(in alloc; "{head}{body}")?;
+    let raw = Bytes::of(alloc, text.as_bytes())?;
+    Ok(Input::Reply {
+        provider,
+        kind,
+        raw,
+    })
+}
+
+fn choice(alloc: Global, provider: u32, id: &str) -> Result<Input, NoRoom> {
+    let account = Text::of(alloc, id)?;
+    Ok(Input::Choose { provider, account })
+}
+
+// The kind, the head and the body of the reply that a word names; any other word is the body of a good well-known reply.
+fn named(word: &str) -> (ReplyKind, &'static str, &str) {
+    match word {
+        "wellknown" => (ReplyKind::WellKnown, OK, FILE),
+        "lost" => (ReplyKind::WellKnown, LOST, ""),
+        "config" => (ReplyKind::Config, OK, MEMBERS),
+        "linked" => (ReplyKind::Config, OK, LINKED),
+        "broken" => (ReplyKind::Config, OK, "{}"),
+        "links" => (ReplyKind::Metadata, OK, LINKS),
+        "token" => (ReplyKind::Assertion, SHARED, "{\"token\":\"T1\"}"),
+        "unshared" => (ReplyKind::Assertion, OK, "{\"token\":\"T1\"}"),
+        "denied" => (ReplyKind::Assertion, SHARED, DENIED),
+        body => (ReplyKind::WellKnown, OK, body),
+    }
+}
+
+// The head and the body of the accounts reply that a word names.
+fn accounts(word: &str) -> Option<(&'static str, &'static str)> {
+    match word {
+        "accounts" => Some((OK, "{}")),
+        "empty" => Some((OK, "{\"accounts\":[]}")),
+        "gone" => Some((LOST, "")),
+        "ann" => Some((OK, ANN)),
+        "approved" => Some((OK, APPROVED)),
+        "both" => Some((OK, BOTH)),
+        _ => None,
+    }
+}
+
+fn reply_named(alloc: Global, word: &str) -> Result<Input, NoRoom> {
+    match accounts(word) {
+        Some((head, body)) => reply(alloc, 0, ReplyKind::Accounts, head, body),
+        None => {
+            let (kind, head, body) = named(word);
+            reply(alloc, 0, kind, head, body)
+        }
+    }
+}
+
+// The input that a word of a test names.
+fn input(alloc: Global, word: &str) -> Result<Input, NoRoom> {
+    match word {
+        "go" => Ok(Input::GoOn),
+        "cancel" => Ok(Input::Cancel),
+        "abort" => Ok(Input::Abort),
+        "u1" | "u2" | "u3" => choice(alloc, 0, word),
+        "elsewhere" => choice(alloc, 1, "u1"),
+        "other" => reply(alloc, 1, ReplyKind::WellKnown, OK, FILE),
+        word => reply_named(alloc, word),
+    }
+}
+
+// The inputs that these words name.
+pub fn inputs(alloc: Global, words: &str) -> Result<Items<Input>, NoRoom> {
+    let mut inputs = Items::new(alloc);
+    for word in words.split(' ') {
+        inputs.push(input(alloc, word)?)?;
+    }
+    Ok(inputs)
+}

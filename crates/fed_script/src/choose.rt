@@ -1,0 +1,26 @@
+//! Lines of the kind `choose`.
+ghost use Rattle.std.specs.Prelude.{◌≡◌};
+ghost use Rattle.serde_json.specs.View.{view};
+ghost use Rattle.fed_io.specs.Fault.{Answers};
+ghost use Rattle.fed_script.specs.Choose as spec;
+
+use crate::cause::{LineCause, MemberName};
+use crate::event::Event;
+use crate::member::{number, optional_number, text};
+use fed_io::{Fault, Text};
+use serde_json::Value;
+use std::alloc::Global;
+
+/// The choice that a line names.
+pub(crate) fn choose(alloc: Global, d: &Value) -> Result<Event, Fault<LineCause>>
+    ensures { Answers result (spec.choose_of (view d.now)) }
+{
+    let call = number(d, MemberName::Call).map_err(Fault::Step)?;
+    let provider = optional_number(d, MemberName::Provider).map_err(Fault::Step)?;
+    let account = text(d, MemberName::Account).map_err(Fault::Step)?;
+    Ok(Event::Choose {
+        call,
+        provider: provider.unwrap_or(0),
+        account: Text::of(alloc, account)?,
+    })
+}

@@ -1,0 +1,49 @@
+//! The options of a get, but for its providers.
+ghost use Rattle.std.specs.Prelude.{◌≡◌};
+ghost use Rattle.serde_json.specs.View.{view};
+ghost use Rattle.fed_script.specs.Member.{as_word};
+ghost use Rattle.fed_script.specs.Options as spec;
+
+use crate::cause::{LineCause, MemberName};
+use crate::member::{member, not_built};
+use fed_origin::Context;
+use serde_json::Value;
+
+/// The options that are not read yet may not be there.
+pub(crate) fn no_options(d: &Value) -> Result<(), LineCause>
+    ensures { result ≡ spec.no_options (view d.now) }
+{
+    not_built(d, MemberName::Mediation)?;
+    not_built(d, MemberName::Mode)?;
+    not_built(d, MemberName::Activation)
+}
+
+// The context that a word stands for.
+fn context_word(word: &str) -> Option<Context>
+    ensures { result ≡ spec.context_word word.now }
+{
+    match word {
+        "signin" => Some(Context::SignIn),
+        "signup" => Some(Context::SignUp),
+        "use" => Some(Context::UseHere),
+        "continue" => Some(Context::GoOn),
+        _ => None,
+    }
+}
+
+// The context that a value names.
+fn as_context(found: &Value) -> Option<Context>
+    ensures { result ≡ as_word spec.context_word (view found.now) }
+{
+    context_word(found.as_str()?)
+}
+
+/// The context that a line names; where it names none, signing in.
+pub(crate) fn context(d: &Value) -> Result<Context, LineCause>
+    ensures { result ≡ spec.context_of (view d.now) }
+{
+    let Some(found) = member(d, MemberName::Context) else {
+        return Ok(Context::SignIn);
+    };
+    as_context(found).ok_or(LineCause::Member(MemberName::Context))
+}

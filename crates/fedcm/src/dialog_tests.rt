@@ -1,0 +1,224 @@
+//! Accounts and dialogs: whole scripts and their transcripts.
+use crate::Status;
+use crate::tests::{CONFIG, GET, HEADER, LOAD, WELL_KNOWN, gives};
+use std::test::Fail;
+
+const WELL_KNOWN_REPLY: &str =
+    "{\"do\":\"reply\",\"call\":1,\"to\":\"wellknown\",\"text\":\"HTTP/1.1 200 OK\\r\\nContent-Type: application/json\\r\\n\\r\\n{\\\"provider_urls\\\":[\\\"https://accounts.idp.example/fedcm.json\\\"]}\"}\n";
+
+const CONFIG_REPLY: &str =
+    "{\"do\":\"reply\",\"call\":1,\"to\":\"config\",\"text\":\"HTTP/1.1 200 OK\\r\\nContent-Type: application/json\\r\\n\\r\\n{\\\"accounts_endpoint\\\":\\\"/accounts\\\",\\\"id_assertion_endpoint\\\":\\\"/assert\\\",\\\"login_url\\\":\\\"/login\\\",\\\"client_metadata_endpoint\\\":\\\"/client\\\",\\\"disconnect_endpoint\\\":\\\"/bye\\\"}\"}\n";
+
+const ACCOUNTS_REQUEST: &str =
+    "{\"call\":1,\"kind\":\"accounts\",\"line\":5,\"out\":\"request\",\"provider\":0,\"text\":\"GET /accounts HTTP/1.1\\r\\nHost: accounts.idp.example\\r\\nAccept: application/json\\r\\nSec-Fetch-Dest: webidentity\\r\\n\\r\\n\"}\n";
+
+const METADATA_REQUEST: &str =
+    "{\"call\":1,\"kind\":\"metadata\",\"line\":6,\"out\":\"request\",\"provider\":0,\"text\":\"GET /client?client_id=c1 HTTP/1.1\\r\\nHost: accounts.idp.example\\r\\nAccept: application/json\\r\\nSec-Fetch-Dest: webidentity\\r\\nOrigin: https://rp.example\\r\\n\\r\\n\"}\n";
+
+const WAS_LOGGED_IN: &str =
+    "{\"do\":\"have\",\"what\":\"login\",\"origin\":\"https://accounts.idp.example\",\"status\":\"logged-in\"}\n";
+
+const LOST_ACCOUNTS: &str =
+    "{\"do\":\"reply\",\"call\":1,\"to\":\"accounts\",\"text\":\"HTTP/1.1 404 Not Found\\r\\nContent-Type: application/json\\r\\n\\r\\n{}\"}\n";
+
+const WELL_KNOWN_ON_LINE_4: &str =
+    "{\"call\":1,\"kind\":\"wellknown\",\"line\":4,\"out\":\"request\",\"provider\":0,\"text\":\"GET /.well-known/web-identity HTTP/1.1\\r\\nHost: idp.example\\r\\nAccept: application/json\\r\\nSec-Fetch-Dest: webidentity\\r\\n\\r\\n\"}\n";
+
+const CONFIG_ON_LINE_4: &str =
+    "{\"call\":1,\"kind\":\"config\",\"line\":4,\"out\":\"request\",\"provider\":0,\"text\":\"GET /fedcm.json HTTP/1.1\\r\\nHost: accounts.idp.example\\r\\nAccept: application/json\\r\\nSec-Fetch-Dest: webidentity\\r\\n\\r\\n\"}\n";
+
+const ACCOUNTS_REQUEST_ON_LINE_6: &str =
+    "{\"call\":1,\"kind\":\"accounts\",\"line\":6,\"out\":\"request\",\"provider\":0,\"text\":\"GET /accounts HTTP/1.1\\r\\nHost: accounts.idp.example\\r\\nAccept: application/json\\r\\nSec-Fetch-Dest: webidentity\\r\\n\\r\\n\"}\n";
+
+const MISMATCH: &str =
+    "{\"call\":1,\"detail\":\"status\",\"dialog\":\"mismatch\",\"line\":7,\"out\":\"dialog\",\"provider\":0,\"site\":\"rp.example\",\"step\":\"accounts-reply\"}\n";
+
+#[test]
+fn an_accounts_reply_is_framed(rt: HostRuntime) -> Result<(), Fail> {
+    let alloc = rt.alloc();
+    let script = [
+        HEADER,
+        LOAD,
+        GET,
+        WELL_KNOWN_REPLY,
+        CONFIG_REPLY,
+        "{\"do\":\"reply\",\"call\":1,\"to\":\"accounts\",\"text\":\"HTTP/1.1 200 OK\\r\\nContent-Type: application/json\\r\\nTransfer-Encoding: chunked\\r\\n\\r\\nf\\r\\n{\\\"accounts\\\":[]}\\r\\n0\\r\\n\\r\\n\"}\n",
+    ];
+    let transcript = [
+        WELL_KNOWN,
+        CONFIG,
+        ACCOUNTS_REQUEST,
+        "{\"call\":1,\"line\":6,\"out\":\"result\",\"page\":1,\"see\":\"NetworkError\",\"step\":\"accounts-empty\"}\n",
+        "{\"events\":5,\"out\":\"end\"}\n",
+    ];
+    assert!(rt; gives(alloc, &["run"], &script, Status::Done, &transcript)?);
+    let script = [
+        HEADER,
+        LOAD,
+        GET,
+        WELL_KNOWN_REPLY,
+        CONFIG_REPLY,
+        "{\"do\":\"reply\",\"call\":1,\"to\":\"accounts\",\"text\":\"HTTP/1.1 200 OK\\r\\nContent-Type: application/json\\r\\nTransfer-Encoding: chunked\\r\\n\\r\\n10\\r\\n{\\\"accounts\\\":[]}\\r\\n0\\r\\n\\r\\n\"}\n",
+    ];
+    let transcript = [
+        WELL_KNOWN,
+        CONFIG,
+        ACCOUNTS_REQUEST,
+        "{\"call\":1,\"detail\":\"chunk\",\"line\":6,\"out\":\"result\",\"page\":1,\"see\":\"NetworkError\",\"step\":\"accounts-reply\"}\n",
+        "{\"events\":5,\"out\":\"end\"}\n",
+    ];
+    assert!(rt; gives(alloc, &["run"], &script, Status::Done, &transcript)?);
+    let script = [
+        HEADER,
+        LOAD,
+        GET,
+        WELL_KNOWN_REPLY,
+        CONFIG_REPLY,
+        "{\"do\":\"reply\",\"call\":1,\"to\":\"accounts\",\"text\":\"HTTP/1.1 200 OK\\r\\nContent-Type: application/json\\r\\nTransfer-Encoding: chunked\\r\\n\\r\\n10\\r\\n{\\\"accounts\\\":[]}\"}\n",
+    ];
+    let transcript = [
+        WELL_KNOWN,
+        CONFIG,
+        ACCOUNTS_REQUEST,
+        "{\"call\":1,\"detail\":\"short\",\"line\":6,\"out\":\"result\",\"page\":1,\"see\":\"NetworkError\",\"step\":\"accounts-reply\"}\n",
+        "{\"events\":5,\"out\":\"end\"}\n",
+    ];
+    assert!(rt; gives(alloc, &["run"], &script, Status::Done, &transcript)?);
+    let script = [
+        HEADER,
+        LOAD,
+        GET,
+        WELL_KNOWN_REPLY,
+        CONFIG_REPLY,
+        "{\"do\":\"reply\",\"call\":1,\"to\":\"accounts\",\"text\":\"HTTP/1.1 200 OK\\r\\nContent-Type: application/json\\r\\nContent-Encoding: gzip\\r\\n\\r\\n{\\\"accounts\\\":[]}\"}\n",
+    ];
+    let transcript = [
+        WELL_KNOWN,
+        CONFIG,
+        ACCOUNTS_REQUEST,
+        "{\"call\":1,\"detail\":\"coding\",\"line\":6,\"out\":\"result\",\"page\":1,\"see\":\"NetworkError\",\"step\":\"accounts-reply\"}\n",
+        "{\"events\":5,\"out\":\"end\"}\n",
+    ];
+    assert!(rt; gives(alloc, &["run"], &script, Status::Done, &transcript)?);
+    let script = [
+        HEADER,
+        LOAD,
+        GET,
+        WELL_KNOWN_REPLY,
+        CONFIG_REPLY,
+        "{\"do\":\"reply\",\"call\":1,\"to\":\"accounts\",\"text\":\"HTTP/1.1 301 Moved\\r\\nContent-Type: application/json\\r\\nTransfer-Encoding: chunked\\r\\n\\r\\nf\\r\\n{\\\"accounts\\\":[]}\\r\\n0\\r\\n\\r\\n\"}\n",
+    ];
+    let transcript = [
+        WELL_KNOWN,
+        CONFIG,
+        ACCOUNTS_REQUEST,
+        "{\"call\":1,\"detail\":\"status\",\"line\":6,\"out\":\"result\",\"page\":1,\"see\":\"NetworkError\",\"step\":\"accounts-reply\"}\n",
+        "{\"events\":5,\"out\":\"end\"}\n",
+    ];
+    assert!(rt; gives(alloc, &["run"], &script, Status::Done, &transcript)?);
+    Ok(())
+}
+
+#[test]
+fn hints_keep_accounts(rt: HostRuntime) -> Result<(), Fail> {
+    let alloc = rt.alloc();
+    let script = [
+        HEADER,
+        LOAD,
+        "{\"do\":\"get\",\"page\":1,\"call\":1,\"providers\":[{\"config\":\"https://accounts.idp.example/fedcm.json\",\"client\":\"c1\",\"nonce\":\"n1\",\"login_hint\":\"ann\"}]}\n",
+        WELL_KNOWN_REPLY,
+        CONFIG_REPLY,
+        "{\"do\":\"reply\",\"call\":1,\"to\":\"accounts\",\"text\":\"HTTP/1.1 200 OK\\r\\nContent-Type: application/json\\r\\n\\r\\n{\\\"accounts\\\":[{\\\"id\\\":\\\"u1\\\",\\\"name\\\":\\\"Ann\\\",\\\"email\\\":\\\"ann@idp.example\\\",\\\"login_hints\\\":[\\\"ann\\\"]},{\\\"id\\\":\\\"u2\\\",\\\"name\\\":\\\"Bob\\\",\\\"email\\\":\\\"bob@idp.example\\\"}]}\"}\n",
+    ];
+    let transcript = [
+        WELL_KNOWN,
+        CONFIG,
+        ACCOUNTS_REQUEST,
+        METADATA_REQUEST,
+        "{\"events\":5,\"out\":\"end\"}\n",
+    ];
+    assert!(rt; gives(alloc, &["run"], &script, Status::Done, &transcript)?);
+    let script = [
+        HEADER,
+        LOAD,
+        "{\"do\":\"get\",\"page\":1,\"call\":1,\"providers\":[{\"config\":\"https://accounts.idp.example/fedcm.json\",\"client\":\"c1\",\"nonce\":\"n1\",\"domain_hint\":\"any\"}]}\n",
+        WELL_KNOWN_REPLY,
+        CONFIG_REPLY,
+        "{\"do\":\"reply\",\"call\":1,\"to\":\"accounts\",\"text\":\"HTTP/1.1 200 OK\\r\\nContent-Type: application/json\\r\\n\\r\\n{\\\"accounts\\\":[{\\\"id\\\":\\\"u1\\\",\\\"name\\\":\\\"Ann\\\",\\\"email\\\":\\\"ann@idp.example\\\"},{\\\"id\\\":\\\"u2\\\",\\\"name\\\":\\\"Bob\\\",\\\"email\\\":\\\"bob@idp.example\\\"}]}\"}\n",
+    ];
+    let transcript = [
+        WELL_KNOWN,
+        CONFIG,
+        ACCOUNTS_REQUEST,
+        "{\"call\":1,\"line\":6,\"out\":\"result\",\"page\":1,\"see\":\"NetworkError\",\"step\":\"accounts-hints\"}\n",
+        "{\"events\":5,\"out\":\"end\"}\n",
+    ];
+    assert!(rt; gives(alloc, &["run"], &script, Status::Done, &transcript)?);
+    Ok(())
+}
+
+#[test]
+fn a_mismatch_is_shown_and_closed(rt: HostRuntime) -> Result<(), Fail> {
+    let alloc = rt.alloc();
+    let script = [
+        HEADER,
+        WAS_LOGGED_IN,
+        LOAD,
+        GET,
+        WELL_KNOWN_REPLY,
+        CONFIG_REPLY,
+        LOST_ACCOUNTS,
+    ];
+    let transcript = [
+        WELL_KNOWN_ON_LINE_4,
+        CONFIG_ON_LINE_4,
+        ACCOUNTS_REQUEST_ON_LINE_6,
+        MISMATCH,
+        "{\"events\":6,\"out\":\"end\"}\n",
+    ];
+    assert!(rt; gives(alloc, &["run"], &script, Status::Done, &transcript)?);
+    let script = [
+        HEADER,
+        WAS_LOGGED_IN,
+        LOAD,
+        GET,
+        WELL_KNOWN_REPLY,
+        CONFIG_REPLY,
+        LOST_ACCOUNTS,
+        "{\"do\":\"cancel\",\"call\":1}\n",
+    ];
+    let transcript = [
+        WELL_KNOWN_ON_LINE_4,
+        CONFIG_ON_LINE_4,
+        ACCOUNTS_REQUEST_ON_LINE_6,
+        MISMATCH,
+        "{\"call\":1,\"line\":8,\"out\":\"result\",\"page\":1,\"see\":\"NetworkError\",\"step\":\"user-cancelled\"}\n",
+        "{\"events\":7,\"out\":\"end\"}\n",
+    ];
+    assert!(rt; gives(alloc, &["run"], &script, Status::Done, &transcript)?);
+    Ok(())
+}
+
+#[test]
+fn a_prompt_waits_for_metadata(rt: HostRuntime) -> Result<(), Fail> {
+    let alloc = rt.alloc();
+    let script = [
+        HEADER,
+        LOAD,
+        GET,
+        WELL_KNOWN_REPLY,
+        CONFIG_REPLY,
+        "{\"do\":\"reply\",\"call\":1,\"to\":\"accounts\",\"text\":\"HTTP/1.1 200 OK\\r\\nContent-Type: application/json\\r\\n\\r\\n{\\\"accounts\\\":[{\\\"id\\\":\\\"u1\\\",\\\"name\\\":\\\"Ann\\\",\\\"email\\\":\\\"ann@idp.example\\\"}]}\"}\n",
+        "{\"do\":\"reply\",\"call\":1,\"to\":\"metadata\",\"text\":\"HTTP/1.1 200 OK\\r\\nContent-Type: application/json\\r\\n\\r\\n{\\\"privacy_policy_url\\\":\\\"https://rp.example/privacy\\\"}\"}\n",
+    ];
+    let transcript = [
+        WELL_KNOWN,
+        CONFIG,
+        ACCOUNTS_REQUEST,
+        METADATA_REQUEST,
+        "{\"account\":{\"connected\":false,\"email\":\"ann@idp.example\",\"id\":\"u1\",\"name\":\"Ann\",\"provider\":0},\"call\":1,\"context\":\"signin\",\"dialog\":\"prompt\",\"disclosure\":true,\"line\":7,\"out\":\"dialog\",\"privacy\":\"https://rp.example/privacy\",\"site\":\"rp.example\"}\n",
+        "{\"events\":6,\"out\":\"end\"}\n",
+    ];
+    assert!(rt; gives(alloc, &["run"], &script, Status::Done, &transcript)?);
+    Ok(())
+}

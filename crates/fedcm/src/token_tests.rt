@@ -1,0 +1,173 @@
+//! Consent, assertion and token: whole scripts and their transcripts.
+use crate::Status;
+use crate::tests::{CONFIG, GET, HEADER, LOAD, WELL_KNOWN, gives};
+use std::test::Fail;
+
+const WELL_KNOWN_REPLY: &str =
+    "{\"do\":\"reply\",\"call\":1,\"to\":\"wellknown\",\"text\":\"HTTP/1.1 200 OK\\r\\nContent-Type: application/json\\r\\n\\r\\n{\\\"provider_urls\\\":[\\\"https://accounts.idp.example/fedcm.json\\\"]}\"}\n";
+
+const CONFIG_REPLY: &str =
+    "{\"do\":\"reply\",\"call\":1,\"to\":\"config\",\"text\":\"HTTP/1.1 200 OK\\r\\nContent-Type: application/json\\r\\n\\r\\n{\\\"accounts_endpoint\\\":\\\"/accounts\\\",\\\"id_assertion_endpoint\\\":\\\"/assert\\\",\\\"login_url\\\":\\\"/login\\\",\\\"client_metadata_endpoint\\\":\\\"/client\\\",\\\"disconnect_endpoint\\\":\\\"/bye\\\"}\"}\n";
+
+const TWO_ACCOUNTS: &str =
+    "{\"do\":\"reply\",\"call\":1,\"to\":\"accounts\",\"text\":\"HTTP/1.1 200 OK\\r\\nContent-Type: application/json\\r\\n\\r\\n{\\\"accounts\\\":[{\\\"id\\\":\\\"u1\\\",\\\"name\\\":\\\"Ann\\\",\\\"email\\\":\\\"ann@idp.example\\\"},{\\\"id\\\":\\\"u2\\\",\\\"name\\\":\\\"Bob\\\",\\\"email\\\":\\\"bob@idp.example\\\"}]}\"}\n";
+
+const LINKS: &str =
+    "{\"do\":\"reply\",\"call\":1,\"to\":\"metadata\",\"text\":\"HTTP/1.1 200 OK\\r\\nContent-Type: application/json\\r\\n\\r\\n{\\\"privacy_policy_url\\\":\\\"https://rp.example/privacy\\\"}\"}\n";
+
+const TOKEN_REPLY: &str =
+    "{\"do\":\"reply\",\"call\":1,\"to\":\"assertion\",\"text\":\"HTTP/1.1 200 OK\\r\\nContent-Type: application/json\\r\\nAccess-Control-Allow-Origin: https://rp.example\\r\\nAccess-Control-Allow-Credentials: true\\r\\n\\r\\n{\\\"token\\\":\\\"T1\\\"}\"}\n";
+
+const ACCOUNTS_REQUEST: &str =
+    "{\"call\":1,\"kind\":\"accounts\",\"line\":5,\"out\":\"request\",\"provider\":0,\"text\":\"GET /accounts HTTP/1.1\\r\\nHost: accounts.idp.example\\r\\nAccept: application/json\\r\\nSec-Fetch-Dest: webidentity\\r\\n\\r\\n\"}\n";
+
+const CHOOSER: &str =
+    "{\"accounts\":[{\"connected\":false,\"email\":\"ann@idp.example\",\"id\":\"u1\",\"name\":\"Ann\",\"provider\":0},{\"connected\":false,\"email\":\"bob@idp.example\",\"id\":\"u2\",\"name\":\"Bob\",\"provider\":0}],\"call\":1,\"context\":\"signin\",\"dialog\":\"choose\",\"line\":6,\"out\":\"dialog\",\"site\":\"rp.example\"}\n";
+
+const METADATA_REQUEST: &str =
+    "{\"call\":1,\"kind\":\"metadata\",\"line\":7,\"out\":\"request\",\"provider\":0,\"text\":\"GET /client?client_id=c1 HTTP/1.1\\r\\nHost: accounts.idp.example\\r\\nAccept: application/json\\r\\nSec-Fetch-Dest: webidentity\\r\\nOrigin: https://rp.example\\r\\n\\r\\n\"}\n";
+
+const PROMPT: &str =
+    "{\"account\":{\"connected\":false,\"email\":\"bob@idp.example\",\"id\":\"u2\",\"name\":\"Bob\",\"provider\":0},\"call\":1,\"context\":\"signin\",\"dialog\":\"prompt\",\"disclosure\":true,\"line\":8,\"out\":\"dialog\",\"privacy\":\"https://rp.example/privacy\",\"site\":\"rp.example\"}\n";
+
+const ASSERTION_REQUEST: &str =
+    "{\"call\":1,\"kind\":\"assertion\",\"line\":9,\"out\":\"request\",\"provider\":0,\"text\":\"POST /assert HTTP/1.1\\r\\nHost: accounts.idp.example\\r\\nAccept: application/json\\r\\nSec-Fetch-Dest: webidentity\\r\\nOrigin: https://rp.example\\r\\nContent-Type: application/x-www-form-urlencoded\\r\\nContent-Length: 85\\r\\n\\r\\nclient_id=c1&nonce=n1&account_id=u2&disclosure_text_shown=true&is_auto_selected=false\"}\n";
+
+#[test]
+fn a_sign_up_as_users_make_it(rt: HostRuntime) -> Result<(), Fail> {
+    let alloc = rt.alloc();
+    let script = [
+        HEADER,
+        LOAD,
+        GET,
+        WELL_KNOWN_REPLY,
+        CONFIG_REPLY,
+        TWO_ACCOUNTS,
+        "{\"do\":\"choose\",\"call\":1,\"account\":\"u2\"}\n",
+        LINKS,
+        "{\"do\":\"continue\",\"call\":1}\n",
+        TOKEN_REPLY,
+    ];
+    let transcript = [
+        WELL_KNOWN,
+        CONFIG,
+        ACCOUNTS_REQUEST,
+        CHOOSER,
+        METADATA_REQUEST,
+        PROMPT,
+        ASSERTION_REQUEST,
+        "{\"auto\":false,\"call\":1,\"line\":10,\"out\":\"result\",\"page\":1,\"provider\":0,\"see\":\"token\",\"token\":\"T1\"}\n",
+        "{\"events\":9,\"out\":\"end\"}\n",
+    ];
+    assert!(rt; gives(alloc, &["run"], &script, Status::Done, &transcript)?);
+    Ok(())
+}
+
+#[test]
+fn a_continue_comes_too_early_and_twice(rt: HostRuntime) -> Result<(), Fail> {
+    let alloc = rt.alloc();
+    let script = [
+        HEADER,
+        LOAD,
+        GET,
+        WELL_KNOWN_REPLY,
+        CONFIG_REPLY,
+        "{\"do\":\"reply\",\"call\":1,\"to\":\"accounts\",\"text\":\"HTTP/1.1 200 OK\\r\\nContent-Type: application/json\\r\\n\\r\\n{\\\"accounts\\\":[{\\\"id\\\":\\\"u1\\\",\\\"name\\\":\\\"Ann\\\",\\\"email\\\":\\\"ann@idp.example\\\"}]}\"}\n",
+        "{\"do\":\"continue\",\"call\":1}\n",
+        LINKS,
+        "{\"do\":\"continue\",\"call\":1}\n",
+        "{\"do\":\"continue\",\"call\":1}\n",
+    ];
+    let transcript = [
+        WELL_KNOWN,
+        CONFIG,
+        ACCOUNTS_REQUEST,
+        "{\"call\":1,\"kind\":\"metadata\",\"line\":6,\"out\":\"request\",\"provider\":0,\"text\":\"GET /client?client_id=c1 HTTP/1.1\\r\\nHost: accounts.idp.example\\r\\nAccept: application/json\\r\\nSec-Fetch-Dest: webidentity\\r\\nOrigin: https://rp.example\\r\\n\\r\\n\"}\n",
+        "{\"line\":7,\"out\":\"ignored\",\"why\":\"not-offered\"}\n",
+        "{\"account\":{\"connected\":false,\"email\":\"ann@idp.example\",\"id\":\"u1\",\"name\":\"Ann\",\"provider\":0},\"call\":1,\"context\":\"signin\",\"dialog\":\"prompt\",\"disclosure\":true,\"line\":8,\"out\":\"dialog\",\"privacy\":\"https://rp.example/privacy\",\"site\":\"rp.example\"}\n",
+        "{\"call\":1,\"kind\":\"assertion\",\"line\":9,\"out\":\"request\",\"provider\":0,\"text\":\"POST /assert HTTP/1.1\\r\\nHost: accounts.idp.example\\r\\nAccept: application/json\\r\\nSec-Fetch-Dest: webidentity\\r\\nOrigin: https://rp.example\\r\\nContent-Type: application/x-www-form-urlencoded\\r\\nContent-Length: 85\\r\\n\\r\\nclient_id=c1&nonce=n1&account_id=u1&disclosure_text_shown=true&is_auto_selected=false\"}\n",
+        "{\"line\":10,\"out\":\"ignored\",\"why\":\"not-offered\"}\n",
+        "{\"events\":9,\"out\":\"end\"}\n",
+    ];
+    assert!(rt; gives(alloc, &["run"], &script, Status::Done, &transcript)?);
+    Ok(())
+}
+
+#[test]
+fn no_token_is_given(rt: HostRuntime) -> Result<(), Fail> {
+    let alloc = rt.alloc();
+    let script = [
+        HEADER,
+        LOAD,
+        GET,
+        WELL_KNOWN_REPLY,
+        CONFIG_REPLY,
+        TWO_ACCOUNTS,
+        "{\"do\":\"choose\",\"call\":1,\"account\":\"u2\"}\n",
+        LINKS,
+        "{\"do\":\"continue\",\"call\":1}\n",
+        "{\"do\":\"reply\",\"call\":1,\"to\":\"assertion\",\"text\":\"HTTP/1.1 200 OK\\r\\nContent-Type: application/json\\r\\nAccess-Control-Allow-Origin: *\\r\\nAccess-Control-Allow-Credentials: true\\r\\n\\r\\n{\\\"token\\\":\\\"T1\\\"}\"}\n",
+    ];
+    let transcript = [
+        WELL_KNOWN,
+        CONFIG,
+        ACCOUNTS_REQUEST,
+        CHOOSER,
+        METADATA_REQUEST,
+        PROMPT,
+        ASSERTION_REQUEST,
+        "{\"call\":1,\"line\":10,\"out\":\"result\",\"page\":1,\"see\":\"NetworkError\",\"step\":\"assertion-cors\"}\n",
+        "{\"events\":9,\"out\":\"end\"}\n",
+    ];
+    assert!(rt; gives(alloc, &["run"], &script, Status::Done, &transcript)?);
+    let script = [
+        HEADER,
+        LOAD,
+        GET,
+        WELL_KNOWN_REPLY,
+        CONFIG_REPLY,
+        TWO_ACCOUNTS,
+        "{\"do\":\"choose\",\"call\":1,\"account\":\"u2\"}\n",
+        LINKS,
+        "{\"do\":\"continue\",\"call\":1}\n",
+        "{\"do\":\"reply\",\"call\":1,\"to\":\"assertion\",\"text\":\"HTTP/1.1 200 OK\\r\\nContent-Type: application/json\\r\\nAccess-Control-Allow-Origin: https://rp.example\\r\\nAccess-Control-Allow-Credentials: true\\r\\n\\r\\n{\\\"error\\\":{\\\"code\\\":\\\"access_denied\\\",\\\"url\\\":\\\"https://idp.example/why\\\"}}\"}\n",
+    ];
+    let transcript = [
+        WELL_KNOWN,
+        CONFIG,
+        ACCOUNTS_REQUEST,
+        CHOOSER,
+        METADATA_REQUEST,
+        PROMPT,
+        ASSERTION_REQUEST,
+        "{\"call\":1,\"code\":\"access_denied\",\"line\":10,\"out\":\"result\",\"page\":1,\"see\":\"IdentityCredentialError\",\"step\":\"provider-error\",\"url\":\"https://idp.example/why\"}\n",
+        "{\"events\":9,\"out\":\"end\"}\n",
+    ];
+    assert!(rt; gives(alloc, &["run"], &script, Status::Done, &transcript)?);
+    let script = [
+        HEADER,
+        LOAD,
+        GET,
+        WELL_KNOWN_REPLY,
+        CONFIG_REPLY,
+        TWO_ACCOUNTS,
+        "{\"do\":\"choose\",\"call\":1,\"account\":\"u2\"}\n",
+        LINKS,
+        "{\"do\":\"continue\",\"call\":1}\n",
+        LOAD,
+        TOKEN_REPLY,
+    ];
+    let transcript = [
+        WELL_KNOWN,
+        CONFIG,
+        ACCOUNTS_REQUEST,
+        CHOOSER,
+        METADATA_REQUEST,
+        PROMPT,
+        ASSERTION_REQUEST,
+        "{\"line\":11,\"out\":\"ignored\",\"why\":\"call-ended\"}\n",
+        "{\"events\":10,\"out\":\"end\"}\n",
+    ];
+    assert!(rt; gives(alloc, &["run"], &script, Status::Done, &transcript)?);
+    Ok(())
+}
