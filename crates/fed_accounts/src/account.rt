@@ -5,7 +5,6 @@ use fed_io::{Items, NoRoom, Text};
 use std::alloc::Global;
 
 /// An account of the user at a provider (FedCM, IdentityProviderAccount).
-#[derive(Drop)]
 pub struct Account {
     /// What tells the account from the others of the provider.
     pub id: Text,
@@ -24,6 +23,22 @@ pub struct Account {
     pub login_hints: Items<Text>,
     /// The domain hints that ask for the account, in the provider's order.
     pub domain_hints: Items<Text>,
+}
+
+// Written out, so that one function lets an account go wherever it ends.
+impl Drop for Account {
+    fn drop(self) {
+        let Account {
+            id: _,
+            name: _,
+            email: _,
+            given_name: _,
+            picture: _,
+            approved: _,
+            login_hints: _,
+            domain_hints: _,
+        } = self;
+    }
 }
 
 impl Account {

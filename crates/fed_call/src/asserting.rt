@@ -25,7 +25,6 @@ use fed_token::read_assertion;
 use std::alloc::Global;
 
 /// A call whose token is awaited.
-#[derive(Drop)]
 pub struct Asserting {
     pub(crate) begun: Call,
     pub(crate) config: Config,
@@ -34,6 +33,18 @@ pub struct Asserting {
     pub(crate) connected: bool,
     /// Whether it was settled on without the user.
     pub(crate) auto: bool,
+}
+
+impl Drop for Asserting {
+    fn drop(self) {
+        let Asserting {
+            begun: _,
+            config: _,
+            account: _,
+            connected: _,
+            auto: _,
+        } = self;
+    }
 }
 
 impl Asserting {

@@ -10,7 +10,6 @@ use fed_origin::{Context, GetOptions, Mediation, Mode, Origin, ProviderOptions, 
 use std::marker::Model;
 
 /// What a call began with. Its only provider has a configuration URL that is https.
-#[derive(Drop)]
 pub struct Call {
     pub call: u32,
     pub page: u32,
@@ -34,6 +33,21 @@ impl Model for Call {
     ghost view = { λ c. record { call = c.call; page = c.page; origin = c.origin; mediation = c.mediation; mode = c.mode; activation = c.activation; context = c.context; provider = c.provider } };
 
     ghost invariant = { λ c. scheme_of c.provider.config ≡ Https };
+}
+
+impl Drop for Call {
+    fn drop(self) {
+        let Call {
+            call: _,
+            page: _,
+            origin: _,
+            mediation: _,
+            mode: _,
+            activation: _,
+            context: _,
+            provider: _,
+        } = self;
+    }
 }
 
 // The only provider of a list.

@@ -24,11 +24,20 @@ use fed_status::Shared;
 use std::alloc::Global;
 
 /// A call whose user is to choose an account.
-#[derive(Drop)]
 pub struct Choosing {
     pub(crate) begun: Call,
     pub(crate) config: Config,
     pub(crate) chooser: Chooser,
+}
+
+impl Drop for Choosing {
+    fn drop(self) {
+        let Choosing {
+            begun: _,
+            config: _,
+            chooser: _,
+        } = self;
+    }
 }
 
 impl Choosing {

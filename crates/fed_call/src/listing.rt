@@ -26,10 +26,18 @@ use fed_status::Shared;
 use std::alloc::Global;
 
 /// A call whose accounts are awaited.
-#[derive(Drop)]
 pub struct Listing {
     pub(crate) begun: Call,
     pub(crate) config: Config,
+}
+
+impl Drop for Listing {
+    fn drop(self) {
+        let Listing {
+            begun: _,
+            config: _,
+        } = self;
+    }
 }
 
 impl Listing {
@@ -136,7 +144,7 @@ impl Listing {
         if is_mismatch(alloc, &self.begun, shared)? {
             return self.shows_mismatch(alloc, shared, failure);
         }
-        let effects = logged_out(alloc, &self.begun, Effect::Finish(Finish::Failed(failure)))?;
+        let effects = failed(alloc, &self.begun, failure)?;
         Ok((CallState::Ended(Ended), effects))
     }
 
@@ -236,28 +244,25 @@ fn is_mismatch(alloc: Global, begun: &Call, shared: &Shared<'_>) -> Result<bool,
     )
 }
 
-// The user is logged out at the provider, and then this.
-fn logged_out(alloc: Global, begun: &Call, then: Effect) -> Result<Items<Effect>, NoRoom>
-    ensures { IfOk result (λ effects. effects ≡ Effect.SetLogin (origin_of begun.now.provider.config) LoginStatus.LoggedOut ∷ then ∷ []) }
+// The status of the provider is set, and then this.
+fn with_status(
+    alloc: Global,
+    provider: Origin,
+    status: LoginStatus,
+    then: Effect,
+) -> Result<Items<Effect>, NoRoom>
+    ensures { IfOk result (λ effects. effects ≡ Effect.SetLogin provider status ∷ then ∷ []) }
 {
-    let provider = Origin::of_url(alloc, &begun.provider.config)?;
-    two(
-        alloc,
-        Effect::SetLogin(provider, LoginStatus::LoggedOut),
-        then,
-    )
+    two(alloc, Effect::SetLogin(provider, status), then)
 }
 
-// The user is logged in at the provider, and then this.
-fn logged_in(alloc: Global, begun: &Call, then: Effect) -> Result<Items<Effect>, NoRoom>
-    ensures { IfOk result (λ effects. effects ≡ Effect.SetLogin (origin_of begun.now.provider.config) LoginStatus.LoggedIn ∷ then ∷ []) }
+// The user is logged out at the provider, and the page gets the failure.
+fn failed(alloc: Global, begun: &Call, failure: Failure) -> Result<Items<Effect>, NoRoom>
+    ensures { IfOk result (λ effects. effects ≡ Effect.SetLogin (origin_of begun.now.provider.config) LoginStatus.LoggedOut ∷ Effect.Finish (Finish.Failed failure) ∷ []) }
 {
     let provider = Origin::of_url(alloc, &begun.provider.config)?;
-    two(
-        alloc,
-        Effect::SetLogin(provider, LoginStatus::LoggedIn),
-        then,
-    )
+    let finish = Effect::Finish(Finish::Failed(failure));
+    with_status(alloc, provider, LoginStatus::LoggedOut, finish)
 }
 
 // The user is logged out, and is shown that the provider gave no account.
@@ -269,12 +274,14 @@ fn mismatch_shown(
 ) -> Result<Items<Effect>, NoRoom>
     ensures { IfOk result (λ effects. effects ≡ Effect.SetLogin (origin_of begun.now.provider.config) LoginStatus.LoggedOut ∷ Effect.Dialog (Dialog.Mismatch 0 (spec.site_of (world_of shared.now) begun.now.origin) failure) ∷ []) }
 {
+    let provider = Origin::of_url(alloc, &begun.provider.config)?;
     let dialog = Dialog::Mismatch {
         provider: 0,
         site: site(alloc, shared.rules, &begun.origin.host)?,
         failure,
     };
-    logged_out(alloc, begun, Effect::Dialog(dialog))
+    let then = Effect::Dialog(dialog);
+    with_status(alloc, provider, LoginStatus::LoggedOut, then)
 }
 
 // The user is logged in, and what comes first of the prompt.
@@ -287,8 +294,9 @@ fn prompt_shown(
     ensures { IfOk result (λ effects. effects ≡ Effect.SetLogin (origin_of listing.now.begun.provider.config) LoginStatus.LoggedIn ∷ spec.prompt_effect (world_of shared.now) (listing_facts listing.now) listing.now.begun.provider prompt.now.pick.candidate prompt.now.pick.candidate.connected listing.now.config.metadata ∷ []) }
 {
     let begun = &listing.begun;
+    let provider = Origin::of_url(alloc, &begun.provider.config)?;
     let effect = prompt_effect(alloc, shared, begun, prompt, &listing.config.metadata)?;
-    logged_in(alloc, begun, effect)
+    with_status(alloc, provider, LoginStatus::LoggedIn, effect)
 }
 
 // The user is logged in, and is to choose.
@@ -300,6 +308,7 @@ fn choice_shown(
 ) -> Result<Items<Effect>, NoRoom>
     ensures { IfOk result (λ effects. effects ≡ Effect.SetLogin (origin_of begun.now.provider.config) LoginStatus.LoggedIn ∷ spec.choice_dialog (world_of shared.now) (begun_facts begun.now) chooser.now.listed ∷ []) }
 {
+    let provider = Origin::of_url(alloc, &begun.provider.config)?;
     let dialog = choice_dialog(alloc, shared, begun, chooser)?;
-    logged_in(alloc, begun, dialog)
+    with_status(alloc, provider, LoginStatus::LoggedIn, dialog)
 }

@@ -16,10 +16,18 @@ use fed_status::Shared;
 use std::alloc::Global;
 
 /// A call whose user is shown that the provider gave no account, though it had said that he is logged in.
-#[derive(Drop)]
 pub struct Mismatch {
     pub(crate) begun: Call,
     pub(crate) config: Config,
+}
+
+impl Drop for Mismatch {
+    fn drop(self) {
+        let Mismatch {
+            begun: _,
+            config: _,
+        } = self;
+    }
 }
 
 impl Mismatch {

@@ -24,11 +24,20 @@ use fed_status::Shared;
 use std::alloc::Global;
 
 /// A call whose user is to go on with an account. The prompt waits for the metadata of the client, or is shown.
-#[derive(Drop)]
 pub struct Prompting {
     pub(crate) begun: Call,
     pub(crate) config: Config,
     pub(crate) prompt: Prompt,
+}
+
+impl Drop for Prompting {
+    fn drop(self) {
+        let Prompting {
+            begun: _,
+            config: _,
+            prompt: _,
+        } = self;
+    }
 }
 
 impl Prompting {

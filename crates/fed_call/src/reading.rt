@@ -21,13 +21,22 @@ use fed_status::Shared;
 use std::alloc::Global;
 
 /// A call whose well-known file and configuration are awaited.
-#[derive(Drop)]
 pub struct Reading {
     pub(crate) begun: Call,
     /// Whether a well-known reply was taken.
     pub(crate) heard: bool,
     /// The configuration in the config reply that was taken.
     pub(crate) config: Option<Config>,
+}
+
+impl Drop for Reading {
+    fn drop(self) {
+        let Reading {
+            begun: _,
+            heard: _,
+            config: _,
+        } = self;
+    }
 }
 
 impl Reading {
@@ -141,7 +150,11 @@ impl Reading {
         if let Err(step) = read {
             return fails(alloc, provider_failure(step));
         }
-        let Reading { begun, config, .. } = self;
+        let Reading {
+            begun,
+            heard: _,
+            config,
+        } = self;
         match config {
             Some(config) => asks_accounts(alloc, begun, config),
             None => {
@@ -169,10 +182,20 @@ impl Reading {
             Err(step) => return fails(alloc, provider_failure(step)),
         };
         if self.heard {
-            return asks_accounts(alloc, self.begun, config);
+            let Reading {
+                begun,
+                heard: _,
+                config: _,
+            } = self;
+            return asks_accounts(alloc, begun, config);
         }
+        let Reading {
+            begun,
+            heard: _,
+            config: _,
+        } = self;
         let state = Reading {
-            begun: self.begun,
+            begun,
             heard: false,
             config: Some(config),
         };

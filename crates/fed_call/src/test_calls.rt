@@ -2,8 +2,8 @@
 ghost use Rattle.std.specs.Prelude.{◌≡◌, true, IfOk, length};
 ghost use Rattle.fed_origin.specs.Status.{is_known};
 
+use crate::CallState;
 use crate::test_replies::inputs;
-use crate::{Asserting, CallState, Choosing, Ended, Listing, Mismatch, Prompting, Reading};
 use fed_consent::{Ask, AssertionAsk, Dialog, Effect, Finish, Input};
 use fed_io::{Items, NoRoom, Text};
 use fed_origin::{
@@ -21,12 +21,22 @@ pub const PAGE: &str = "https://rp.example/";
 pub const CONFIG: &str = "https://accounts.idp.example/fedcm.json";
 
 // What the calls of a test look at.
-#[derive(Drop)]
 pub struct Browser {
     rules: Suffixes,
     login: LoginMap,
     kept: KeptSet,
     flags: SilentFlags,
+}
+
+impl Drop for Browser {
+    fn drop(self) {
+        let Browser {
+            rules: _,
+            login: _,
+            kept: _,
+            flags: _,
+        } = self;
+    }
 }
 
 impl Browser {
@@ -264,47 +274,14 @@ fn after(alloc: Global, call: Seen, inputs: &[Input], browser: &Browser) -> Resu
     Ok(call)
 }
 
-// A call is let go by its stage: the drop of a `CallState` as one is slow to prove.
-fn let_go(state: CallState) {
-    match state {
-        CallState::Reading(state) => let_reading_go(state),
-        CallState::Listing(state) => let_listing_go(state),
-        CallState::Mismatch(state) => let_mismatch_go(state),
-        CallState::Choosing(state) => let_choosing_go(state),
-        CallState::Prompting(state) => let_prompting_go(state),
-        CallState::Asserting(state) => let_asserting_go(state),
-        CallState::Ended(state) => let_ended_go(state),
-    }
-}
-
-fn let_reading_go(_state: Reading) {}
-
-fn let_listing_go(_state: Listing) {}
-
-fn let_mismatch_go(_state: Mismatch) {}
-
-fn let_choosing_go(_state: Choosing) {}
-
-fn let_prompting_go(_state: Prompting) {}
-
-fn let_asserting_go(_state: Asserting) {}
-
-fn let_ended_go(_state: Ended) {}
-
 // What a call did last, and where it is.
 fn ending(call: Seen) -> (&'static str, Stage) {
-    let Seen { state, word } = call;
-    let stage = state.stage();
-    let_go(state);
-    (word, stage)
+    (call.word, call.state.stage())
 }
 
 // What a call did last, and its page; none where it is over.
 pub fn paged(call: Seen) -> (&'static str, Option<u32>) {
-    let Seen { state, word } = call;
-    let page = state.page();
-    let_go(state);
-    (word, page)
+    (call.word, call.state.page())
 }
 
 // What a call does at the last of these inputs, and where it is then.

@@ -17,7 +17,6 @@ use std::alloc::Global;
 
 /// The configuration of a provider (FedCM, "The config file"). Each URL is same-origin with the
 /// configuration URL.
-#[derive(Drop)]
 pub struct Config {
     /// The accounts endpoint.
     pub accounts: WebUrl,
@@ -29,6 +28,19 @@ pub struct Config {
     pub metadata: Option<WebUrl>,
     /// The disconnect endpoint.
     pub disconnect: Option<WebUrl>,
+}
+
+// Written out, so that one function lets a configuration go wherever it ends.
+impl Drop for Config {
+    fn drop(self) {
+        let Config {
+            accounts: _,
+            assertion: _,
+            login: _,
+            metadata: _,
+            disconnect: _,
+        } = self;
+    }
 }
 
 impl Config {

@@ -1,10 +1,11 @@
 //! Events of a page's calls.
 
 use crate::event_tests::event;
-use crate::tests::{GET, reads};
-use crate::{Event, LineCause, MemberName, Used};
+use crate::tests::{GET, first_wrong, reads};
+use crate::{Event, Used};
 use fed_origin::{Context, Mediation, Mode, ReplyKind};
 use std::alloc::{AllocError, Global};
+use std::test::Fail;
 
 fn page_closed(alloc: Global, line: &str) -> Option<u32> {
     let event = event(alloc, line)?;
@@ -92,8 +93,17 @@ fn context_read(alloc: Global, context: &str) -> Option<Context> {
     }
 }
 
+fn bad_contexts() -> &'static str {
+    r#"member.context | {"do":"get","page":1,"call":1,"context":"SignIn","providers":1}
+member.context | {"do":"get","page":1,"call":1,"context":"","providers":1}
+member.context | {"do":"get","page":1,"call":1,"context":true,"providers":1}
+member.context | {"do":"get","page":1,"call":1,"context":["use"],"providers":1}
+member.providers | {"do":"get","page":1,"call":1,"context":"use","providers":1}
+member.activation | {"do":"get","page":1,"call":1,"activation":true,"context":"use"}"#
+}
+
 #[test]
-fn contexts(rt: HostRuntime) {
+fn contexts(rt: HostRuntime) -> Result<(), Fail> {
     let good = [
         ("null", Context::SignIn),
         (r#""signin""#, Context::SignIn),
@@ -109,43 +119,23 @@ fn contexts(rt: HostRuntime) {
         );
     }
     let mut used = Used::new(rt.alloc(), 0);
-    let bad = [
-        (
-            r#"{"do":"get","page":1,"call":1,"context":"SignIn","providers":1}"#,
-            MemberName::Context,
-        ),
-        (
-            r#"{"do":"get","page":1,"call":1,"context":"","providers":1}"#,
-            MemberName::Context,
-        ),
-        (
-            r#"{"do":"get","page":1,"call":1,"context":true,"providers":1}"#,
-            MemberName::Context,
-        ),
-        (
-            r#"{"do":"get","page":1,"call":1,"context":["use"],"providers":1}"#,
-            MemberName::Context,
-        ),
-        (
-            r#"{"do":"get","page":1,"call":1,"context":"use","providers":1}"#,
-            MemberName::Providers,
-        ),
-        (
-            r#"{"do":"get","page":1,"call":1,"activation":true,"context":"use"}"#,
-            MemberName::Activation,
-        ),
-    ];
-    for (line, name) in bad {
-        assert_eq!(rt;
-            reads(rt.alloc(), line.as_bytes(), &mut used),
-            Err(Some(LineCause::Member(name))),
-            "at {line}"
-        );
-    }
+    assert_eq!(rt; first_wrong(rt.alloc(), &mut used, bad_contexts())?, "");
+    Ok(())
+}
+
+fn bad_pages_and_calls() -> &'static str {
+    r#"member.page | {"do":"closepage"}
+member.page | {"do":"closepage","page":"7"}
+member.call | {"do":"abort"}
+member.call | {"do":"abort","call":4294967296}
+member.call | {"do":"cancel","page":1}
+member.call | {"do":"cancel","call":-1}
+member.call | {"do":"continue"}
+member.call | {"do":"continue","call":null}"#
 }
 
 #[test]
-fn pages_and_calls(rt: HostRuntime) {
+fn pages_and_calls(rt: HostRuntime) -> Result<(), Fail> {
     let mut used = Used::new(rt.alloc(), 0);
     assert_eq!(rt;
         page_closed(rt.alloc(), r#"{"do":"closepage","page":7}"#),
@@ -158,31 +148,32 @@ fn pages_and_calls(rt: HostRuntime) {
     let go_on = r#"{"do":"continue","call":2}"#;
     assert_eq!(rt; call_continued(rt.alloc(), go_on), Some(2));
     // A call that no line began may be named, and again.
-    assert_eq!(rt; reads(rt.alloc(), abort.as_bytes(), &mut used), Ok(()));
-    assert_eq!(rt; reads(rt.alloc(), abort.as_bytes(), &mut used), Ok(()));
-    assert_eq!(rt; reads(rt.alloc(), cancel.as_bytes(), &mut used), Ok(()));
-    assert_eq!(rt; reads(rt.alloc(), go_on.as_bytes(), &mut used), Ok(()));
-    let bad = [
-        (r#"{"do":"closepage"}"#, MemberName::Page),
-        (r#"{"do":"closepage","page":"7"}"#, MemberName::Page),
-        (r#"{"do":"abort"}"#, MemberName::Call),
-        (r#"{"do":"abort","call":4294967296}"#, MemberName::Call),
-        (r#"{"do":"cancel","page":1}"#, MemberName::Call),
-        (r#"{"do":"cancel","call":-1}"#, MemberName::Call),
-        (r#"{"do":"continue"}"#, MemberName::Call),
-        (r#"{"do":"continue","call":null}"#, MemberName::Call),
-    ];
-    for (line, name) in bad {
-        assert_eq!(rt;
-            reads(rt.alloc(), line.as_bytes(), &mut used),
-            Err(Some(LineCause::Member(name))),
-            "at {line}"
-        );
+    for line in [abort, abort, cancel, go_on] {
+        assert_eq!(rt; reads(rt.alloc(), line.as_bytes(), &mut used), Ok(()));
     }
+    assert_eq!(rt;
+        first_wrong(rt.alloc(), &mut used, bad_pages_and_calls())?,
+        ""
+    );
+    Ok(())
+}
+
+fn bad_replies() -> &'static str {
+    r#"member.call | {"do":"reply","provider":"x"}
+member.provider | {"do":"reply","call":1,"provider":"x"}
+member.provider | {"do":"reply","call":1,"provider":4294967296}
+member.to | {"do":"reply","call":1,"provider":null,"text":1}
+member.to | {"do":"reply","call":1,"to":5,"text":1}
+member.to | {"do":"reply","call":1,"to":"disconnect","text":1}
+member.to | {"do":"reply","call":1,"to":"Accounts","text":1}
+member.to | {"do":"reply","call":1,"to":"well-known","text":""}
+member.text | {"do":"reply","call":1,"to":"config"}
+member.text | {"do":"reply","call":1,"to":"config","text":"","raw":"="}
+member.raw | {"do":"reply","call":1,"to":"config","raw":"="}"#
 }
 
 #[test]
-fn replies(rt: HostRuntime) {
+fn replies(rt: HostRuntime) -> Result<(), Fail> {
     let first = r#"{"do":"reply","call":1,"to":"wellknown","text":"HTTP/1.1 200 OK"}"#;
     assert_eq!(rt;
         reply_read(rt.alloc(), first),
@@ -211,57 +202,26 @@ fn replies(rt: HostRuntime) {
     let mut used = Used::new(rt.alloc(), 0);
     assert_eq!(rt; reads(rt.alloc(), first.as_bytes(), &mut used), Ok(()));
     assert_eq!(rt; reads(rt.alloc(), second.as_bytes(), &mut used), Ok(()));
-    let bad = [
-        (r#"{"do":"reply","provider":"x"}"#, MemberName::Call),
-        (
-            r#"{"do":"reply","call":1,"provider":"x"}"#,
-            MemberName::Provider,
-        ),
-        (
-            r#"{"do":"reply","call":1,"provider":4294967296}"#,
-            MemberName::Provider,
-        ),
-        (
-            r#"{"do":"reply","call":1,"provider":null,"text":1}"#,
-            MemberName::To,
-        ),
-        (r#"{"do":"reply","call":1,"to":5,"text":1}"#, MemberName::To),
-        (
-            r#"{"do":"reply","call":1,"to":"disconnect","text":1}"#,
-            MemberName::To,
-        ),
-        (
-            r#"{"do":"reply","call":1,"to":"Accounts","text":1}"#,
-            MemberName::To,
-        ),
-        (
-            r#"{"do":"reply","call":1,"to":"well-known","text":""}"#,
-            MemberName::To,
-        ),
-        (r#"{"do":"reply","call":1,"to":"config"}"#, MemberName::Text),
-        (
-            r#"{"do":"reply","call":1,"to":"config","text":"","raw":"="}"#,
-            MemberName::Text,
-        ),
-        (
-            r#"{"do":"reply","call":1,"to":"config","raw":"="}"#,
-            MemberName::Raw,
-        ),
-    ];
-    for (line, name) in bad {
-        assert_eq!(rt;
-            reads(rt.alloc(), line.as_bytes(), &mut used),
-            Err(Some(LineCause::Member(name))),
-            "at {line}"
-        );
-    }
+    assert_eq!(rt; first_wrong(rt.alloc(), &mut used, bad_replies())?, "");
     // A reply uses no call's number up.
     assert_eq!(rt; reads(rt.alloc(), GET.as_bytes(), &mut used), Ok(()));
     assert_eq!(rt; used.events(), 3);
+    Ok(())
+}
+
+fn bad_choices() -> &'static str {
+    r#"member.call | {"do":"choose","provider":"x"}
+member.call | {"do":"choose","call":1.0,"provider":"x"}
+member.provider | {"do":"choose","call":1,"provider":"0"}
+member.provider | {"do":"choose","call":1,"provider":4294967296,"account":1}
+member.provider | {"do":"choose","call":1,"provider":-1}
+member.account | {"do":"choose","call":1}
+member.account | {"do":"choose","call":1,"provider":1,"account":null}
+member.account | {"do":"choose","call":1,"account":1}"#
 }
 
 #[test]
-fn choices(rt: HostRuntime) {
+fn choices(rt: HostRuntime) -> Result<(), Fail> {
     let first = r#"{"do":"choose","call":1,"account":"u1"}"#;
     assert_eq!(rt; chosen(rt.alloc(), first, "u1"), Some((1, 0)));
     let second = r#"{"account":"","provider":9,"do":"choose","call":2}"#;
@@ -271,40 +231,7 @@ fn choices(rt: HostRuntime) {
     let mut used = Used::new(rt.alloc(), 0);
     assert_eq!(rt; reads(rt.alloc(), first.as_bytes(), &mut used), Ok(()));
     assert_eq!(rt; reads(rt.alloc(), first.as_bytes(), &mut used), Ok(()));
-    let bad = [
-        (r#"{"do":"choose","provider":"x"}"#, MemberName::Call),
-        (
-            r#"{"do":"choose","call":1.0,"provider":"x"}"#,
-            MemberName::Call,
-        ),
-        (
-            r#"{"do":"choose","call":1,"provider":"0"}"#,
-            MemberName::Provider,
-        ),
-        (
-            r#"{"do":"choose","call":1,"provider":4294967296,"account":1}"#,
-            MemberName::Provider,
-        ),
-        (
-            r#"{"do":"choose","call":1,"provider":-1}"#,
-            MemberName::Provider,
-        ),
-        (r#"{"do":"choose","call":1}"#, MemberName::Account),
-        (
-            r#"{"do":"choose","call":1,"provider":1,"account":null}"#,
-            MemberName::Account,
-        ),
-        (
-            r#"{"do":"choose","call":1,"account":1}"#,
-            MemberName::Account,
-        ),
-    ];
-    for (line, name) in bad {
-        assert_eq!(rt;
-            reads(rt.alloc(), line.as_bytes(), &mut used),
-            Err(Some(LineCause::Member(name))),
-            "at {line}"
-        );
-    }
+    assert_eq!(rt; first_wrong(rt.alloc(), &mut used, bad_choices())?, "");
     assert_eq!(rt; used.events(), 2);
+    Ok(())
 }

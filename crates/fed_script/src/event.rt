@@ -37,7 +37,6 @@ pub enum Have {
 }
 
 /// An event of a script, one variant for each kind of line that is read.
-#[derive(Drop)]
 pub enum Event {
     /// Something stands from before the script.
     Have(Have),
@@ -93,4 +92,40 @@ pub enum Event {
         page: u32,
         status: LoginStatus,
     },
+}
+
+// Written out, so that one function lets an event go wherever it ends.
+impl Drop for Event {
+    fn drop(self) {
+        match self {
+            Event::Have(_)
+            | Event::At { time: _ }
+            | Event::Load {
+                page: _,
+                url: _,
+                raw: _,
+            }
+            | Event::ClosePage { page: _ }
+            | Event::Get {
+                page: _,
+                call: _,
+                options: _,
+            }
+            | Event::Abort { call: _ }
+            | Event::GoOn { call: _ }
+            | Event::Cancel { call: _ }
+            | Event::Reply {
+                call: _,
+                provider: _,
+                kind: _,
+                raw: _,
+            }
+            | Event::Choose {
+                call: _,
+                provider: _,
+                account: _,
+            }
+            | Event::SetStatus { page: _, status: _ } => {}
+        }
+    }
 }

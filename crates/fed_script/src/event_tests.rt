@@ -1,9 +1,10 @@
 //! Events of each kind.
 
-use crate::tests::{GET, LOAD, reads};
-use crate::{Event, Have, LineCause, MemberName, Used, read_event};
+use crate::tests::{GET, LOAD, first_wrong, reads};
+use crate::{Event, Have, LineCause, Used, read_event};
 use fed_origin::{Context, LoginStatus, Scheme};
 use std::alloc::{AllocError, Global};
+use std::test::Fail;
 
 // The event of a line that is the first after a header.
 pub fn event(alloc: Global, line: &str) -> Option<Event> {
@@ -124,17 +125,25 @@ fn gives_none(alloc: Global, members: &str) -> bool {
     }
 }
 
-// Whether a load that ends with these members is read, or why it is bad.
-fn load_reads(alloc: Global, members: &str) -> Result<(), Option<LineCause>> {
-    let Ok(line) = load_with(alloc, members) else {
-        return Err(None);
-    };
-    let mut used = Used::new(alloc, 0);
-    reads(alloc, line.as_bytes(), &mut used)
+// Among them texts of base64 without their padding, with too much of it, with bits left over, of another alphabet, and with white space.
+fn loads_with_bad_bytes() -> &'static str {
+    r#"member.text | {"do":"load","page":1,"url":"https://a","text":5}
+member.text | {"do":"load","page":1,"url":"https://a","text":[],"raw":"aGk="}
+member.text | {"do":"load","page":1,"url":"https://a","text":"hi","raw":"aGk="}
+member.text | {"do":"load","page":1,"url":"https://a","text":"hi","raw":5}
+member.text | {"do":"load","page":1,"url":"https://a","text":"","raw":""}
+member.raw | {"do":"load","page":1,"url":"https://a","raw":5}
+member.raw | {"do":"load","page":1,"url":"https://a","raw":"aGk"}
+member.raw | {"do":"load","page":1,"url":"https://a","raw":"aGk=="}
+member.raw | {"do":"load","page":1,"url":"https://a","raw":"aGl="}
+member.raw | {"do":"load","page":1,"url":"https://a","raw":"="}
+member.raw | {"do":"load","page":1,"url":"https://a","raw":"A-__"}
+member.raw | {"do":"load","page":1,"url":"https://a","raw":"aGk= "}
+member.raw | {"do":"load","page":1,"url":"https://a","raw":"aGk=\n"}"#
 }
 
 #[test]
-fn bytes_of_a_reply(rt: HostRuntime) {
+fn bytes_of_a_reply(rt: HostRuntime) -> Result<(), Fail> {
     let good: [(&str, &[u8]); 7] = [
         (r#","text":"""#, b""),
         (r#","text":"a\u0000\u00e9","raw":null"#, b"a\x00\xc3\xa9"),
@@ -151,104 +160,60 @@ fn bytes_of_a_reply(rt: HostRuntime) {
     for members in absent {
         assert!(rt; gives_none(rt.alloc(), members), "at {members}");
     }
-    let bad = [
-        (r#","text":5"#, MemberName::Text),
-        (r#","text":[],"raw":"aGk=""#, MemberName::Text),
-        (r#","text":"hi","raw":"aGk=""#, MemberName::Text),
-        (r#","text":"hi","raw":5"#, MemberName::Text),
-        (r#","text":"","raw":"""#, MemberName::Text),
-        (r#","raw":5"#, MemberName::Raw),
-        // Without its padding, with too much of it, and with bits left over.
-        (r#","raw":"aGk""#, MemberName::Raw),
-        (r#","raw":"aGk==""#, MemberName::Raw),
-        (r#","raw":"aGl=""#, MemberName::Raw),
-        (r#","raw":"=""#, MemberName::Raw),
-        // Letters of another alphabet, and white space.
-        (r#","raw":"A-__""#, MemberName::Raw),
-        (r#","raw":"aGk= ""#, MemberName::Raw),
-        (r#","raw":"aGk=\n""#, MemberName::Raw),
-    ];
-    for (members, name) in bad {
-        assert_eq!(rt;
-            load_reads(rt.alloc(), members),
-            Err(Some(LineCause::Member(name))),
-            "at {members}"
-        );
-    }
+    let mut used = Used::new(rt.alloc(), 0);
+    assert_eq!(rt;
+        first_wrong(rt.alloc(), &mut used, loads_with_bad_bytes())?,
+        ""
+    );
+    Ok(())
 }
 
 const COOKIE: &str =
     r#"{"do":"have","what":"cookie","url":"https://rp.example/a","text":"x=1; Secure"}"#;
 
+fn bad_cookies() -> &'static str {
+    r#"member.what | {"do":"have"}
+member.what | {"do":"have","what":null}
+member.what | {"do":"have","what":5}
+member.what | {"do":"have","what":"Cookie"}
+member.what | {"do":"have","what":"Login"}
+member.what | {"do":"have","what":"kept"}
+member.what | {"do":"have","what":"silent"}
+member.url | {"do":"have","what":"cookie","text":5}
+member.url | {"do":"have","what":"cookie","url":null,"text":5}
+member.text | {"do":"have","what":"cookie","url":"ftp://x/"}
+member.text | {"do":"have","what":"cookie","url":"ftp://x/","text":"","raw":""}
+member.raw | {"do":"have","what":"cookie","url":"ftp://x/","raw":"="}
+bad-url | {"do":"have","what":"cookie","url":"ftp://x/","text":""}"#
+}
+
 #[test]
-fn cookies(rt: HostRuntime) {
+fn cookies(rt: HostRuntime) -> Result<(), Fail> {
     assert!(rt; is_cookie(rt.alloc()));
     let mut used = Used::new(rt.alloc(), 0);
-    let bad = [
-        (r#"{"do":"have"}"#, LineCause::Member(MemberName::What)),
-        (
-            r#"{"do":"have","what":null}"#,
-            LineCause::Member(MemberName::What),
-        ),
-        (
-            r#"{"do":"have","what":5}"#,
-            LineCause::Member(MemberName::What),
-        ),
-        (
-            r#"{"do":"have","what":"Cookie"}"#,
-            LineCause::Member(MemberName::What),
-        ),
-        (
-            r#"{"do":"have","what":"Login"}"#,
-            LineCause::Member(MemberName::What),
-        ),
-        (
-            r#"{"do":"have","what":"kept"}"#,
-            LineCause::Member(MemberName::What),
-        ),
-        (
-            r#"{"do":"have","what":"silent"}"#,
-            LineCause::Member(MemberName::What),
-        ),
-        (
-            r#"{"do":"have","what":"cookie","text":5}"#,
-            LineCause::Member(MemberName::Url),
-        ),
-        (
-            r#"{"do":"have","what":"cookie","url":null,"text":5}"#,
-            LineCause::Member(MemberName::Url),
-        ),
-        (
-            r#"{"do":"have","what":"cookie","url":"ftp://x/"}"#,
-            LineCause::Member(MemberName::Text),
-        ),
-        (
-            r#"{"do":"have","what":"cookie","url":"ftp://x/","text":"","raw":""}"#,
-            LineCause::Member(MemberName::Text),
-        ),
-        (
-            r#"{"do":"have","what":"cookie","url":"ftp://x/","raw":"="}"#,
-            LineCause::Member(MemberName::Raw),
-        ),
-        (
-            r#"{"do":"have","what":"cookie","url":"ftp://x/","text":""}"#,
-            LineCause::BadUrl,
-        ),
-    ];
-    for (line, cause) in bad {
-        assert_eq!(rt;
-            reads(rt.alloc(), line.as_bytes(), &mut used),
-            Err(Some(cause)),
-            "at {line}"
-        );
-    }
+    assert_eq!(rt; first_wrong(rt.alloc(), &mut used, bad_cookies())?, "");
+    Ok(())
 }
 
 const LOGIN: &str =
     r#"{"do":"have","what":"login","origin":"https://idp.example:8443/a?b","status":"logged-out"}"#;
 
+fn bad_statuses() -> &'static str {
+    r#"member.origin | {"do":"have","what":"login","status":"x"}
+member.origin | {"do":"have","what":"login","origin":null,"status":"x"}
+member.status | {"do":"have","what":"login","origin":"ftp://x"}
+member.status | {"do":"have","what":"login","origin":"ftp://x","status":"unknown"}
+member.status | {"do":"have","what":"login","origin":"ftp://x","status":1}
+bad-url | {"do":"have","what":"login","origin":"ftp://x","status":"logged-in"}
+have-late | {"do":"have","what":"login","origin":"https://idp.example:8443/a?b","status":"logged-out"}
+member.page | {"do":"setstatus"}
+member.status | {"do":"setstatus","page":7}
+member.status | {"do":"setstatus","page":7,"status":"Logged-In"}
+member.status | {"do":"setstatus","page":7,"status":["logged-in"]}"#
+}
+
 #[test]
-fn statuses(rt: HostRuntime) {
+fn statuses(rt: HostRuntime) -> Result<(), Fail> {
     assert!(rt; is_login(rt.alloc()));
     assert_eq!(rt;
         status_set(
@@ -260,106 +225,34 @@ fn statuses(rt: HostRuntime) {
     let mut used = Used::new(rt.alloc(), 0);
     assert_eq!(rt; reads(rt.alloc(), LOGIN.as_bytes(), &mut used), Ok(()));
     assert_eq!(rt; reads(rt.alloc(), LOAD.as_bytes(), &mut used), Ok(()));
-    let bad = [
-        (
-            r#"{"do":"have","what":"login","status":"x"}"#,
-            LineCause::Member(MemberName::Origin),
-        ),
-        (
-            r#"{"do":"have","what":"login","origin":null,"status":"x"}"#,
-            LineCause::Member(MemberName::Origin),
-        ),
-        (
-            r#"{"do":"have","what":"login","origin":"ftp://x"}"#,
-            LineCause::Member(MemberName::Status),
-        ),
-        (
-            r#"{"do":"have","what":"login","origin":"ftp://x","status":"unknown"}"#,
-            LineCause::Member(MemberName::Status),
-        ),
-        (
-            r#"{"do":"have","what":"login","origin":"ftp://x","status":1}"#,
-            LineCause::Member(MemberName::Status),
-        ),
-        (
-            r#"{"do":"have","what":"login","origin":"ftp://x","status":"logged-in"}"#,
-            LineCause::BadUrl,
-        ),
-        (LOGIN, LineCause::HaveLate),
-        (r#"{"do":"setstatus"}"#, LineCause::Member(MemberName::Page)),
-        (
-            r#"{"do":"setstatus","page":7}"#,
-            LineCause::Member(MemberName::Status),
-        ),
-        (
-            r#"{"do":"setstatus","page":7,"status":"Logged-In"}"#,
-            LineCause::Member(MemberName::Status),
-        ),
-        (
-            r#"{"do":"setstatus","page":7,"status":["logged-in"]}"#,
-            LineCause::Member(MemberName::Status),
-        ),
-    ];
-    for (line, cause) in bad {
-        assert_eq!(rt;
-            reads(rt.alloc(), line.as_bytes(), &mut used),
-            Err(Some(cause)),
-            "at {line}"
-        );
-    }
+    assert_eq!(rt; first_wrong(rt.alloc(), &mut used, bad_statuses())?, "");
     assert_eq!(rt; used.events(), 2);
+    Ok(())
 }
 
-// What follows a header of the time 1,700,000,000: whether each line is read, or why it is bad.
+// Lines after a header of the time 1,700,000,000. What is refused changes nothing, and no `have` is late after another.
+fn lines_in_time() -> &'static str {
+    r#"ok | {"do":"have","what":"cookie","url":"https://rp.example/a","text":"x=1; Secure"}
+time-back | {"do":"at","time":1699999999}
+ok | {"do":"have","what":"cookie","url":"https://rp.example/a","text":"x=1; Secure"}
+member.time | {"do":"at"}
+member.time | {"do":"at","time":null}
+member.time | {"do":"at","time":1.7e9}
+member.time | {"do":"at","time":18446744073709551616}
+ok | {"do":"at","time":1700000000}
+have-late | {"do":"have","what":"cookie","url":"https://rp.example/a","text":"x=1; Secure"}
+bad-url | {"do":"have","what":"cookie","url":"ftp://x/","text":""}
+ok | {"do":"at","time":1700000005}
+time-back | {"do":"at","time":1700000004}
+ok | {"do":"load","page":1,"url":"https://rp.example/"}
+ok | {"do":"at","time":18446744073709551615}
+time-back | {"do":"at","time":0}"#
+}
+
 #[test]
-fn late_and_back(rt: HostRuntime) {
+fn late_and_back(rt: HostRuntime) -> Result<(), Fail> {
     let mut used = Used::new(rt.alloc(), 1_700_000_000);
-    let lines = [
-        (COOKIE, Ok(())),
-        (
-            r#"{"do":"at","time":1699999999}"#,
-            Err(Some(LineCause::TimeBack)),
-        ),
-        // What is refused changes nothing, and a `have` is an event that no `have` comes too late for.
-        (COOKIE, Ok(())),
-        (
-            r#"{"do":"at"}"#,
-            Err(Some(LineCause::Member(MemberName::Time))),
-        ),
-        (
-            r#"{"do":"at","time":null}"#,
-            Err(Some(LineCause::Member(MemberName::Time))),
-        ),
-        (
-            r#"{"do":"at","time":1.7e9}"#,
-            Err(Some(LineCause::Member(MemberName::Time))),
-        ),
-        (
-            r#"{"do":"at","time":18446744073709551616}"#,
-            Err(Some(LineCause::Member(MemberName::Time))),
-        ),
-        (r#"{"do":"at","time":1700000000}"#, Ok(())),
-        (COOKIE, Err(Some(LineCause::HaveLate))),
-        (
-            r#"{"do":"have","what":"cookie","url":"ftp://x/","text":""}"#,
-            Err(Some(LineCause::BadUrl)),
-        ),
-        (r#"{"do":"at","time":1700000005}"#, Ok(())),
-        (
-            r#"{"do":"at","time":1700000004}"#,
-            Err(Some(LineCause::TimeBack)),
-        ),
-        (LOAD, Ok(())),
-        (r#"{"do":"at","time":18446744073709551615}"#, Ok(())),
-        (r#"{"do":"at","time":0}"#, Err(Some(LineCause::TimeBack))),
-    ];
-    for (line, want) in lines {
-        assert_eq!(rt;
-            reads(rt.alloc(), line.as_bytes(), &mut used),
-            want,
-            "at {line}"
-        );
-    }
+    assert_eq!(rt; first_wrong(rt.alloc(), &mut used, lines_in_time())?, "");
     assert_eq!(rt; used.events(), 6);
     let mut used = Used::new(rt.alloc(), 0);
     assert_eq!(rt; reads(rt.alloc(), LOAD.as_bytes(), &mut used), Ok(()));
@@ -367,4 +260,5 @@ fn late_and_back(rt: HostRuntime) {
         reads(rt.alloc(), COOKIE.as_bytes(), &mut used),
         Err(Some(LineCause::HaveLate))
     );
+    Ok(())
 }

@@ -87,14 +87,42 @@ pub(crate) fn apply(
     ensures kept { statuses.new.kept ≡ statuses.old.kept }
     ensures flags { statuses.new.flags ≡ statuses.old.flags }
 {
+    set_statuses(statuses, effects.as_slice())?;
+    let outs = answered(alloc, line, sight, call, page, effects)?;
+    Ok(outs)
+}
+
+// The records of what a call of the page does, in their order.
+fn answered(
+    alloc: Global,
+    line: u32,
+    sight: Sight<'_>,
+    call: u32,
+    page: u32,
+    effects: Items<Effect>,
+) -> Result<Items<Out>, NoRoom>
+    ensures { IfOk result (λ outs. outs ≡ call_records line (cookies_of sight.entry) call page effects) }
+{
     let mut outs = Items::new(alloc);
     for effect in effects.into_vec() {
-        set_status(statuses, &effect)?;
         if let Some(out) = record(alloc, line, sight, call, page, effect)? {
             outs.push(out)?;
         }
     }
     Ok(outs)
+}
+
+// Sets the login statuses that a call sets, in their order.
+fn set_statuses(statuses: &mut Statuses, effects: &[Effect]) -> Result<(), NoRoom>
+    requires { AllSetKnown effects.now }
+    ensures login { OnOk result (statuses.new.login ≡ login_after effects.now statuses.old.login) }
+    ensures kept { statuses.new.kept ≡ statuses.old.kept }
+    ensures flags { statuses.new.flags ≡ statuses.old.flags }
+{
+    for effect in effects {
+        set_status(statuses, effect)?;
+    }
+    Ok(())
 }
 
 // Sets the login status that a call sets, if it sets one.

@@ -33,7 +33,7 @@ impl Kept {
         ensures { IfOk result (λ kept. kept ≡ facts_of state) }
     {
         match state {
-            CallState::Ended(_) => Ok(Kept::over()),
+            CallState::Ended(..) => Ok(Kept::over()),
             other => Ok(Kept {
                 state: Some(Box::new(alloc, other)?),
             }),

@@ -30,7 +30,6 @@ use std::sync::ledger::Ledger;
 
 /// A session: what stands after the events that it took. Contracts see it as a `State`, and `Stands` says for which
 /// traces it stands.
-#[derive(Drop)]
 pub struct Session {
     alloc: Global,
     alive: bool,
@@ -54,6 +53,23 @@ impl Model for Session {
     ghost coded = { Prim.hlevel (codes, set.code {R = rule_cmp} rule_code) };
 
     ghost view = { λ s. record { alive = s.alive; steps = s.steps; time = s.time; rules = s.rules; cookies = s.jar; login = s.statuses.login; kept = s.statuses.kept; flags = s.statuses.flags; pages = s.pages.entries; calls = s.calls.entries } };
+}
+
+// Written out, so that one function lets a session go wherever it ends.
+impl Drop for Session {
+    fn drop(self) {
+        let Session {
+            alloc: _,
+            alive: _,
+            steps: _,
+            time: _,
+            rules: _,
+            jar: _,
+            statuses: _,
+            pages: _,
+            calls: _,
+        } = self;
+    }
 }
 
 impl Session {

@@ -1,6 +1,8 @@
 //! Accounts and dialogs: whole scripts and their transcripts.
 use crate::Status;
 use crate::tests::{CONFIG, GET, HEADER, LOAD, WELL_KNOWN, gives};
+use fed_io::NoRoom;
+use std::alloc::Global;
 use std::test::Fail;
 
 const WELL_KNOWN_REPLY: &str =
@@ -33,89 +35,57 @@ const ACCOUNTS_REQUEST_ON_LINE_6: &str =
 const MISMATCH: &str =
     "{\"call\":1,\"detail\":\"status\",\"dialog\":\"mismatch\",\"line\":7,\"out\":\"dialog\",\"provider\":0,\"site\":\"rp.example\",\"step\":\"accounts-reply\"}\n";
 
+// Whether the call of the first lines is over by this accounts reply, with this record.
+fn ends_by(alloc: Global, reply: &str, record: &str) -> Result<bool, NoRoom> {
+    let script = [HEADER, LOAD, GET, WELL_KNOWN_REPLY, CONFIG_REPLY, reply];
+    let transcript = [
+        WELL_KNOWN,
+        CONFIG,
+        ACCOUNTS_REQUEST,
+        record,
+        "{\"events\":5,\"out\":\"end\"}\n",
+    ];
+    gives(alloc, &["run"], &script, Status::Done, &transcript)
+}
+
 #[test]
 fn an_accounts_reply_is_framed(rt: HostRuntime) -> Result<(), Fail> {
     let alloc = rt.alloc();
-    let script = [
-        HEADER,
-        LOAD,
-        GET,
-        WELL_KNOWN_REPLY,
-        CONFIG_REPLY,
-        "{\"do\":\"reply\",\"call\":1,\"to\":\"accounts\",\"text\":\"HTTP/1.1 200 OK\\r\\nContent-Type: application/json\\r\\nTransfer-Encoding: chunked\\r\\n\\r\\nf\\r\\n{\\\"accounts\\\":[]}\\r\\n0\\r\\n\\r\\n\"}\n",
-    ];
-    let transcript = [
-        WELL_KNOWN,
-        CONFIG,
-        ACCOUNTS_REQUEST,
-        "{\"call\":1,\"line\":6,\"out\":\"result\",\"page\":1,\"see\":\"NetworkError\",\"step\":\"accounts-empty\"}\n",
-        "{\"events\":5,\"out\":\"end\"}\n",
-    ];
-    assert!(rt; gives(alloc, &["run"], &script, Status::Done, &transcript)?);
-    let script = [
-        HEADER,
-        LOAD,
-        GET,
-        WELL_KNOWN_REPLY,
-        CONFIG_REPLY,
-        "{\"do\":\"reply\",\"call\":1,\"to\":\"accounts\",\"text\":\"HTTP/1.1 200 OK\\r\\nContent-Type: application/json\\r\\nTransfer-Encoding: chunked\\r\\n\\r\\n10\\r\\n{\\\"accounts\\\":[]}\\r\\n0\\r\\n\\r\\n\"}\n",
-    ];
-    let transcript = [
-        WELL_KNOWN,
-        CONFIG,
-        ACCOUNTS_REQUEST,
-        "{\"call\":1,\"detail\":\"chunk\",\"line\":6,\"out\":\"result\",\"page\":1,\"see\":\"NetworkError\",\"step\":\"accounts-reply\"}\n",
-        "{\"events\":5,\"out\":\"end\"}\n",
-    ];
-    assert!(rt; gives(alloc, &["run"], &script, Status::Done, &transcript)?);
-    let script = [
-        HEADER,
-        LOAD,
-        GET,
-        WELL_KNOWN_REPLY,
-        CONFIG_REPLY,
-        "{\"do\":\"reply\",\"call\":1,\"to\":\"accounts\",\"text\":\"HTTP/1.1 200 OK\\r\\nContent-Type: application/json\\r\\nTransfer-Encoding: chunked\\r\\n\\r\\n10\\r\\n{\\\"accounts\\\":[]}\"}\n",
-    ];
-    let transcript = [
-        WELL_KNOWN,
-        CONFIG,
-        ACCOUNTS_REQUEST,
-        "{\"call\":1,\"detail\":\"short\",\"line\":6,\"out\":\"result\",\"page\":1,\"see\":\"NetworkError\",\"step\":\"accounts-reply\"}\n",
-        "{\"events\":5,\"out\":\"end\"}\n",
-    ];
-    assert!(rt; gives(alloc, &["run"], &script, Status::Done, &transcript)?);
-    let script = [
-        HEADER,
-        LOAD,
-        GET,
-        WELL_KNOWN_REPLY,
-        CONFIG_REPLY,
-        "{\"do\":\"reply\",\"call\":1,\"to\":\"accounts\",\"text\":\"HTTP/1.1 200 OK\\r\\nContent-Type: application/json\\r\\nContent-Encoding: gzip\\r\\n\\r\\n{\\\"accounts\\\":[]}\"}\n",
-    ];
-    let transcript = [
-        WELL_KNOWN,
-        CONFIG,
-        ACCOUNTS_REQUEST,
-        "{\"call\":1,\"detail\":\"coding\",\"line\":6,\"out\":\"result\",\"page\":1,\"see\":\"NetworkError\",\"step\":\"accounts-reply\"}\n",
-        "{\"events\":5,\"out\":\"end\"}\n",
-    ];
-    assert!(rt; gives(alloc, &["run"], &script, Status::Done, &transcript)?);
-    let script = [
-        HEADER,
-        LOAD,
-        GET,
-        WELL_KNOWN_REPLY,
-        CONFIG_REPLY,
-        "{\"do\":\"reply\",\"call\":1,\"to\":\"accounts\",\"text\":\"HTTP/1.1 301 Moved\\r\\nContent-Type: application/json\\r\\nTransfer-Encoding: chunked\\r\\n\\r\\nf\\r\\n{\\\"accounts\\\":[]}\\r\\n0\\r\\n\\r\\n\"}\n",
-    ];
-    let transcript = [
-        WELL_KNOWN,
-        CONFIG,
-        ACCOUNTS_REQUEST,
-        "{\"call\":1,\"detail\":\"status\",\"line\":6,\"out\":\"result\",\"page\":1,\"see\":\"NetworkError\",\"step\":\"accounts-reply\"}\n",
-        "{\"events\":5,\"out\":\"end\"}\n",
-    ];
-    assert!(rt; gives(alloc, &["run"], &script, Status::Done, &transcript)?);
+    assert!(rt;
+        ends_by(
+            alloc,
+            "{\"do\":\"reply\",\"call\":1,\"to\":\"accounts\",\"text\":\"HTTP/1.1 200 OK\\r\\nContent-Type: application/json\\r\\nTransfer-Encoding: chunked\\r\\n\\r\\nf\\r\\n{\\\"accounts\\\":[]}\\r\\n0\\r\\n\\r\\n\"}\n",
+            "{\"call\":1,\"line\":6,\"out\":\"result\",\"page\":1,\"see\":\"NetworkError\",\"step\":\"accounts-empty\"}\n"
+        )?
+    );
+    assert!(rt;
+        ends_by(
+            alloc,
+            "{\"do\":\"reply\",\"call\":1,\"to\":\"accounts\",\"text\":\"HTTP/1.1 200 OK\\r\\nContent-Type: application/json\\r\\nTransfer-Encoding: chunked\\r\\n\\r\\n10\\r\\n{\\\"accounts\\\":[]}\\r\\n0\\r\\n\\r\\n\"}\n",
+            "{\"call\":1,\"detail\":\"chunk\",\"line\":6,\"out\":\"result\",\"page\":1,\"see\":\"NetworkError\",\"step\":\"accounts-reply\"}\n"
+        )?
+    );
+    assert!(rt;
+        ends_by(
+            alloc,
+            "{\"do\":\"reply\",\"call\":1,\"to\":\"accounts\",\"text\":\"HTTP/1.1 200 OK\\r\\nContent-Type: application/json\\r\\nTransfer-Encoding: chunked\\r\\n\\r\\n10\\r\\n{\\\"accounts\\\":[]}\"}\n",
+            "{\"call\":1,\"detail\":\"short\",\"line\":6,\"out\":\"result\",\"page\":1,\"see\":\"NetworkError\",\"step\":\"accounts-reply\"}\n"
+        )?
+    );
+    assert!(rt;
+        ends_by(
+            alloc,
+            "{\"do\":\"reply\",\"call\":1,\"to\":\"accounts\",\"text\":\"HTTP/1.1 200 OK\\r\\nContent-Type: application/json\\r\\nContent-Encoding: gzip\\r\\n\\r\\n{\\\"accounts\\\":[]}\"}\n",
+            "{\"call\":1,\"detail\":\"coding\",\"line\":6,\"out\":\"result\",\"page\":1,\"see\":\"NetworkError\",\"step\":\"accounts-reply\"}\n"
+        )?
+    );
+    assert!(rt;
+        ends_by(
+            alloc,
+            "{\"do\":\"reply\",\"call\":1,\"to\":\"accounts\",\"text\":\"HTTP/1.1 301 Moved\\r\\nContent-Type: application/json\\r\\nTransfer-Encoding: chunked\\r\\n\\r\\nf\\r\\n{\\\"accounts\\\":[]}\\r\\n0\\r\\n\\r\\n\"}\n",
+            "{\"call\":1,\"detail\":\"status\",\"line\":6,\"out\":\"result\",\"page\":1,\"see\":\"NetworkError\",\"step\":\"accounts-reply\"}\n"
+        )?
+    );
     Ok(())
 }
 

@@ -1,6 +1,8 @@
 //! Consent, assertion and token: whole scripts and their transcripts.
 use crate::Status;
 use crate::tests::{CONFIG, GET, HEADER, LOAD, WELL_KNOWN, gives};
+use fed_io::NoRoom;
+use std::alloc::Global;
 use std::test::Fail;
 
 const WELL_KNOWN_REPLY: &str =
@@ -93,81 +95,72 @@ fn a_continue_comes_too_early_and_twice(rt: HostRuntime) -> Result<(), Fail> {
     Ok(())
 }
 
+// Whether a call that asked for its token goes on so, with these two pieces of a script.
+fn goes_on(
+    alloc: Global,
+    first: &str,
+    second: &str,
+    record: &str,
+    end: &str,
+) -> Result<bool, NoRoom> {
+    let script = [
+        HEADER,
+        LOAD,
+        GET,
+        WELL_KNOWN_REPLY,
+        CONFIG_REPLY,
+        TWO_ACCOUNTS,
+        "{\"do\":\"choose\",\"call\":1,\"account\":\"u2\"}\n",
+        LINKS,
+        "{\"do\":\"continue\",\"call\":1}\n",
+        first,
+        second,
+    ];
+    let transcript = [
+        WELL_KNOWN,
+        CONFIG,
+        ACCOUNTS_REQUEST,
+        CHOOSER,
+        METADATA_REQUEST,
+        PROMPT,
+        ASSERTION_REQUEST,
+        record,
+        end,
+    ];
+    gives(alloc, &["run"], &script, Status::Done, &transcript)
+}
+
 #[test]
 fn no_token_is_given(rt: HostRuntime) -> Result<(), Fail> {
     let alloc = rt.alloc();
-    let script = [
-        HEADER,
-        LOAD,
-        GET,
-        WELL_KNOWN_REPLY,
-        CONFIG_REPLY,
-        TWO_ACCOUNTS,
-        "{\"do\":\"choose\",\"call\":1,\"account\":\"u2\"}\n",
-        LINKS,
-        "{\"do\":\"continue\",\"call\":1}\n",
-        "{\"do\":\"reply\",\"call\":1,\"to\":\"assertion\",\"text\":\"HTTP/1.1 200 OK\\r\\nContent-Type: application/json\\r\\nAccess-Control-Allow-Origin: *\\r\\nAccess-Control-Allow-Credentials: true\\r\\n\\r\\n{\\\"token\\\":\\\"T1\\\"}\"}\n",
-    ];
-    let transcript = [
-        WELL_KNOWN,
-        CONFIG,
-        ACCOUNTS_REQUEST,
-        CHOOSER,
-        METADATA_REQUEST,
-        PROMPT,
-        ASSERTION_REQUEST,
-        "{\"call\":1,\"line\":10,\"out\":\"result\",\"page\":1,\"see\":\"NetworkError\",\"step\":\"assertion-cors\"}\n",
-        "{\"events\":9,\"out\":\"end\"}\n",
-    ];
-    assert!(rt; gives(alloc, &["run"], &script, Status::Done, &transcript)?);
-    let script = [
-        HEADER,
-        LOAD,
-        GET,
-        WELL_KNOWN_REPLY,
-        CONFIG_REPLY,
-        TWO_ACCOUNTS,
-        "{\"do\":\"choose\",\"call\":1,\"account\":\"u2\"}\n",
-        LINKS,
-        "{\"do\":\"continue\",\"call\":1}\n",
-        "{\"do\":\"reply\",\"call\":1,\"to\":\"assertion\",\"text\":\"HTTP/1.1 200 OK\\r\\nContent-Type: application/json\\r\\nAccess-Control-Allow-Origin: https://rp.example\\r\\nAccess-Control-Allow-Credentials: true\\r\\n\\r\\n{\\\"error\\\":{\\\"code\\\":\\\"access_denied\\\",\\\"url\\\":\\\"https://idp.example/why\\\"}}\"}\n",
-    ];
-    let transcript = [
-        WELL_KNOWN,
-        CONFIG,
-        ACCOUNTS_REQUEST,
-        CHOOSER,
-        METADATA_REQUEST,
-        PROMPT,
-        ASSERTION_REQUEST,
-        "{\"call\":1,\"code\":\"access_denied\",\"line\":10,\"out\":\"result\",\"page\":1,\"see\":\"IdentityCredentialError\",\"step\":\"provider-error\",\"url\":\"https://idp.example/why\"}\n",
-        "{\"events\":9,\"out\":\"end\"}\n",
-    ];
-    assert!(rt; gives(alloc, &["run"], &script, Status::Done, &transcript)?);
-    let script = [
-        HEADER,
-        LOAD,
-        GET,
-        WELL_KNOWN_REPLY,
-        CONFIG_REPLY,
-        TWO_ACCOUNTS,
-        "{\"do\":\"choose\",\"call\":1,\"account\":\"u2\"}\n",
-        LINKS,
-        "{\"do\":\"continue\",\"call\":1}\n",
-        LOAD,
-        TOKEN_REPLY,
-    ];
-    let transcript = [
-        WELL_KNOWN,
-        CONFIG,
-        ACCOUNTS_REQUEST,
-        CHOOSER,
-        METADATA_REQUEST,
-        PROMPT,
-        ASSERTION_REQUEST,
-        "{\"line\":11,\"out\":\"ignored\",\"why\":\"call-ended\"}\n",
-        "{\"events\":10,\"out\":\"end\"}\n",
-    ];
-    assert!(rt; gives(alloc, &["run"], &script, Status::Done, &transcript)?);
+    let nine = "{\"events\":9,\"out\":\"end\"}\n";
+    let ten = "{\"events\":10,\"out\":\"end\"}\n";
+    assert!(rt;
+        goes_on(
+            alloc,
+            "",
+            "{\"do\":\"reply\",\"call\":1,\"to\":\"assertion\",\"text\":\"HTTP/1.1 200 OK\\r\\nContent-Type: application/json\\r\\nAccess-Control-Allow-Origin: *\\r\\nAccess-Control-Allow-Credentials: true\\r\\n\\r\\n{\\\"token\\\":\\\"T1\\\"}\"}\n",
+            "{\"call\":1,\"line\":10,\"out\":\"result\",\"page\":1,\"see\":\"NetworkError\",\"step\":\"assertion-cors\"}\n",
+            nine
+        )?
+    );
+    assert!(rt;
+        goes_on(
+            alloc,
+            "",
+            "{\"do\":\"reply\",\"call\":1,\"to\":\"assertion\",\"text\":\"HTTP/1.1 200 OK\\r\\nContent-Type: application/json\\r\\nAccess-Control-Allow-Origin: https://rp.example\\r\\nAccess-Control-Allow-Credentials: true\\r\\n\\r\\n{\\\"error\\\":{\\\"code\\\":\\\"access_denied\\\",\\\"url\\\":\\\"https://idp.example/why\\\"}}\"}\n",
+            "{\"call\":1,\"code\":\"access_denied\",\"line\":10,\"out\":\"result\",\"page\":1,\"see\":\"IdentityCredentialError\",\"step\":\"provider-error\",\"url\":\"https://idp.example/why\"}\n",
+            nine
+        )?
+    );
+    assert!(rt;
+        goes_on(
+            alloc,
+            LOAD,
+            TOKEN_REPLY,
+            "{\"line\":11,\"out\":\"ignored\",\"why\":\"call-ended\"}\n",
+            ten
+        )?
+    );
     Ok(())
 }

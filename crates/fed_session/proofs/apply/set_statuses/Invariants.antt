@@ -1,0 +1,12 @@
+use Rattle.std.proofs.Common.{◌≡◌, drop}
+use Rattle.fed_session.specs.Session.{login_after, AllSetKnown}
+use Rattle.fed_session.proofs.apply.set_statuses.Given as goal
+
+-- What was set, and what is left, is the whole.
+abbrev pub invariant-loop-effect : goal.invariant-loop-effect
+invariant-loop-effect l = record {
+  login : login_after (drop l.effect-index l.effects) l.statuses.login ≡ login_after l.effects l.fn.statuses.login;
+  kept : l.statuses.kept ≡ l.fn.statuses.kept;
+  flags : l.statuses.flags ≡ l.fn.statuses.flags;
+  known : AllSetKnown (drop l.effect-index l.effects);
+}
