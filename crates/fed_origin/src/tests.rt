@@ -88,6 +88,25 @@ fn texts_join_to_a_base(rt: HostRuntime) -> Result<(), Fail> {
     Ok(())
 }
 
+// Whether both texts are read as one URL.
+fn are_same(alloc: Global, first: &str, second: &str) -> Result<bool, NoRoom> {
+    let first = read(alloc, first)?;
+    let second = read(alloc, second)?;
+    Ok(first.is_same(&second))
+}
+
+#[test]
+fn urls_are_the_same_with_their_fragments(rt: HostRuntime) -> Result<(), Fail> {
+    for (first, second, same) in [
+        ("https://IDP.example:443/a", "https://idp.example/a", true),
+        ("https://idp.example/a#f", "https://idp.example/a#g", false),
+        ("https://idp.example/a?", "https://idp.example/a", false),
+    ] {
+        assert!(rt; are_same(rt.alloc(), first, second)? == same, "{first}");
+    }
+    Ok(())
+}
+
 fn kind_of(alloc: Global, text: &str) -> Result<HostKind, NoRoom> {
     let url = read(alloc, text)?;
     let host = url.host().copy(alloc)?;

@@ -1,5 +1,5 @@
 //! URLs whose scheme is http or https, without a user.
-ghost use Rattle.std.specs.Prelude.{◌≡◌, IfOk};
+ghost use Rattle.std.specs.Prelude.{◌≡◌, ◌↔◌, IfOk, IsTrue};
 ghost use Rattle.std.specs.Option.{option_copied};
 ghost use Rattle.fed_io.specs.Fault.{Answers};
 ghost use Rattle.url.specs.Parts.{serialize};
@@ -68,6 +68,13 @@ impl WebUrl {
         self.scheme() == other.scheme()
             && *self.host() == *other.host()
             && self.port() == other.port()
+    }
+
+    /// Whether both URLs are equal, their fragments too: they are where their serialized texts are (URL 4.6). It takes no memory.
+    pub fn is_same(&self, other: &WebUrl) -> bool
+        ensures { IsTrue result ↔ (self.now ≡ other.now) }
+    {
+        self.url.as_str() == other.url.as_str()
     }
 
     fn of(alloc: Global, url: Url) -> Result<WebUrl, Fault<UrlRefusal>>
