@@ -20,12 +20,12 @@ def transcript(path):
         return subprocess.run([PROGRAM, "run"], stdin=script, stdout=subprocess.PIPE, check=True).stdout.decode()
 
 
-def run(path):
-    """The seconds that a run over the script at this path takes, and its peak of memory in MB."""
+def run(path, word="run"):
+    """The seconds that the program with this word takes over the input at this path, and its peak of memory in MB."""
     need_program()
     begin = time.monotonic()
     with open(path, "rb") as script, open(os.devnull, "wb") as out:
-        child = subprocess.Popen([PROGRAM, "run"], stdin=script, stdout=out)
+        child = subprocess.Popen([PROGRAM, word], stdin=script, stdout=out)
         _, status, usage = os.wait4(child.pid, 0)
     if status != 0:
         sys.exit(f"status {os.waitstatus_to_exitcode(status)} for {path}")

@@ -56,6 +56,13 @@ impl Object {
         self.with(name, Value::from(value))
     }
 
+    /// The object with a whole number of up to 64 bits at a name.
+    pub fn total(self, name: &str, value: u64) -> Result<Object, NoRoom>
+        ensures { IfOk result (λ o. members_of o ≡ put name.now (spec.count value) (members_of self)) }
+    {
+        self.with(name, Value::from(value))
+    }
+
     /// The object with a truth value at a name.
     pub fn flag(self, name: &str, value: bool) -> Result<Object, NoRoom>
         ensures { IfOk result (λ o. members_of o ≡ put name.now (boolean value) (members_of self)) }

@@ -3,6 +3,8 @@ use Rattle.std.specs.Prelude.{ℕ, List, codes, Option, Some, None}
 use Rattle.fed_script.specs.declared.cause.LineCause.{LineCause}
 use Rattle.fed_script.specs.declared.cause.LineCause.TheVariants.{NotJson, NoKind, Member, BadUrl, CallTwice, HaveLate, TimeBack, TooManyEvents}
 use Rattle.fed_script.specs.declared.cause.MemberName.{MemberName}
+use Rattle.fed_script.specs.declared.cause.PairCause.{PairCause}
+use Rattle.fed_script.specs.declared.cause.PairCause.TheVariants.{Line, NoNext}
 use Rattle.fed_script.specs.declared.cause.MemberName.TheVariants as names
 
 -- a member's name as it is written in a line
@@ -56,3 +58,13 @@ member_named CallTwice = None
 member_named HaveLate = None
 member_named TimeBack = None
 member_named TooManyEvents = None
+
+-- the word of a cause for which bytes are not two scripts
+abbrev pub pair_cause_text : PairCause → List ℕ
+pair_cause_text (Line cause) = cause_text cause
+pair_cause_text NoNext = codes "no-next"
+
+-- the member that it names
+abbrev pub pair_member_named : PairCause → Option MemberName
+pair_member_named (Line cause) = member_named cause
+pair_member_named NoNext = None

@@ -13,3 +13,7 @@ pub mod Get
 pub mod Used
 pub mod Line
 pub mod Script
+pub mod Further
+pub mod Pair
+pub mod Half
+pub mod Laws

@@ -1,12 +1,14 @@
 -- What the bytes of a script are read as.
-use Rattle.std.specs.Prelude.{ℕ, ◌+◌, Bool, ◌||◌, ◌==◌, List, [], ◌∷◌, Option, Some, None, Result, Ok, Err, if◌then◌else◌}
+use Rattle.std.specs.Prelude.{ℕ, ◌+◌, ◌<◌, Bool, ◌||◌, ◌==◌, ⊤, List, [], ◌∷◌, Option, Some, None, Result, Ok, Err, if◌then◌else◌}
 use Rattle.std.specs.List.{list_all, onto_first, before_first, after_first}
 use Rattle.fed_script.specs.declared.cause.LineCause.{LineCause}
 use Rattle.fed_script.specs.declared.cause.LineCause.TheVariants.{NotJson}
 use Rattle.fed_script.specs.declared.event.Event.{Event}
 use Rattle.fed_script.specs.declared.event.Header.{Header}
+use Rattle.fed_script.specs.declared.event.Numbered.{Numbered}
+use Rattle.fed_script.specs.declared.cause.BadLine.{BadLine}
 use Rattle.fed_script.specs.Line.{header_of, event_of}
-use Rattle.fed_script.specs.Used.{UsedState, unused, used_after}
+use Rattle.fed_script.specs.Used.{UsedState, unused, used_after, IsUnused, HasOneProvider, HasKnownStatus}
 
 -- the lines of bytes, each up to its LF; a rest that is not empty is a line too
 abbrev pub lines_of : List ℕ → List (List ℕ)
@@ -18,14 +20,13 @@ abbrev pub first_line : List ℕ → Option (List ℕ × List ℕ)
 first_line [] = None
 first_line (b ∷ bytes) = Some (before_first (λ x. x == 10) (b ∷ bytes), after_first (λ x. x == 10) (b ∷ bytes))
 
+-- space, tab or CR
+abbrev pub is_margin : ℕ → Bool
+is_margin b = b == 32 || b == 9 || b == 13
+
 -- a line of space, tab and CR alone, or of nothing
 abbrev pub is_blank : List ℕ → Bool
-is_blank line = list_all (λ b. b == 32 || b == 9 || b == 13) line
-
--- an event with the number of its line, where the header's is 1
-pub record Numbered : Type 0 where
-  pub line : ℕ
-  pub event : Event
+is_blank line = list_all is_margin line
 
 -- the events of lines up to the first bad one, and that one's number and cause
 pub record Events : Type 0 where
@@ -90,3 +91,29 @@ script_of_lines (line ∷ lines) = script_after (header_of line) lines
 -- the script of these bytes: its header and its numbered events, or the first bad line
 abbrev pub script_of : List ℕ → Result Script Stop
 script_of bytes = script_of_lines (lines_of bytes)
+
+-- what a reader answers of a script that stops: the first bad line and its cause
+abbrev pub bad_line : Stop → BadLine
+bad_line stop = record { line = stop.line; cause = stop.cause }
+
+abbrev pub or_bad_line : Result Script Stop → Result Script BadLine
+or_bad_line (Ok script) = Ok script
+or_bad_line (Err stop) = Err (bad_line stop)
+
+-- ---- readable scripts
+
+-- an event that a line names is so, by what the lines before it left
+pub record MayFollow (used : UsedState) (event : Event) : Type 0 where
+  pub few : used.events < 1000000
+  pub once : IsUnused used event
+  pub provider : HasOneProvider event
+  pub status : HasKnownStatus event
+
+-- each event may follow those before it
+abbrev pub AreRead : UsedState → List Numbered → Type 0
+AreRead used [] = ⊤
+AreRead used (n ∷ ns) = MayFollow used n.event × AreRead (used_after n.event used) ns
+
+-- A readable script has at most 1,000,000 events, no two gets of one number, one provider for each get, and no unknown status.
+abbrev pub IsRead : Script → Type 0
+IsRead script = AreRead (unused script.header.now) script.events

@@ -53,6 +53,29 @@ pub enum LineCause {
     TooManyEvents,
 }
 
+/// The first bad line of a script: its number, where the header's is 1, and why it is bad.
+#[derive(Clone, Copy, Debug, PartialEq, Eq)]
+pub struct BadLine {
+    pub line: u32,
+    pub cause: LineCause,
+}
+
+/// Why bytes are not two scripts with a dividing line between them (this profile's own).
+#[derive(Clone, Copy, Debug, PartialEq, Eq)]
+pub enum PairCause {
+    /// A line of one of the scripts is bad, or its header is missing.
+    Line(LineCause),
+    /// Both could be one script: no line divides them.
+    NoNext,
+}
+
+/// The first line that is bad or missing where two scripts are read, with its number among all lines, from 1.
+#[derive(Clone, Copy, Debug, PartialEq, Eq)]
+pub struct PairStop {
+    pub line: u32,
+    pub cause: PairCause,
+}
+
 impl MemberName {
     ghost use Rattle.std.specs.Prelude.{◌≡◌};
     ghost use Rattle.fed_script.specs.Cause.{name_text};
@@ -120,6 +143,31 @@ impl LineCause {
         match self {
             LineCause::Member(name) => Some(name),
             _ => None,
+        }
+    }
+}
+
+impl PairCause {
+    ghost use Rattle.std.specs.Prelude.{◌≡◌};
+    ghost use Rattle.fed_script.specs.Cause.{pair_cause_text, pair_member_named};
+
+    /// The word of the cause, as a record writes it.
+    pub fn as_str(self) -> &'static str
+        ensures { result.now ≡ pair_cause_text self }
+    {
+        match self {
+            PairCause::Line(cause) => cause.as_str(),
+            PairCause::NoNext => "no-next",
+        }
+    }
+
+    /// The member that the cause names, if it is a member's.
+    pub fn member(self) -> Option<MemberName>
+        ensures { result ≡ pair_member_named self }
+    {
+        match self {
+            PairCause::Line(cause) => cause.member(),
+            PairCause::NoNext => None,
         }
     }
 }

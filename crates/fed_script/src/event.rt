@@ -129,3 +129,10 @@ impl Drop for Event {
         }
     }
 }
+
+/// An event with the number of its line, where the header's is 1.
+#[derive(Drop)]
+pub struct Numbered {
+    pub line: u32,
+    pub event: Event,
+}

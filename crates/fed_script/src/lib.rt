@@ -12,12 +12,17 @@ mod event_tests;
 mod get;
 mod have;
 mod header;
+pub mod laws;
 mod line;
 mod load;
 mod member;
 mod options;
+mod pair;
+#[cfg(test)]
+mod pair_tests;
 mod raw;
 mod reply;
+mod script;
 mod single;
 mod status;
 #[cfg(test)]
@@ -25,8 +30,10 @@ mod tests;
 mod used;
 
 pub use bytes::{is_blank, next_line};
-pub use cause::{LineCause, MemberName};
-pub use event::{Event, Have, Header};
+pub use cause::{BadLine, LineCause, MemberName, PairCause, PairStop};
+pub use event::{Event, Have, Header, Numbered};
 pub use header::read_header;
 pub use line::read_event;
+pub use pair::{Pair, bad_line_in, read_pair};
+pub use script::{Script, read_script};
 pub use used::Used;

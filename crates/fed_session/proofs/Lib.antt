@@ -30,5 +30,6 @@ pub mod TakenLemmas
 pub mod TokenLemmas
 pub mod TracksLemmas
 pub mod TurnLemmas
+pub mod UntakenLemmas
 pub mod ViewLemmas
 pub mod WayLemmas

@@ -4,6 +4,7 @@ pub mod Effect
 pub mod Keyed
 pub mod Known
 pub mod Laws
+pub mod OfScript
 pub mod Records
 pub mod Row
 pub mod Session

@@ -1,5 +1,5 @@
 -- The records of a row.
-use Rattle.std.specs.Prelude.{ℕ, List, Option, Some, None}
+use Rattle.std.specs.Prelude.{ℕ, List, [], ◌∷◌, ◌++◌, Option, Some, None}
 use Rattle.std.specs.List.{filter_map}
 use Rattle.fed_consent.specs.Ask.{kind_of}
 use Rattle.fed_request.specs.Request.{request_bytes}
@@ -23,3 +23,8 @@ records_of line effects = filter_map (record_of line) effects
 -- the records of a row
 abbrev pub records : Row → List Out
 records row = records_of row.line row.effects
+
+-- the records of rows, of which the newest comes first, in the order in which they are written
+abbrev pub records_in : List Row → List Out
+records_in [] = []
+records_in (row ∷ rows) = records_in rows ++ records row

@@ -1,1 +1,4 @@
+pub mod AlikeLemmas
+pub mod EndsLemmas
 pub mod RunLemmas
+pub mod TopLemmas

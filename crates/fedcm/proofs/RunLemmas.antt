@@ -1,26 +1,23 @@
 -- A run goes on by one line.
-use Rattle.std.proofs.Common.{◌≡◌, ℕ, ◌+◌, Bool, true, false, cond, ◌⊎◌, inl, inr, nat_eq, List, [], ◌∷◌, ◌++◌, Some, None, Ok, Err, refl, sym, ap, subst, ◌∙◌, arith, append-nil}
-use Rattle.std.proofs.lemmas.List.Folds.{list_any-append}
-use Rattle.std.specs.List.{list_any, filter_map}
+use Rattle.std.proofs.Common.{◌≡◌, ℕ, ◌+◌, Bool, true, false, cond, nat_eq, List, [], ◌∷◌, Some, None, Ok, Err, refl, sym, ap, subst, ◌∙◌, arith}
+use Rattle.std.specs.List.{list_any}
 use Rattle.std.specs.Prelude.{Option, Result, IfOk}
 use Rattle.fed_script.specs.declared.cause.LineCause.{LineCause}
 use Rattle.fed_script.specs.declared.event.Event.{Event}
-use Rattle.fed_script.specs.declared.event.Event.TheVariants as events
-use Rattle.fed_script.specs.declared.event.Event.TheVariants.{Get}
 use Rattle.fed_script.specs.declared.event.Header.{Header}
 use Rattle.fed_script.specs.declared.cause.LineCause.TheVariants.{NotJson}
 use Rattle.fed_script.specs.Line.{event_of, header_of}
-use Rattle.fed_script.specs.Script.{Numbered, events_of, no_events, after_line as further_after, is_blank, first_line, lines_of, script_of_lines, script_after, ended_by}
+use Rattle.fed_script.specs.declared.event.Numbered.{Numbered}
+use Rattle.fed_script.specs.Script.{events_of, no_events, after_line as further_after, is_blank, first_line, lines_of, script_of_lines, script_after, ended_by}
 use Rattle.fed_script.specs.Used.{UsedState, used_after, unused}
-use Rattle.fed_session.specs.Effect.{begun_by}
-use Rattle.fed_session.specs.Known.{world_at}
-use Rattle.fed_session.specs.Row.{with_event, effects_of, cookies_with, is_busy}
+use Rattle.fed_session.specs.Row.{with_event}
 use Rattle.fed_session.specs.Session.{State, Stands}
-use Rattle.fed_session.specs.Trace.{Trace, begun, page_at, pending}
-use Rattle.fed_session.proofs.CallsLemmas.{absent_from_numbers, begins_none}
-use Rattle.fed_session.proofs.PendingLemmas.{get_begins, any_append}
+use Rattle.fed_session.specs.Trace.{Trace}
+use Rattle.fed_session.proofs.CallsLemmas.{absent_from_numbers}
+use Rattle.fed_session.proofs.UntakenLemmas.{untaken_after}
 use Rattle.fedcm.specs.declared.status.Status.TheVariants.{BadScript}
-use Rattle.fedcm.specs.Run.{IsAt, GoesAs, Follows, Outcome, last_written, outcome, after_read, after_line, used_after_read, used_after_line, cause_of, line_cause, bad_text, rows_text, run_text, script_text, outcome_by, with_events, start}
+use Rattle.fedcm.specs.Run.{IsAt, GoesAs, Follows, Outcome, last_written, outcome, after_read, after_line, used_after_read, used_after_line, cause_of, line_cause, bad_text, rows_text, run_text, script_text, outcome_by}
+use Rattle.fed_session.specs.OfScript.{start, with_events}
 use Rattle.fed_print.specs.Lines.{line_of}
 use Rattle.fedcm.specs.Text.{bad_members}
 
@@ -37,36 +34,6 @@ follows session used written T at =
 -- before the first event
 pub starts : (header : Header) {session : State} {used : UsedState} → Stands session (start header) → used ≡ unused header.now → IsAt session used [] (start header)
 starts header stands used_is = record { stands = stands; text = refl; count = ap (λ u. u.events) used_is; fresh = λ call h. refl }
-
--- what is unused began in no row
-abbrev IsUntaken : List ℕ → List ℕ → Type 0
-IsUntaken calls taken = (call : ℕ) → list_any (nat_eq call) calls ≡ false → list_any (nat_eq call) taken ≡ false
-
-untaken_push : (calls taken begins : List ℕ) (c : ℕ) → IsUntaken calls taken → (begins ≡ []) ⊎ (begins ≡ c ∷ []) → IsUntaken (calls ++ c ∷ []) (taken ++ begins)
-untaken_push calls taken begins c h (inl none) call unused =
-    ap (λ xs. list_any (nat_eq call) (taken ++ xs)) none ∙ ap (list_any (nat_eq call)) (append-nil taken) ∙ h call (any_append call calls (c ∷ []) unused).0
-untaken_push calls taken begins c h (inr one) call unused =
-    let parts = any_append call calls (c ∷ []) unused in
-    ap (λ xs. list_any (nat_eq call) (taken ++ xs)) one ∙ list_any-append (nat_eq call) taken (c ∷ []) ∙ rw (h call parts.0, parts.1) refl
-
--- an event begins no call
-untaken_same : (calls taken begins : List ℕ) → begins ≡ [] → IsUntaken calls taken → IsUntaken calls (taken ++ begins)
-untaken_same calls taken begins none h call unused =
-    ap (λ xs. list_any (nat_eq call) (taken ++ xs)) none ∙ ap (list_any (nat_eq call)) (append-nil taken) ∙ h call unused
-
-pub untaken_after : (T : Trace) (line : ℕ) (event : Event) (used : UsedState) → IsUntaken used.calls (begun T.rows) → IsUntaken (used_after event used).calls (begun (with_event T line event).rows)
-untaken_after T line (Get page c options) used h =
-    untaken_push used.calls (begun T.rows) (filter_map begun_by (effects_of T (Get page c options))) c h (get_begins (world_at T) (cookies_with T) (page_at T page) (is_busy page (pending T)) page c options)
-untaken_after T line (events.Have have) used h = untaken_same used.calls (begun T.rows) _ (begins_none T (events.Have have) refl) h
-untaken_after T line (events.At time) used h = untaken_same used.calls (begun T.rows) _ (begins_none T (events.At time) refl) h
-untaken_after T line (events.Load page url raw) used h = untaken_same used.calls (begun T.rows) _ (begins_none T (events.Load page url raw) refl) h
-untaken_after T line (events.ClosePage page) used h = untaken_same used.calls (begun T.rows) _ (begins_none T (events.ClosePage page) refl) h
-untaken_after T line (events.Abort call) used h = untaken_same used.calls (begun T.rows) _ (begins_none T (events.Abort call) refl) h
-untaken_after T line (events.Reply call provider kind raw) used h = untaken_same used.calls (begun T.rows) _ (begins_none T (events.Reply call provider kind raw) refl) h
-untaken_after T line (events.Choose call provider account) used h = untaken_same used.calls (begun T.rows) _ (begins_none T (events.Choose call provider account) refl) h
-untaken_after T line (events.GoOn call) used h = untaken_same used.calls (begun T.rows) _ (begins_none T (events.GoOn call) refl) h
-untaken_after T line (events.Cancel call) used h = untaken_same used.calls (begun T.rows) _ (begins_none T (events.Cancel call) refl) h
-untaken_after T line (events.SetStatus page status) used h = untaken_same used.calls (begun T.rows) _ (begins_none T (events.SetStatus page status) refl) h
 
 -- an event more
 pub at_after : (session session' : State) (used used' : UsedState) (written written' : List ℕ) (T : Trace) (n : ℕ) (line : List ℕ) (event : Event)

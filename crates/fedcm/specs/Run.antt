@@ -8,8 +8,10 @@ use Rattle.fed_script.specs.declared.cause.LineCause.{LineCause}
 use Rattle.fed_script.specs.declared.event.Event.{Event}
 use Rattle.fed_script.specs.declared.event.Header.{Header}
 use Rattle.fed_script.specs.Line.{event_of}
-use Rattle.fed_script.specs.Script.{Numbered, Events, Script, Stop, script_of, is_blank}
+use Rattle.fed_script.specs.declared.event.Numbered.{Numbered}
+use Rattle.fed_script.specs.Script.{Events, Script, Stop, script_of, is_blank}
 use Rattle.fed_script.specs.Used.{UsedState, used_after}
+use Rattle.fed_session.specs.OfScript.{start, with_events, trace_of}
 use Rattle.fed_session.specs.Records.{records}
 use Rattle.fed_session.specs.Row.{with_event}
 use Rattle.fed_session.specs.Session.{State, Stands}
@@ -23,19 +25,6 @@ use Rattle.fedcm.specs.Text.{bad_members, end_members}
 abbrev pub rows_text : List Row → List ℕ
 rows_text [] = []
 rows_text (row ∷ rows) = rows_text rows ++ text_of (records row)
-
--- the trace with these events more
-abbrev pub with_events : Trace → List Numbered → Trace
-with_events T [] = T
-with_events T (e ∷ es) = with_events (with_event T e.line e.event) es
-
--- nothing happened
-abbrev pub start : Header → Trace
-start header = record { header = header; rows = [] }
-
--- the whole trace of a script
-abbrev pub trace_of : Script → Trace
-trace_of script = with_events (start script.header) script.events
 
 -- what is written of a trace, and of its end
 abbrev pub ended_text : Trace → List ℕ

@@ -1,12 +1,16 @@
 //! The browser's part in federated sign-in, as a program: it reads a session script and writes its transcript.
 #![tactic(auto)]
 
+mod answer;
 #[cfg(test)]
 mod call_tests;
 #[cfg(test)]
 mod dialog_tests;
+mod form;
+pub mod laws;
 mod print;
 mod program;
+mod ran;
 mod read;
 mod run;
 mod status;
@@ -15,6 +19,9 @@ mod tests;
 #[cfg(test)]
 mod token_tests;
 mod top;
+mod twin;
+#[cfg(test)]
+mod twin_tests;
 
 use program::program;
 pub use status::Status;

@@ -1,5 +1,5 @@
-//! Reading the whole input.
-ghost use Rattle.std.specs.Prelude.{◌≡◌, ◌≤◌, ◌<◌, ◌+◌, length, IfOk, IfSome, IsErrOf};
+//! Reading the input.
+ghost use Rattle.std.specs.Prelude.{◌≡◌, ◌≤◌, ◌<◌, ◌+◌, length, IfOk, IsErrOf};
 ghost use Rattle.std.specs.Io.KnownBytes.{Consumes, IsAtEnd};
 ghost use Rattle.fed_io.specs.Io.{Rose};
 ghost use Rattle.fedcm.specs.Run.{TakesAtMost};
@@ -14,11 +14,10 @@ pub const LIMIT: usize = 67_108_864;
 // So many bytes are asked of the source at a time.
 const PIECE: usize = 65_536;
 
-/// Why the input was not read whole.
+/// Why the input was not read.
 #[derive(Clone, Copy, Debug, PartialEq, Eq)]
 pub enum ReadEnd {
     Fault,
-    TooLong,
     NoRoom,
 }
 
@@ -33,9 +32,8 @@ impl From<AllocError> for ReadEnd {
 /// Reads the source to its end, or up to one byte more than the limit.
 pub fn read_all<S: Source>(alloc: Global, source: &mut S) -> Result<Vec<u8>, ReadEnd>
     ensures bytes { IfOk result (λ bytes. Consumes (S.left source.old) (S.left source.new) bytes.items) }
-    ensures end { IfOk result (λ bytes. IsAtEnd (S.left source.new)) }
-    ensures limit { IfOk result (λ bytes. length bytes.items ≤ LIMIT) }
-    ensures too_long { IsErrOf result ReadEnd.TooLong → IfSome (S.left source.old) (λ bytes. LIMIT < length bytes) }
+    ensures end { IfOk result (λ bytes. length bytes.items ≤ LIMIT → IsAtEnd (S.left source.new)) }
+    ensures limit { IfOk result (λ bytes. length bytes.items ≤ LIMIT + 1) }
     ensures takes { TakesAtMost (S.left source.old) (S.left source.new) (LIMIT + 1) }
     ensures later { S.faults source.old ≤ S.faults source.new }
     ensures fault { IsErrOf result ReadEnd.Fault → Rose (S.faults source.old) (S.faults source.new) }
@@ -50,5 +48,5 @@ pub fn read_all<S: Source>(alloc: Global, source: &mut S) -> Result<Vec<u8>, Rea
             Ok(n) => bytes.extend_from_slice(&buffer[..n])?,
         }
     }
-    Err(ReadEnd::TooLong)
+    Ok(bytes)
 }

@@ -2,27 +2,22 @@
 ghost use Rattle.std.specs.Prelude.{◌≡◌, ◌<◌, ◌+◌, ◌^◌, length, [], IfOk, OnOk, None};
 ghost use Rattle.fed_script.specs.Script.{lines_of, events_of, no_events, script_of};
 ghost use Rattle.fed_script.specs.Used.{unused, HasOneProvider, HasKnownStatus};
+ghost use Rattle.fed_session.specs.OfScript.{start};
 ghost use Rattle.fed_session.specs.Row.{with_event};
 ghost use Rattle.fed_session.specs.Session.{Stands, IsFresh};
 ghost use Rattle.fed_session.specs.Trace.{Trace};
 ghost use Rattle.fed_print.specs.Lines.{line_of};
 ghost use Rattle.fedcm.specs.Text.{bad_members};
-ghost use Rattle.fedcm.specs.Run.{run_text, rows_text, outcome, last_written, start, IsAt, GoesAs, Follows, after_line, used_after_line, line_cause, script_status};
+ghost use Rattle.fedcm.specs.Run.{run_text, rows_text, outcome, last_written, IsAt, GoesAs, Follows, after_line, used_after_line, line_cause, script_status};
 
 use crate::print::{print_all, print_bad, print_end};
+use crate::ran::Ran;
 use crate::status::Status;
 use fed_io::{Fault, NoRoom, Steps};
 use fed_script::{Event, Header, LineCause, Used, is_blank, next_line, read_event, read_header};
 use fed_session::Session;
 use std::alloc::Global;
 use std::sync::ledger::Ledger;
-
-/// What is written for the bytes of an input, and how the run ends: Done for a script, else BadScript.
-#[derive(Drop)]
-pub struct Ran {
-    pub text: Vec<u8>,
-    pub status: Status,
-}
 
 // Takes an event, and writes its records.
 fn take_event<L: Ledger>(

@@ -18,6 +18,8 @@ pub enum Status {
     NoRoom,
     /// The source has more than 67,108,864 bytes.
     TooLong,
+    /// Two scripts are not twins.
+    NotTwins,
 }
 
 impl Status {
@@ -35,6 +37,7 @@ impl Status {
             Status::WriteFault => 4,
             Status::NoRoom => 5,
             Status::TooLong => 6,
+            Status::NotTwins => 7,
         }
     }
 }

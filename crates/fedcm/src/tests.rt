@@ -225,7 +225,7 @@ fn other_words_are_no_form(rt: HostRuntime) -> Result<(), Fail> {
     let alloc = rt.alloc();
     assert!(rt; gives(alloc, &[], &[HEADER], Status::Usage, &[])?);
     assert!(rt; gives(alloc, &["run", "run"], &[HEADER], Status::Usage, &[])?);
-    for word in ["make", "make x", "make 0", "twin", ""] {
+    for word in ["make", "make x", "make 0", "twins", ""] {
         assert!(rt;
             gives(alloc, &[word], &[HEADER], Status::Usage, &[])?,
             "{word}"

@@ -1,0 +1,5 @@
+use Rattle.fed_script.proofs.ReadLemmas.{readable}
+use Rattle.fed_script.proofs.laws.scripts_are_readable.Goals as goal
+
+pub returns : goal.returns
+returns c = readable

@@ -1,0 +1,14 @@
+use Rattle.std.proofs.Common.{◌∙◌, ap}
+use Rattle.fed_session.specs.Row.{row_of}
+use Rattle.fed_twin.specs.Compare.{quiet_count}
+use Rattle.fed_twin.proofs.CompareLemmas.{count_of_row}
+use Rattle.fed_twin.proofs.comparison.take_event.Goals as goal
+
+pub returns : goal.returns
+returns g c =
+    λ T stands.
+    let row = c.in_ok-outs.ensures.row T stands in (
+      c.requests_among-found.ensures ∙ ap quiet_count (c.as_slice.ensures ∙ row.0) ∙ count_of_row
+          (row_of T c.args.n.now.line c.args.n.now.event),
+      row.1,
+    )

@@ -1,0 +1,5 @@
+use Rattle.fed_twin.proofs.OriginsLemmas.{numbers_decide_lem}
+use Rattle.fed_twin.proofs.laws.numbers_decide.Goals as goal
+
+pub returns : goal.returns
+returns c = numbers_decide_lem

@@ -1,0 +1,5 @@
+use Rattle.fed_twin.proofs.TokensLemmas.{one_token_lem}
+use Rattle.fed_twin.proofs.laws.one_token.Goals as goal
+
+pub returns : goal.returns
+returns c = one_token_lem

@@ -1,0 +1,14 @@
+pub mod Script
+pub mod Providers
+pub mod Twin
+pub mod Origins
+pub mod Names
+pub mod Fault
+pub mod Clauses
+pub mod Seen
+pub mod Same
+pub mod Pairs
+pub mod Jars
+pub mod Tokens
+pub mod Compare
+pub mod Laws

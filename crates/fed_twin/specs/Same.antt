@@ -1,0 +1,79 @@
+-- What is the same of a call, and of all that happened, in two worlds that providers cannot tell apart.
+use Rattle.std.specs.Prelude.{◌≡◌, ℕ, Bool, true, false, length, Option, Some, None, is_some, IfSome, ⊤, ◌⊎◌}
+use Rattle.std.specs.List.{AllZip}
+use Rattle.fed_origin.specs.declared.options.GetOptions.{GetOptions}
+use Rattle.fed_origin.specs.declared.options.ProviderOptions.{ProviderOptions}
+use Rattle.fed_origin.specs.declared.stage.Stage.{Stage}
+use Rattle.fed_origin.specs.declared.stage.Stage.TheVariants as stages
+use Rattle.fed_origin.specs.WebUrl.{host_of}
+use Rattle.fed_consent.specs.Consent.{Listed}
+use Rattle.fed_call.specs.Facts.{Facts}
+use Rattle.fed_session.specs.Known.{facts_at}
+use Rattle.fed_session.specs.Trace.{Trace}
+use Rattle.fed_twin.specs.Providers.{Providers, is_provider}
+use Rattle.fed_twin.specs.Seen.{view}
+use Rattle.fed_twin.specs.Twin.{SharesProvider}
+
+-- both are there and so related, or neither is
+abbrev pub IfBoth : {A B : Type 0} → (A → B → Type 0) → Option A → Option B → Type 0
+IfBoth R None None = ⊤
+IfBoth R (Some a) (Some b) = R a b
+IfBoth R None (Some b) = ⊥
+IfBoth R (Some a) None = ⊥
+
+-- ---- one call
+
+-- the same provider, which is one of those that the worlds speak of
+pub record SameProvider (p : Providers) (a b : ProviderOptions) : Type 0 where
+  pub shares : SharesProvider a b
+  pub known : is_provider p (host_of a.config) ≡ true
+
+pub record SameOptions (p : Providers) (a b : GetOptions) : Type 0 where
+  pub mediation : a.mediation ≡ b.mediation
+  pub mode : a.mode ≡ b.mode
+  pub providers : AllZip (SameProvider p) a.providers b.providers
+
+-- the same accounts are offered; which of them are connected is not said
+pub record SameListed (a b : Listed) : Type 0 where
+  pub accounts : a.accounts ≡ b.accounts
+  pub connected : length a.connected ≡ length b.connected
+
+-- a call goes on, and asked for no token
+abbrev pub is_open : Stage → Bool
+is_open stages.Reading = true
+is_open stages.Listing = true
+is_open stages.Mismatch = true
+is_open stages.Choosing = true
+is_open stages.Prompting = true
+is_open stages.Asserting = false
+is_open stages.Ended = false
+
+-- What the replies and the user said is the same. Which accounts are connected, which one is shown and whether a prompt waits is not said.
+pub record SameData (p : Providers) (f f' : Facts) : Type 0 where
+  pub options : SameOptions p f.options f'.options
+  pub heard : f.heard ≡ f'.heard
+  pub config : f.config ≡ f'.config
+  pub known : IfSome f.config (λ config. is_provider p (host_of config.accounts) ≡ true)
+  pub listed : IfBoth SameListed f.listed f'.listed
+
+pub record SameFacts (p : Providers) (f f' : Facts) : Type 0 where
+  pub stage : f.stage ≡ f'.stage
+  pub goes_on : is_open f.stage ≡ true
+  -- past Reading its configuration is known
+  pub past : (f.stage ≡ stages.Reading) ⊎ (is_some f.config ≡ true)
+  pub said : SameData p f f'
+
+-- The call is the same in both worlds: it is over or never began in both, or goes on in the same way. Events without a call use three facts of
+-- it alone: the stages are equal; it holds again where what is known is what it was; and where nothing is known in either world.
+abbrev pub SameCall : Providers → Option Facts → Option Facts → Type 0
+SameCall p f f' = IfBoth (SameFacts p) f f'
+
+-- ---- the worlds
+
+pub record SameWorlds (p : Providers) (T U : Trace) : Type 0 where
+  pub rules : T.header.rules ≡ p.rules
+  pub rules' : U.header.rules ≡ p.rules
+  pub now : T.header.now ≡ U.header.now
+  -- providers could tell the same of what happened
+  pub seen : view p T.rows ≡ view p U.rows
+  pub calls : (call : ℕ) → SameCall p (facts_at T call) (facts_at U call)

@@ -1,0 +1,57 @@
+-- What providers can tell of what happened.
+use Rattle.std.specs.Prelude.{ℕ, Bool, List, Option, Some, None, if◌then◌else◌}
+use Rattle.fed_origin.specs.declared.origin.Origin.{Origin}
+use Rattle.fed_origin.specs.declared.stage.Stage.{Stage}
+use Rattle.fed_origin.specs.declared.stage.Stage.TheVariants as stages
+use Rattle.fed_origin.specs.declared.status.LoginStatus.{LoginStatus}
+use Rattle.fed_origin.specs.Origin.{is_trustworthy}
+use Rattle.fed_jar.specs.Cookie.{StoredCookie}
+use Rattle.fed_consent.specs.declared.ask.Ask.{Ask}
+use Rattle.fed_consent.specs.declared.ask.Ask.TheVariants as asks
+use Rattle.fed_session.specs.Effect.{Effect}
+use Rattle.fed_session.specs.Effect as does
+use Rattle.fed_session.specs.Trace.{Row, all_said}
+use Rattle.fed_twin.specs.Providers.{Providers, is_provider}
+
+pub data Seen : Type 0 where
+  Time : (time : ℕ) → Seen
+  -- the page stands, is trustworthy or not, and its origin where a provider has its party
+  Page : (page : ℕ) → (trusted : Bool) → (origin : Option Origin) → Seen
+  Closed : (page : ℕ) → Seen
+  Cookie : (cookie : StoredCookie) → Seen
+  Login : (origin : Origin) → (status : LoginStatus) → Seen
+  Begin : (call page : ℕ) → Seen
+  Ended : (call : ℕ) → Seen
+  Sent : (call provider : ℕ) → (ask : Ask) → (cookies : List ℕ) → Seen
+
+-- of an origin only whether it is trustworthy, unless a provider has its party
+abbrev pub told_origin : Providers → Origin → Option Origin
+told_origin p origin = if is_provider p origin.host then Some origin else None
+
+abbrev pub seen_move : ℕ → Stage → Option Seen
+seen_move call stages.Ended = Some (Ended call)
+seen_move call _ = None
+
+abbrev pub seen_sent : ℕ → ℕ → Ask → List ℕ → Option Seen
+seen_sent call provider (asks.WellKnown to) cookies = Some (Sent call provider (asks.WellKnown to) cookies)
+seen_sent call provider (asks.Config to) cookies = Some (Sent call provider (asks.Config to) cookies)
+seen_sent call provider (asks.Accounts to) cookies = Some (Sent call provider (asks.Accounts to) cookies)
+seen_sent call provider _ cookies = None
+
+-- what providers can tell of an effect
+abbrev pub seen : Providers → Effect → Option Seen
+seen p (does.Time time) = Some (Time time)
+seen p (does.Page page origin) = Some (Page page (is_trustworthy origin) (told_origin p origin))
+seen p (does.Closed page) = Some (Closed page)
+seen p (does.Cookie cookie) = if is_provider p cookie.domain then Some (Cookie cookie) else None
+seen p (does.Login origin status) = if is_provider p origin.host then Some (Login origin status) else None
+seen p (does.Begin begun) = Some (Begin begun.call begun.page)
+seen p (does.Move call stage) = seen_move call stage
+seen p (does.Sent call provider ask cookies) = seen_sent call provider ask cookies
+seen p (does.Shown call dialog) = None
+seen p (does.Result call page finish) = None
+seen p (does.Ignored why) = None
+
+-- what they can tell of rows, in their order
+abbrev pub view : Providers → List Row → List Seen
+view p rows = all_said (seen p) rows

@@ -1,0 +1,5 @@
+use Rattle.fedcm.proofs.AlikeLemmas.{halves_run_alike_lem}
+use Rattle.fedcm.proofs.laws.halves_run_alike.Goals as goal
+
+pub returns : goal.returns
+returns c = halves_run_alike_lem

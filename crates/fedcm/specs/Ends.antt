@@ -1,0 +1,109 @@
+-- How each form ends for the bytes of its source where nothing fails, and what it writes.
+use Rattle.std.specs.Prelude.{◌≡◌, ℕ, ◌≤◌, nat_lt, Bool, true, false, List, [], length, Option, Some, None, Result, Ok, Err, ◌↔◌, ⊤, if◌then◌else◌}
+use Rattle.std.specs.Io.KnownBytes.{Appends}
+use Rattle.fed_io.specs.Io.{AppendsFront}
+use Rattle.fed_script.specs.declared.cause.PairStop.{PairStop}
+use Rattle.fed_script.specs.declared.pair.Pair.{Pair}
+use Rattle.fed_script.specs.Pair.{pair_of, bad_within}
+use Rattle.fed_script.specs.Script.{Script}
+use Rattle.fed_print.specs.Lines.{line_of}
+use Rattle.fed_twin.specs.declared.fault.TwinFault.{TwinFault}
+use Rattle.fed_twin.specs.Compare.{IsQuietLength}
+use Rattle.fed_twin.specs.Fault.{TwinFaultOf}
+use Rattle.fed_twin.specs.Script.{sign_in}
+use Rattle.fed_twin.specs.Twin.{Twin}
+use Rattle.fedcm.specs.declared.form.Form.{Form}
+use Rattle.fedcm.specs.declared.form.Form.TheVariants.{Run, Twin as TwinForm}
+use Rattle.fedcm.specs.declared.status.Status.{Status}
+use Rattle.fedcm.specs.declared.status.Status.TheVariants.{Done, BadScript, TooLong, NotTwins}
+use Rattle.fedcm.specs.Run.{run_text, run_status}
+use Rattle.fedcm.specs.Text.{pair_members, twins_members, not_twins_members}
+
+-- ---- run
+
+-- what a run writes: nothing where the bytes are more than the limit
+abbrev pub run_written : ℕ → List ℕ → List ℕ
+run_written limit bytes = if nat_lt limit (length bytes) then [] else run_text bytes
+
+abbrev pub EndsRun : ℕ → List ℕ → Status → List ℕ → Type 0
+EndsRun limit bytes status text = (status ≡ run_status limit bytes) × (text ≡ run_written limit bytes)
+
+-- ---- twin
+
+-- two scripts are twins: how far they are quiet, and how many sign-in requests the first sends up to there
+pub record TellsTwins (a b : Script) (status : Status) (text : List ℕ) : Type 0 where
+  pub quiet : ℕ
+  pub is_quiet : IsQuietLength a b quiet
+  pub ends : status ≡ Done
+  pub writes : text ≡ line_of (twins_members (length (sign_in a quiet)) quiet)
+
+-- what is told of two scripts for what the twin test found of them
+abbrev pub TellsFound : Script → Script → Option TwinFault → Status → List ℕ → Type 0
+TellsFound a b None status text = TellsTwins a b status text
+TellsFound a b (Some fault) status text = (status ≡ NotTwins) × (text ≡ line_of (not_twins_members fault))
+
+-- the answer for two scripts
+pub record TellsScripts (a b : Script) (status : Status) (text : List ℕ) : Type 0 where
+  pub found : Option TwinFault
+  pub is_found : TwinFaultOf a b found
+  pub twins : (found ≡ None) ↔ Twin a b
+  pub tells : TellsFound a b found status text
+
+-- a line is bad or missing
+abbrev pub TellsStop : PairStop → Status → List ℕ → Type 0
+TellsStop stop status text = (status ≡ BadScript) × (text ≡ line_of (pair_members stop))
+
+-- all bytes were read
+abbrev pub TellsPair : Result Pair PairStop → Status → List ℕ → Type 0
+TellsPair (Ok pair) status text = TellsScripts pair.first pair.second status text
+TellsPair (Err stop) status text = TellsStop stop status text
+
+-- the bytes are more than the limit: a bad line that ends within it is named
+abbrev pub TellsCut : Option PairStop → Status → List ℕ → Type 0
+TellsCut None status text = (status ≡ TooLong) × (text ≡ [])
+TellsCut (Some stop) status text = TellsStop stop status text
+
+abbrev pub EndsTwinBy : Bool → ℕ → List ℕ → Status → List ℕ → Type 0
+EndsTwinBy true limit bytes status text = TellsCut (bad_within limit bytes) status text
+EndsTwinBy false limit bytes status text = TellsPair (pair_of bytes) status text
+
+abbrev pub EndsTwin : ℕ → List ℕ → Status → List ℕ → Type 0
+EndsTwin limit bytes status text = EndsTwinBy (nat_lt limit (length bytes)) limit bytes status text
+
+-- ---- both
+
+-- for these bytes of its source the form ends with the status, and writes the text
+abbrev pub Ends : ℕ → Form → List ℕ → Status → List ℕ → Type 0
+Ends limit Run bytes status text = EndsRun limit bytes status text
+Ends limit TwinForm bytes status text = EndsTwin limit bytes status text
+
+-- the statuses by which a form ends where nothing fails
+abbrev pub HasEnded : Status → Type 0
+HasEnded Done = ⊤
+HasEnded BadScript = ⊤
+HasEnded TooLong = ⊤
+HasEnded NotTwins = ⊤
+HasEnded _ = ⊥
+
+-- of bytes within the limit nothing was left
+abbrev pub IsWhole : ℕ → List ℕ → List ℕ → Type 0
+IsWhole limit bytes more = length bytes ≤ limit → more ≡ []
+
+-- the words are a form, which ends so for these bytes with some text
+pub record EndsAs (limit : ℕ) (form : Option Form) (bytes : List ℕ) (status : Status) : Type 0 where
+  pub is : Form
+  pub named : form ≡ Some is
+  pub text : List ℕ
+  pub ends : Ends limit is bytes status text
+
+-- and the sink took the whole text
+pub record Writes (limit : ℕ) (form : Option Form) (bytes : List ℕ) (status : Status) (old new : Option (List ℕ)) : Type 0 where
+  pub ends : EndsAs limit form bytes status
+  pub took : Appends old new ends.text
+
+-- the sink took a front of a text that would have been written
+pub record WritesFront (limit : ℕ) (form : Option Form) (bytes : List ℕ) (old new : Option (List ℕ)) : Type 0 where
+  pub status : Status
+  pub ends : EndsAs limit form bytes status
+  pub some : ¬ (status ≡ TooLong)
+  pub took : AppendsFront old new ends.text
