@@ -1,1 +1,1 @@
-pub mod FirstLemmas
+pub mod ids

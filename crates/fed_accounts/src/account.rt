@@ -1,7 +1,7 @@
 //! Accounts.
 ghost use Rattle.std.specs.Prelude.{◌≡◌, IfOk};
 
-use fed_io::{Items, NoRoom, Text};
+use fed_io::{Items, NoRoom, Text, copy_text, copy_texts};
 use std::alloc::Global;
 
 /// An account of the user at a provider (FedCM, IdentityProviderAccount).
@@ -59,16 +59,6 @@ impl Account {
     }
 }
 
-// The same text, where there is one.
-fn copy_text(alloc: Global, text: &Option<Text>) -> Result<Option<Text>, NoRoom>
-    ensures { IfOk result (λ copy. copy ≡ text.now) }
-{
-    match text {
-        Some(text) => Ok(Some(text.copy(alloc)?)),
-        None => Ok(None),
-    }
-}
-
 // The same list, where there is one.
 fn copy_list(alloc: Global, texts: &Option<Items<Text>>) -> Result<Option<Items<Text>>, NoRoom>
     ensures { IfOk result (λ copy. copy ≡ texts.now) }
@@ -77,15 +67,4 @@ fn copy_list(alloc: Global, texts: &Option<Items<Text>>) -> Result<Option<Items<
         Some(texts) => Ok(Some(copy_texts(alloc, texts.as_slice())?)),
         None => Ok(None),
     }
-}
-
-// The same texts, in their order.
-fn copy_texts(alloc: Global, texts: &[Text]) -> Result<Items<Text>, NoRoom>
-    ensures { IfOk result (λ copy. copy ≡ texts.now) }
-{
-    let mut copy = Items::new(alloc);
-    for text in texts {
-        copy.push(text.copy(alloc)?)?;
-    }
-    Ok(copy)
 }

@@ -10,7 +10,7 @@ ghost use Rattle.fed_accounts.specs.Read as spec;
 
 use crate::firsts::first_of_each_id;
 use crate::{Account, Accounts, AccountsStep};
-use fed_io::{Fault, Items, NoRoom, Text};
+use fed_io::{Fault, Items, NoRoom, Text, text_of};
 use fed_reply::{Member, list_member, read_json, text_member};
 use serde_json::Value;
 use std::alloc::Global;
@@ -137,22 +137,12 @@ fn read_lists(
         id: Text::of(alloc, texts.id)?,
         name: Text::of(alloc, texts.name)?,
         email: Text::of(alloc, texts.email)?,
-        given_name: copy_text(alloc, texts.given_name)?,
-        picture: copy_text(alloc, texts.picture)?,
+        given_name: text_of(alloc, texts.given_name)?,
+        picture: text_of(alloc, texts.picture)?,
         approved,
         login_hints,
         domain_hints,
     })
-}
-
-// A copy of the text, where there is one.
-fn copy_text(alloc: Global, text: Option<&str>) -> Result<Option<Text>, NoRoom>
-    ensures { IfOk result (λ copy. copy ≡ option_copied text.entry) }
-{
-    match text {
-        Some(text) => Ok(Some(Text::of(alloc, text)?)),
-        None => Ok(None),
-    }
 }
 
 // A list of texts that may be left out.

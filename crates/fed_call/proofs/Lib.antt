@@ -1,3 +1,3 @@
-mod ConsentLemmas
-mod ListLemmas
-mod RowLemmas
+pub mod agreed
+pub mod lists
+pub mod table

@@ -9,13 +9,13 @@ use Rattle.fed_provider.specs.declared.config.Config.{Config as Configuration}
 use Rattle.fed_token.specs.declared.step.TokenStep.{TokenStep}
 use Rattle.fed_token.specs.declared.step.TokenStep.TheVariants as token_steps
 use Rattle.fed_token.specs.Read.{AssertionOf}
-use Rattle.fed_consent.specs.declared.ask.Ask.TheVariants.{Assertion}
-use Rattle.fed_consent.specs.declared.effect.Effect.TheVariants.{Send}
-use Rattle.fed_consent.specs.declared.finish.Detail.TheVariants as details
-use Rattle.fed_consent.specs.declared.finish.FailStep.TheVariants as steps
-use Rattle.fed_consent.specs.declared.finish.Finish.{Finish}
-use Rattle.fed_consent.specs.declared.finish.Finish.TheVariants.{Token, Failed, ProviderError}
-use Rattle.fed_consent.specs.declared.why.Why.TheVariants.{NotWaited}
+use Rattle.fed_consent.specs.declared.table.ask.Ask.TheVariants.{Assertion}
+use Rattle.fed_consent.specs.declared.table.effect.Effect.TheVariants.{Send}
+use Rattle.fed_consent.specs.declared.table.finish.Detail.TheVariants as details
+use Rattle.fed_consent.specs.declared.table.finish.FailStep.TheVariants as steps
+use Rattle.fed_consent.specs.declared.table.finish.Finish.{Finish}
+use Rattle.fed_consent.specs.declared.table.finish.Finish.TheVariants.{Token, Failed, ProviderError}
+use Rattle.fed_consent.specs.declared.table.why.Why.TheVariants.{NotWaited}
 use Rattle.fed_consent.specs.Consent.{Agreement, assertion_fields}
 use Rattle.fed_call.specs.Facts.{Facts, Outcome}
 use Rattle.fed_call.specs.Outcomes.{finishes, ignored, stays, moves, plain, detailed}

@@ -8,11 +8,11 @@ use Rattle.fed_origin.specs.declared.stage.ReplyKind.TheVariants as kinds
 use Rattle.fed_provider.specs.declared.metadata.PolicyLinks.{PolicyLinks}
 use Rattle.fed_provider.specs.Metadata.{MetadataOf}
 use Rattle.fed_status.specs.Shared.{World}
-use Rattle.fed_consent.specs.declared.finish.FailStep.TheVariants as steps
-use Rattle.fed_consent.specs.declared.why.Why.TheVariants.{NotWaited, NotOffered, NoAccount}
+use Rattle.fed_consent.specs.declared.table.finish.FailStep.TheVariants as steps
+use Rattle.fed_consent.specs.declared.table.why.Why.TheVariants.{NotWaited, NotOffered, NoAccount}
 use Rattle.fed_consent.specs.Consent.{Agreement, Candidate, agreement, chosen}
-use Rattle.fed_consent.specs.declared.manner.Manner.{Manner}
-use Rattle.fed_consent.specs.declared.manner.Manner.TheVariants.{Chosen, Prompted}
+use Rattle.fed_consent.specs.declared.consent.manner.Manner.{Manner}
+use Rattle.fed_consent.specs.declared.consent.manner.Manner.TheVariants.{Chosen, Prompted}
 use Rattle.fed_call.specs.AssertingRows.{asserts}
 use Rattle.fed_call.specs.Facts.{Facts, Outcome, provider_at}
 use Rattle.fed_call.specs.Outcomes.{fails, ignored, stays, moves, plain}

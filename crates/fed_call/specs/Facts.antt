@@ -16,10 +16,10 @@ use Rattle.fed_provider.specs.Config.{ConfigOf}
 use Rattle.fed_accounts.specs.declared.account.Account.{Account}
 use Rattle.fed_accounts.specs.declared.step.AccountsStep.{AccountsStep}
 use Rattle.fed_status.specs.Shared.{World}
-use Rattle.fed_consent.specs.declared.effect.Effect.{Effect}
-use Rattle.fed_consent.specs.declared.effect.Effect.TheVariants.{Ignored}
-use Rattle.fed_consent.specs.declared.input.Input.{Input}
-use Rattle.fed_consent.specs.declared.input.Input.TheVariants.{Reply, Choose}
+use Rattle.fed_consent.specs.declared.table.effect.Effect.{Effect}
+use Rattle.fed_consent.specs.declared.table.effect.Effect.TheVariants.{Ignored}
+use Rattle.fed_consent.specs.declared.table.input.Input.{Input}
+use Rattle.fed_consent.specs.declared.table.input.Input.TheVariants.{Reply, Choose}
 use Rattle.fed_consent.specs.Consent.{Listed, Candidate, chosen}
 use Rattle.fed_call.specs.Accounts.{accounts_of, listed_of, candidate_of, needs_metadata}
 

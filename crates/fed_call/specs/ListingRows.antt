@@ -20,13 +20,13 @@ use Rattle.fed_accounts.specs.declared.account.Account.{Account}
 use Rattle.fed_accounts.specs.declared.step.AccountsStep.{AccountsStep}
 use Rattle.fed_status.specs.Login.{status_of}
 use Rattle.fed_status.specs.Shared.{World}
-use Rattle.fed_consent.specs.declared.ask.Ask.TheVariants.{Metadata}
-use Rattle.fed_consent.specs.declared.dialog.Dialog.TheVariants as dialogs
-use Rattle.fed_consent.specs.declared.dialog.Shown.{Shown}
-use Rattle.fed_consent.specs.declared.effect.Effect.{Effect}
-use Rattle.fed_consent.specs.declared.effect.Effect.TheVariants.{Send, Dialog, SetLogin}
-use Rattle.fed_consent.specs.declared.finish.Failure.{Failure}
-use Rattle.fed_consent.specs.declared.why.Why.TheVariants.{NotWaited}
+use Rattle.fed_consent.specs.declared.table.ask.Ask.TheVariants.{Metadata}
+use Rattle.fed_consent.specs.declared.table.dialog.Dialog.TheVariants as dialogs
+use Rattle.fed_consent.specs.declared.table.dialog.Shown.{Shown}
+use Rattle.fed_consent.specs.declared.table.effect.Effect.{Effect}
+use Rattle.fed_consent.specs.declared.table.effect.Effect.TheVariants.{Send, Dialog, SetLogin}
+use Rattle.fed_consent.specs.declared.table.finish.Failure.{Failure}
+use Rattle.fed_consent.specs.declared.table.why.Why.TheVariants.{NotWaited}
 use Rattle.fed_consent.specs.Consent.{Listed, Candidate}
 use Rattle.fed_call.specs.Accounts.{accounts_of, listed_of, candidate_of}
 use Rattle.fed_call.specs.Facts.{Facts, Outcome, metadata_endpoint}

@@ -6,16 +6,16 @@ use Rattle.fed_provider.specs.declared.step.ProviderStep.{ProviderStep}
 use Rattle.fed_provider.specs.declared.step.ProviderStep.TheVariants as provider_steps
 use Rattle.fed_accounts.specs.declared.step.AccountsStep.{AccountsStep}
 use Rattle.fed_accounts.specs.declared.step.AccountsStep.TheVariants as accounts_steps
-use Rattle.fed_consent.specs.declared.effect.Effect.{Effect}
-use Rattle.fed_consent.specs.declared.effect.Effect.TheVariants as acts
-use Rattle.fed_consent.specs.declared.finish.Detail.{Detail}
-use Rattle.fed_consent.specs.declared.finish.Detail.TheVariants as details
-use Rattle.fed_consent.specs.declared.finish.FailStep.{FailStep}
-use Rattle.fed_consent.specs.declared.finish.FailStep.TheVariants as steps
-use Rattle.fed_consent.specs.declared.finish.Failure.{Failure}
-use Rattle.fed_consent.specs.declared.finish.Finish.{Finish}
-use Rattle.fed_consent.specs.declared.finish.Finish.TheVariants.{Failed}
-use Rattle.fed_consent.specs.declared.why.Why.{Why}
+use Rattle.fed_consent.specs.declared.table.effect.Effect.{Effect}
+use Rattle.fed_consent.specs.declared.table.effect.Effect.TheVariants as acts
+use Rattle.fed_consent.specs.declared.table.finish.Detail.{Detail}
+use Rattle.fed_consent.specs.declared.table.finish.Detail.TheVariants as details
+use Rattle.fed_consent.specs.declared.table.finish.FailStep.{FailStep}
+use Rattle.fed_consent.specs.declared.table.finish.FailStep.TheVariants as steps
+use Rattle.fed_consent.specs.declared.table.finish.Failure.{Failure}
+use Rattle.fed_consent.specs.declared.table.finish.Finish.{Finish}
+use Rattle.fed_consent.specs.declared.table.finish.Finish.TheVariants.{Failed}
+use Rattle.fed_consent.specs.declared.table.why.Why.{Why}
 use Rattle.fed_call.specs.Facts.{Outcome}
 
 -- the page gets this, and the call is over

@@ -20,12 +20,12 @@ use Rattle.fed_provider.specs.declared.config.Config.{Config as Configuration}
 use Rattle.fed_provider.specs.WellKnown.{WellKnownUrlOf, WellKnownOf}
 use Rattle.fed_status.specs.Login.{status_of}
 use Rattle.fed_status.specs.Shared.{World}
-use Rattle.fed_consent.specs.declared.ask.Ask.TheVariants.{WellKnown, Config, Accounts}
-use Rattle.fed_consent.specs.declared.effect.Effect.{Effect}
-use Rattle.fed_consent.specs.declared.effect.Effect.TheVariants.{Send}
-use Rattle.fed_consent.specs.declared.finish.FailStep.{FailStep}
-use Rattle.fed_consent.specs.declared.finish.FailStep.TheVariants as steps
-use Rattle.fed_consent.specs.declared.why.Why.TheVariants.{NotWaited}
+use Rattle.fed_consent.specs.declared.table.ask.Ask.TheVariants.{WellKnown, Config, Accounts}
+use Rattle.fed_consent.specs.declared.table.effect.Effect.{Effect}
+use Rattle.fed_consent.specs.declared.table.effect.Effect.TheVariants.{Send}
+use Rattle.fed_consent.specs.declared.table.finish.FailStep.{FailStep}
+use Rattle.fed_consent.specs.declared.table.finish.FailStep.TheVariants as steps
+use Rattle.fed_consent.specs.declared.table.why.Why.TheVariants.{NotWaited}
 use Rattle.fed_call.specs.Facts.{Outcome, provider_at, config_read}
 use Rattle.fed_call.specs.Outcomes.{fails, ignored, stays, moves, plain, provider_failure}
 

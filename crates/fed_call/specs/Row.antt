@@ -4,10 +4,10 @@ use Rattle.fed_origin.specs.declared.stage.Stage.{Stage}
 use Rattle.fed_origin.specs.declared.stage.Stage.TheVariants.{Reading, Listing, Mismatch, Choosing, Prompting, Asserting, Ended}
 use Rattle.fed_origin.specs.declared.stage.ReplyKind.{ReplyKind}
 use Rattle.fed_status.specs.Shared.{World}
-use Rattle.fed_consent.specs.declared.finish.FailStep.TheVariants as steps
-use Rattle.fed_consent.specs.declared.input.Input.{Input}
-use Rattle.fed_consent.specs.declared.input.Input.TheVariants as inputs
-use Rattle.fed_consent.specs.declared.why.Why.TheVariants.{CallEnded, NotWaited, NotOffered}
+use Rattle.fed_consent.specs.declared.table.finish.FailStep.TheVariants as steps
+use Rattle.fed_consent.specs.declared.table.input.Input.{Input}
+use Rattle.fed_consent.specs.declared.table.input.Input.TheVariants as inputs
+use Rattle.fed_consent.specs.declared.table.why.Why.TheVariants.{CallEnded, NotWaited, NotOffered}
 use Rattle.fed_call.specs.Facts.{Facts, Outcome, provider_at}
 pub use Rattle.fed_call.specs.Outcomes.{finishes, fails, ignored, stays, plain, detailed, provider_failure}
 pub use Rattle.fed_call.specs.ReadingRows.{start_row}

@@ -13,7 +13,7 @@ wellknown config ann u1 | not-offered | prompting";
 const SIGN_UP: &str = "wellknown linked both u2 links go | asserts u2, disclosed | asserting
 wellknown linked both u2 links go token | token | ended";
 
-// The user goes on before the links are shown, and again after he went on.
+// The user goes on before the links are shown, and again afterwards.
 const TOO_EARLY: &str = "wellknown linked ann go | not-offered | prompting
 wellknown linked ann go links go | asserts u1, disclosed | asserting
 wellknown linked ann go links go go | not-offered | asserting

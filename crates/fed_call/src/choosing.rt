@@ -1,6 +1,6 @@
 //! A call whose user is to choose an account.
 ghost use Rattle.std.specs.Prelude.{◌≡◌, ◌∷◌, [], Some, false, IfOk, unwrap_or};
-ghost use Rattle.fed_consent.specs.declared.input.Input.TheVariants as inputs;
+ghost use Rattle.fed_consent.specs.declared.table.input.Input.TheVariants as inputs;
 ghost use Rattle.fed_consent.specs.Consent.{chosen};
 ghost use Rattle.fed_call.specs.Begun.{options_of};
 ghost use Rattle.fed_call.specs.DialogRows as spec;

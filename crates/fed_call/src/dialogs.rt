@@ -4,7 +4,7 @@ ghost use Rattle.std.specs.Option.{option_copied};
 ghost use Rattle.url.specs.Parts.{serialize};
 ghost use Rattle.fed_suffix.specs.Registrable.{party};
 ghost use Rattle.fed_status.specs.Shared.{world_of};
-ghost use Rattle.fed_consent.specs.declared.effect.Effect.TheVariants as effects;
+ghost use Rattle.fed_consent.specs.declared.table.effect.Effect.TheVariants as effects;
 ghost use Rattle.fed_call.specs.Facts.{metadata_endpoint};
 ghost use Rattle.fed_call.specs.ListingRows as spec;
 ghost use Rattle.fed_call.specs.State.{begun_facts};
@@ -12,7 +12,7 @@ ghost use Rattle.fed_call.specs.State.{begun_facts};
 use crate::begun::Call;
 use fed_accounts::Account;
 use fed_consent::{Ask, Chooser, Dialog, Effect, Prompt, Shown};
-use fed_io::{Items, NoRoom, Text};
+use fed_io::{Items, NoRoom, Text, copy_text};
 use fed_origin::{Host, WebUrl};
 use fed_provider::PolicyLinks;
 use fed_status::Shared;
@@ -40,15 +40,6 @@ pub fn site(alloc: Global, rules: &Suffixes, host: &Host) -> Result<Text, NoRoom
     match rules.registrable(host) {
         Some(domain) => Text::of(alloc, domain_text(domain)),
         None => host.text.copy(alloc),
-    }
-}
-
-fn copy_text(alloc: Global, text: &Option<Text>) -> Result<Option<Text>, NoRoom>
-    ensures { IfOk result (λ copy. copy ≡ text.now) }
-{
-    match text {
-        Some(text) => Ok(Some(text.copy(alloc)?)),
-        None => Ok(None),
     }
 }
 

@@ -1,7 +1,7 @@
 //! A call whose accounts are awaited.
 ghost use Rattle.std.specs.Prelude.{◌≡◌, ◌<◌, ◌≤◌, ◌∷◌, [], Some, IfOk, length, map, unwrap_or};
 ghost use Rattle.fed_origin.specs.WebUrl.{origin_of};
-ghost use Rattle.fed_consent.specs.declared.input.Input.TheVariants as inputs;
+ghost use Rattle.fed_consent.specs.declared.table.input.Input.TheVariants as inputs;
 ghost use Rattle.fed_call.specs.Accounts.{connects, needs_metadata};
 ghost use Rattle.fed_call.specs.Begun.{options_of};
 ghost use Rattle.fed_call.specs.Facts.{facts_after, at_stage, provider_at, with_accounts, with_listing};
@@ -148,7 +148,7 @@ impl Listing {
         Ok((CallState::Ended(Ended), effects))
     }
 
-    // The user is shown that the provider gave no account, though it had said that he is logged in.
+    // The user is shown that the provider gave no account, though it had said that the user is logged in.
     fn shows_mismatch(
         self,
         alloc: Global,

@@ -15,7 +15,7 @@ use fed_provider::Config;
 use fed_status::Shared;
 use std::alloc::Global;
 
-/// A call whose user is shown that the provider gave no account, though it had said that he is logged in.
+/// A call whose user is shown that the provider gave no account, though it had said that the user is logged in.
 pub struct Mismatch {
     pub(crate) begun: Call,
     pub(crate) config: Config,

@@ -1,6 +1,6 @@
 //! A call whose user is to go on with an account.
 ghost use Rattle.std.specs.Prelude.{◌≡◌, ◌∷◌, [], false, IfOk, unwrap_or};
-ghost use Rattle.fed_consent.specs.declared.input.Input.TheVariants as inputs;
+ghost use Rattle.fed_consent.specs.declared.table.input.Input.TheVariants as inputs;
 ghost use Rattle.fed_call.specs.Begun.{options_of};
 ghost use Rattle.fed_call.specs.DialogRows as spec;
 ghost use Rattle.fed_call.specs.Facts.{at_stage, facts_after, provider_at};

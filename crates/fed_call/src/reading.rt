@@ -1,7 +1,7 @@
 //! A call whose well-known file and configuration are awaited.
 ghost use Rattle.std.specs.Prelude.{◌≡◌, ◌∷◌, [], true, IfOk, unwrap_or};
 ghost use Rattle.std.specs.Result.{result_ok};
-ghost use Rattle.fed_consent.specs.declared.input.Input.TheVariants as inputs;
+ghost use Rattle.fed_consent.specs.declared.table.input.Input.TheVariants as inputs;
 ghost use Rattle.fed_call.specs.Facts.{facts_after, at_stage, provider_at, config_read};
 ghost use Rattle.fed_call.specs.Begun.{options_of};
 ghost use Rattle.fed_call.specs.ReadingRows as spec;
@@ -118,7 +118,7 @@ impl Reading {
     }
 
     // A config reply: one is taken, of the provider that the call has.
-    #[tactic(auto, using(crate::proofs::RowLemmas::config_taken))]
+    #[tactic(auto, using(crate::proofs::table::Row::config_taken))]
     fn config_reply(
         self,
         alloc: Global,

@@ -1,12 +1,12 @@
--- What the user is offered, what he agreed to, and the request that it makes.
+-- What the user is offered, what the user agreed to, and the request that it makes.
 use Rattle.std.specs.Prelude.{ℕ, Bool, true, false, not, ◌&&◌, List, Option, Some, slice_get, option_and_then, option_map, Result, Ok, Err, bytes_eq, if◌then◌else◌}
 use Rattle.std.specs.List.{position}
 use Rattle.url.specs.Parts.{Parts}
 use Rattle.fed_origin.specs.declared.origin.Origin.{Origin}
 use Rattle.fed_origin.specs.declared.options.ProviderOptions.{ProviderOptions}
 use Rattle.fed_accounts.specs.declared.account.Account.{Account}
-use Rattle.fed_consent.specs.declared.manner.Manner.{Manner}
-use Rattle.fed_consent.specs.declared.manner.Manner.TheVariants.{Chosen, Prompted, Reselected}
+use Rattle.fed_consent.specs.declared.consent.manner.Manner.{Manner}
+use Rattle.fed_consent.specs.declared.consent.manner.Manner.TheVariants.{Chosen, Prompted, Reselected}
 
 -- ---- what is offered
 

@@ -4,14 +4,14 @@ use Rattle.fed_origin.specs.declared.stage.Endpoint.{Endpoint}
 use Rattle.fed_origin.specs.declared.stage.Endpoint.TheVariants as endpoints
 use Rattle.fed_reply.specs.declared.step.ReplyStep.{ReplyStep}
 use Rattle.fed_reply.specs.declared.step.ReplyStep.TheVariants.{Head, Coding, Length, Chunk, Short, Status, Mime, Json}
-use Rattle.fed_consent.specs.declared.finish.FailStep.{FailStep}
-use Rattle.fed_consent.specs.declared.finish.FailStep.TheVariants as steps
-use Rattle.fed_consent.specs.declared.finish.Detail.{Detail}
-use Rattle.fed_consent.specs.declared.finish.Detail.TheVariants.{Reply, Member}
-use Rattle.fed_consent.specs.declared.finish.Finish.{Finish}
-use Rattle.fed_consent.specs.declared.finish.Finish.TheVariants.{Token, Disconnected, Failed, ProviderError}
-use Rattle.fed_consent.specs.declared.why.Why.{Why}
-use Rattle.fed_consent.specs.declared.why.Why.TheVariants.{NoPage, PageInsecure, NoCall, CallEnded, NotWaited, NotOffered, NoAccount, NobodyWaits}
+use Rattle.fed_consent.specs.declared.table.finish.FailStep.{FailStep}
+use Rattle.fed_consent.specs.declared.table.finish.FailStep.TheVariants as steps
+use Rattle.fed_consent.specs.declared.table.finish.Detail.{Detail}
+use Rattle.fed_consent.specs.declared.table.finish.Detail.TheVariants.{Reply, Member}
+use Rattle.fed_consent.specs.declared.table.finish.Finish.{Finish}
+use Rattle.fed_consent.specs.declared.table.finish.Finish.TheVariants.{Token, Disconnected, Failed, ProviderError}
+use Rattle.fed_consent.specs.declared.table.why.Why.{Why}
+use Rattle.fed_consent.specs.declared.table.why.Why.TheVariants.{NoPage, PageInsecure, NoCall, CallEnded, NotWaited, NotOffered, NoAccount, NobodyWaits}
 
 abbrev pub step_text : FailStep → List ℕ
 step_text steps.CallPending = codes "call-pending"

@@ -1,24 +1,10 @@
 //! What a call asks for, shows, takes and gives, and what the user agreed to.
 #![tactic(auto)]
 
-mod ask;
-mod chooser;
 mod consent;
-mod dialog;
-mod effect;
-mod finish;
-mod input;
-mod manner;
+mod table;
 #[cfg(test)]
 mod tests;
-mod why;
 
-pub use ask::Ask;
-pub use chooser::Chooser;
-pub use consent::{AssertionAsk, Consent, Picked, Prompt};
-pub use dialog::{Dialog, Shown};
-pub use effect::Effect;
-pub use finish::{Detail, FailStep, Failure, Finish};
-pub use input::Input;
-pub use manner::Manner;
-pub use why::Why;
+pub use consent::{AssertionAsk, Chooser, Consent, Manner, Picked, Prompt};
+pub use table::{Ask, Detail, Dialog, Effect, FailStep, Failure, Finish, Input, Shown, Why};

@@ -1,3 +1,1 @@
-pub mod Lists
-pub mod LineEnds
-pub mod Parts
+pub mod parts

@@ -7,7 +7,8 @@ use Rattle.fed_cookie.specs.declared.same_site.SameSite.{SameSite}
 use Rattle.fed_cookie.specs.declared.same_site.SameSite.TheVariants.{Strict, Lax, NoLimit}
 use Rattle.fed_cookie.specs.declared.attributes.AttributeKind.{AttributeKind}
 use Rattle.fed_cookie.specs.declared.attributes.AttributeKind.TheVariants.{Expires, MaxAge, Domain, Path, Secure, SameSite as SameSiteKind, Other}
-use Rattle.fed_cookie.specs.Bytes.{trimmed, cut_at, number_of, last_some}
+use Rattle.fed_io.specs.Trim.{trimmed}
+use Rattle.fed_cookie.specs.Bytes.{cut_at, number_of, last_some}
 use Rattle.fed_cookie.specs.Date.{date_of}
 use Rattle.fed_cookie.specs.SetCookie.{SetCookie}
 

@@ -6,8 +6,9 @@ ghost use Rattle.fed_cookie.specs.Fields as spec;
 ghost use Rattle.std.specs.Prelude.{◌==◌};
 
 use crate::SameSite;
-use crate::bytes::{cut, number, trim};
+use crate::bytes::{cut, number};
 use crate::date::cookie_date;
+use fed_io::trim;
 use std::marker::Model;
 
 #[derive(Clone, Copy)]

@@ -1,7 +1,9 @@
 //! What the readers share.
-ghost use Rattle.std.specs.Prelude.{◌≡◌, ◌+◌, ◌-◌, ◌*◌, ◌^◌, ◌≤◌, ◌==◌, ◌<◌, min, length, position, option_map, IfSome, IfNone, [], ◌∷◌};
+ghost use Rattle.std.specs.Prelude.{◌≡◌, ◌+◌, ◌-◌, ◌*◌, ◌^◌, ◌==◌, ◌<◌, min, length, option_map, IfSome, IfNone, [], ◌∷◌};
 ghost use Rattle.std.specs.List.{slice_split};
 ghost use Rattle.fed_cookie.specs.Bytes as spec;
+
+use fed_io::place_of;
 
 // The number that decimal digits write, at most 2^63.
 pub fn number(digits: &[u8]) -> u64
@@ -13,49 +15,6 @@ pub fn number(digits: &[u8]) -> u64
         value = value.saturating_mul(10).saturating_add(units).min(1 << 63);
     }
     value
-}
-
-// Whether the byte is a space or a tab.
-fn is_blank(b: u8) -> bool
-    ensures { result ≡ spec.is_blank b }
-{
-    b == b' ' || b == b'\t'
-}
-
-// The bytes without spaces and tabs at their ends.
-#[tactic(auto, unfolding(crate::specs::Bytes::trimmed))]
-pub fn trim(bytes: &[u8]) -> &[u8]
-    ensures { result.now ≡ spec.trimmed bytes.now }
-{
-    trim_end(trim_front(bytes))
-}
-
-fn trim_front(bytes: &[u8]) -> &[u8]
-    ensures { result.now ≡ spec.trimmed_front bytes.now }
-{
-    for (at, b) in bytes.iter().enumerate() {
-        if !is_blank(*b) {
-            return &bytes[at..];
-        }
-    }
-    &bytes[bytes.len()..]
-}
-
-fn trim_end(bytes: &[u8]) -> &[u8]
-    ensures { result.now ≡ spec.trimmed_end bytes.now }
-{
-    let mut end = bytes.len();
-    while end > 0 && is_blank(bytes[end - 1]) {
-        end -= 1;
-    }
-    &bytes[..end]
-}
-
-// The first place of the byte.
-pub fn place_of(byte: u8, bytes: &[u8]) -> Option<usize>
-    ensures { result ≡ position (λ b. b == byte) bytes.now }
-{
-    bytes.iter().position(|b| *b == byte)
 }
 
 // What stands before the first such byte, and after it.

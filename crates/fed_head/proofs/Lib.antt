@@ -1,4 +1,2 @@
-pub mod ChunkLemmas
-pub mod FoundLemmas
-pub mod HeadLemmas
-pub mod SectionLemmas
+pub mod printed
+pub mod found

@@ -1,10 +1,19 @@
 -- What sources and sinks do to the bytes that they tell, and when they may fail.
-use Rattle.std.specs.Prelude.{◌≡◌, ℕ, ◌+◌, ◌-◌, ◌^◌, ◌≤◌, min, List, ◌++◌, Option, Result, OnErr, MatchResult}
+use Rattle.std.specs.Prelude.{◌≡◌, ℕ, ◌+◌, ◌-◌, ◌^◌, ◌≤◌, min, List, ◌++◌, Option, Result, Ok, Err, OnErr, MatchResult}
 use Rattle.std.specs.Io.KnownBytes.{Appends}
+
+-- a count after one more, which stays at the greatest u64
+abbrev pub counted : ℕ → ℕ
+counted n = min (n + 1) (2 ^ 64 - 1)
+
+-- a count of faults after a call that counts its failures: one more where the call failed, and else the same
+abbrev pub faults_after : {T E : Type 0} → ℕ → Result T E → ℕ
+faults_after faults (Ok _) = faults
+faults_after faults (Err _) = counted faults
 
 -- A count of faults rose in a call; one that stands at the greatest u64 is said to have risen too.
 abbrev pub Rose : ℕ → ℕ → Type 0
-Rose before now = min (before + 1) (2 ^ 64 - 1) ≤ now
+Rose before now = counted before ≤ now
 
 -- a count of faults doesn't fall, and rose where the call failed
 pub record HasCause {T E : Type 0} (before now : ℕ) (result : Result T E) : Type 0 where

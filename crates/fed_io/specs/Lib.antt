@@ -3,3 +3,4 @@ pub mod Inner
 pub mod Io
 pub mod Memory
 pub mod Quiet
+pub mod Trim

@@ -2,7 +2,7 @@
 ghost use Rattle.std.specs.Prelude.{◌≡◌, ◌<◌, IfOk, length};
 ghost use Rattle.std.specs.Io.{ReadsAtMost, WritesAtMost};
 ghost use Rattle.std.specs.Io.KnownBytes.{ReadConsumes, WriteAppends};
-ghost use Rattle.fed_io.specs.Io.{HasCause};
+ghost use Rattle.fed_io.specs.Io.{HasCause, faults_after};
 
 use crate::memory::raised;
 use crate::{Failed, Sink, Source};
@@ -43,6 +43,7 @@ impl<R: Read> Source for StdSource<R> {
         ensures bound { ReadsAtMost result buf.new }
         ensures bytes { ReadConsumes (R.remaining self.old.inner) (R.remaining self.new.inner) result buf.new }
         ensures cause { HasCause self.old.faults self.new.faults result }
+        ensures counts { self.new.faults ≡ faults_after self.old.faults result }
     {
         match self.inner.read(buf) {
             Ok(count) => Ok(count),
@@ -90,6 +91,7 @@ impl<W: Write> Sink for StdSink<W> {
         ensures some { IfOk result (λ n. 0 < n) }
         ensures bytes { WriteAppends (W.contents self.old.inner) (W.contents self.new.inner) result piece.now }
         ensures cause { HasCause self.old.faults self.new.faults result }
+        ensures counts { self.new.faults ≡ faults_after self.old.faults result }
     {
         match self.inner.write(piece) {
             Ok(0) | Err(_) => {

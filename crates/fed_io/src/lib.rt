@@ -1,6 +1,7 @@
 //! Sources, sinks and texts: what the other crates stand on.
 #![tactic(auto)]
 
+mod bytes;
 mod error;
 mod inner;
 mod items;
@@ -10,6 +11,7 @@ mod source;
 mod steps;
 mod text;
 
+pub use bytes::{place_of, trim};
 pub use error::{Failed, Fault, NoRoom};
 pub use inner::{StdSink, StdSource};
 pub use items::Items;
@@ -17,7 +19,7 @@ pub use memory::{MemSink, MemSource};
 pub use quiet::{QuietSink, QuietSource};
 pub use source::{Sink, Source, put_all};
 pub use steps::Steps;
-pub use text::{Bytes, Text};
+pub use text::{Bytes, Text, copy_text, copy_texts, text_of};
 
 #[cfg(test)]
 mod tests;

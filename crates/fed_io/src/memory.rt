@@ -2,8 +2,8 @@
 ghost use Rattle.std.specs.Prelude.{◌≡◌, ◌+◌, ◌<◌, ◌≤◌, vec_len, vec_capacity, ◌↔◌, ◌⊎◌, ◌++◌, [], min, length, take, drop, Some, IfOk, IsErr, Contains};
 ghost use Rattle.std.specs.Io.{ReadsAtMost, WritesAtMost};
 ghost use Rattle.std.specs.Io.KnownBytes.{ReadConsumes, WriteAppends};
-ghost use Rattle.fed_io.specs.Io.{HasCause};
-ghost use Rattle.fed_io.specs.Memory.{counted};
+ghost use Rattle.fed_io.specs.Io.{HasCause, counted};
+ghost use Rattle.fed_io.specs.Memory.{source_after, sink_after};
 
 use crate::{Failed, NoRoom, Sink, Source};
 use std::alloc::Global;
@@ -61,7 +61,7 @@ impl Source for MemSource {
         ensures cause { HasCause self.old.faults self.new.faults result }
         ensures fails { IsErr result ↔ Contains self.old.fail (counted self.old.calls) }
         ensures most { IfOk result (λ n. n ≡ min (min self.old.most (length buf.old)) (length self.old.left)) }
-        ensures calls { self.new.calls ≡ counted self.old.calls }
+        ensures frame { self.new ≡ source_after self.old result }
     {
         self.calls = raised(self.calls);
         if self.fail.contains(&self.calls) {
@@ -134,7 +134,7 @@ impl Sink for MemSink {
         ensures cause { HasCause self.old.faults self.new.faults result }
         ensures fails { IsErr result ↔ (Contains self.old.fail (counted self.old.calls) ⊎ (self.old.room ≡ 0)) }
         ensures most { IfOk result (λ n. n ≡ min (min self.old.most (length piece.now)) self.old.room) }
-        ensures calls { self.new.calls ≡ counted self.old.calls }
+        ensures frame { self.new ≡ sink_after self.old piece.now result }
     {
         self.calls = raised(self.calls);
         if self.room == 0 || self.fail.contains(&self.calls) {

@@ -1,5 +1,6 @@
 //! Texts and lists of bytes, which contracts see as their bytes.
 ghost use Rattle.std.specs.Prelude.{◌≡◌, Some, IfOk, bytes_eq, refl};
+ghost use Rattle.std.specs.Option.{option_copied};
 ghost use Rattle.std.proofs.Common.{rules};
 ghost use Rattle.std.specs.Ordering.{nat_cmp};
 ghost use Rattle.std.specs.Hash as fed;
@@ -7,7 +8,7 @@ ghost use Rattle.std.specs.Cmp.{partial_equiv_from_equiv};
 ghost use Rattle.std.specs.Cmp.Lexicographic.{slice_cmp, nat_list_eq_equiv, nat_list_cmp_total, texts_ties, texts_po};
 ghost use Rattle.std.specs.Cmp.Rules.{hashing};
 
-use crate::NoRoom;
+use crate::{Items, NoRoom};
 use std::alloc::Global;
 use std::cmp::Ordering;
 use std::hash::{Hash, Hasher};
@@ -50,6 +51,37 @@ impl Text {
     {
         Text::of(alloc, self.as_str())
     }
+}
+
+/// A copy of the text, where there is one.
+pub fn text_of(alloc: Global, text: Option<&str>) -> Result<Option<Text>, NoRoom>
+    ensures { IfOk result (λ copy. copy ≡ option_copied text.entry) }
+{
+    match text {
+        Some(text) => Ok(Some(Text::of(alloc, text)?)),
+        None => Ok(None),
+    }
+}
+
+/// The same text, where there is one.
+pub fn copy_text(alloc: Global, text: &Option<Text>) -> Result<Option<Text>, NoRoom>
+    ensures { IfOk result (λ copy. copy ≡ text.now) }
+{
+    match text {
+        Some(text) => Ok(Some(text.copy(alloc)?)),
+        None => Ok(None),
+    }
+}
+
+/// The same texts, in their order.
+pub fn copy_texts(alloc: Global, texts: &[Text]) -> Result<Items<Text>, NoRoom>
+    ensures { IfOk result (λ copy. copy ≡ texts.now) }
+{
+    let mut copy = Items::new(alloc);
+    for text in texts {
+        copy.push(text.copy(alloc)?)?;
+    }
+    Ok(copy)
 }
 
 impl PartialEq for Text {

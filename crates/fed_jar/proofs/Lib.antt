@@ -1,5 +1,4 @@
-pub mod Order
-pub mod Keys
-pub mod WriteLaws
-pub mod PartyLaws
-pub mod Entries
+pub mod order
+pub mod keys
+pub mod writes
+pub mod parties

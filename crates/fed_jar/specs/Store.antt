@@ -1,5 +1,5 @@
 -- Which fields a jar stores, and as which cookie (RFC 6265, 5.3).
-use Rattle.std.specs.Prelude.{ℕ, zero, suc, ℤ, pos, negsuc, ◌+◌, ◌-◌, ◌^◌, min, Bool, true, false, not, ◌&&◌, ◌||◌, List, [], ◌∷◌, length, codes, nat_lt, nat_eq, bytes_eq, is_some, Option, None, Some, option_map, unwrap_or, if◌then◌else◌}
+use Rattle.std.specs.Prelude.{ℕ, zero, suc, ℤ, pos, negsuc, ◌+◌, ◌-◌, ◌^◌, min, Bool, true, false, not, ◌&&◌, ◌||◌, List, [], ◌∷◌, length, codes, filter, nat_lt, nat_eq, bytes_eq, is_some, Option, None, Some, option_map, unwrap_or, if◌then◌else◌}
 use Rattle.std.specs.List.{starts_with}
 use Rattle.url.specs.Parts.{Parts}
 use Rattle.fed_origin.specs.WebUrl.{host_of, scheme_of}
@@ -92,3 +92,7 @@ cookie_of rules url now raw = option_map (cookie_from url now raw) (scope_of rul
 -- the cookie is of the party
 abbrev pub is_of_party : RuleSet → List ℕ → StoredCookie → Bool
 is_of_party rules name cookie = bytes_eq (party rules cookie.domain) name
+
+-- the cookies of the party among these
+abbrev pub part_of : RuleSet → List ℕ → List StoredCookie → List StoredCookie
+part_of rules name cookies = filter (is_of_party rules name) cookies

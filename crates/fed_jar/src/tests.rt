@@ -80,7 +80,7 @@ alone | https://a.b.ck/ | x=1; Domain=b.ck | no";
 fn rules_of(alloc: Global, list: &str) -> Result<Suffixes, Fail> {
     let mut rules = Suffixes::new(alloc);
     for line in list.split('\n') {
-        rules.read_line(alloc, line)?;
+        rules.read_line(line)?;
     }
     Ok(rules)
 }

@@ -1,1 +1,2 @@
-pub mod UrlLemmas
+pub mod urls
+pub mod words

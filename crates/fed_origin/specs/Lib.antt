@@ -1,4 +1,6 @@
 pub mod Host
+pub mod Laws
 pub mod Origin
 pub mod Status
 pub mod WebUrl
+pub mod Words

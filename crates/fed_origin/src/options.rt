@@ -2,7 +2,7 @@
 ghost use Rattle.std.specs.Prelude.{◌≡◌, IfOk};
 
 use crate::WebUrl;
-use fed_io::{Items, NoRoom, Text};
+use fed_io::{Items, NoRoom, Text, copy_text};
 use std::alloc::Global;
 
 /// How far the user takes part (Credential Management 2.3.2).
@@ -38,6 +38,36 @@ pub enum Context {
     GoOn,
 }
 
+impl Context {
+    ghost use Rattle.std.specs.Prelude.{◌≡◌};
+    ghost use Rattle.fed_origin.specs.Words.{context_text, context_of_word};
+
+    /// The word of the context, as scripts and transcripts have it.
+    pub fn as_str(self) -> &'static str
+        ensures { result.now ≡ context_text self }
+    {
+        match self {
+            Context::SignIn => "signin",
+            Context::SignUp => "signup",
+            Context::UseHere => "use",
+            Context::GoOn => "continue",
+        }
+    }
+
+    /// The context that a word stands for, if it is the word of one.
+    pub fn of_word(word: &str) -> Option<Context>
+        ensures { result ≡ context_of_word word.now }
+    {
+        match word {
+            "signin" => Some(Context::SignIn),
+            "signup" => Some(Context::SignUp),
+            "use" => Some(Context::UseHere),
+            "continue" => Some(Context::GoOn),
+            _ => None,
+        }
+    }
+}
+
 /// What a call says of one provider (FedCM, IdentityProviderRequestOptions).
 #[derive(Drop)]
 pub struct ProviderOptions {
@@ -53,15 +83,6 @@ pub struct ProviderOptions {
     pub domain_hint: Option<Text>,
     /// What the provider gets with the assertion request, as plain text (this profile's own).
     pub params: Option<Text>,
-}
-
-fn copy_text(alloc: Global, text: &Option<Text>) -> Result<Option<Text>, NoRoom>
-    ensures { IfOk result (λ copy. copy ≡ text.now) }
-{
-    match text {
-        Some(text) => Ok(Some(text.copy(alloc)?)),
-        None => Ok(None),
-    }
 }
 
 impl ProviderOptions {

@@ -7,7 +7,7 @@ pub enum Stage {
     Reading,
     /// The accounts are awaited.
     Listing,
-    /// The user is shown that the provider gave no account, though it had said that he is logged in.
+    /// The user is shown that the provider gave no account, though it had said that the user is logged in.
     Mismatch,
     /// The user is to choose an account.
     Choosing,
@@ -34,6 +34,40 @@ pub enum ReplyKind {
     Assertion,
     /// The account that was disconnected from a client.
     Disconnect,
+}
+
+impl ReplyKind {
+    ghost use Rattle.std.specs.Prelude.{◌≡◌};
+    ghost use Rattle.fed_origin.specs.Words.{kind_text, kind_of_word};
+
+    /// The word of the kind, as scripts and transcripts have it.
+    pub fn as_str(self) -> &'static str
+        ensures { result.now ≡ kind_text self }
+    {
+        match self {
+            ReplyKind::WellKnown => "wellknown",
+            ReplyKind::Config => "config",
+            ReplyKind::Accounts => "accounts",
+            ReplyKind::Metadata => "metadata",
+            ReplyKind::Assertion => "assertion",
+            ReplyKind::Disconnect => "disconnect",
+        }
+    }
+
+    /// The kind that a word stands for, if it is the word of one.
+    pub fn of_word(word: &str) -> Option<ReplyKind>
+        ensures { result ≡ kind_of_word word.now }
+    {
+        match word {
+            "wellknown" => Some(ReplyKind::WellKnown),
+            "config" => Some(ReplyKind::Config),
+            "accounts" => Some(ReplyKind::Accounts),
+            "metadata" => Some(ReplyKind::Metadata),
+            "assertion" => Some(ReplyKind::Assertion),
+            "disconnect" => Some(ReplyKind::Disconnect),
+            _ => None,
+        }
+    }
 }
 
 /// An endpoint that a configuration names (FedCM, "The config file").

@@ -16,6 +16,36 @@ pub enum LoginStatus {
     LoggedOut,
 }
 
+impl LoginStatus {
+    ghost use Rattle.std.specs.Prelude.{◌≡◌, true, IfSome};
+    ghost use Rattle.std.specs.Option.{option_copied};
+    ghost use Rattle.fed_origin.specs.Status.{is_known};
+    ghost use Rattle.fed_origin.specs.Words.{status_text, status_of_word};
+
+    /// The word of the status, as providers, pages and scripts say it. That nothing was said has no word.
+    pub fn as_str(self) -> Option<&'static str>
+        ensures { option_copied result ≡ status_text self }
+    {
+        match self {
+            LoginStatus::Unknown => None,
+            LoginStatus::LoggedIn => Some("logged-in"),
+            LoginStatus::LoggedOut => Some("logged-out"),
+        }
+    }
+
+    /// The status that a word says, if it is the word of one.
+    pub fn of_word(word: &str) -> Option<LoginStatus>
+        ensures value { result ≡ status_of_word word.now }
+        ensures known { IfSome result (λ status. is_known status ≡ true) }
+    {
+        match word {
+            "logged-in" => Some(LoginStatus::LoggedIn),
+            "logged-out" => Some(LoginStatus::LoggedOut),
+            _ => None,
+        }
+    }
+}
+
 /// A kept permission: the user let this account of the provider sign in at pages of this origin
 /// (FedCM, "connected accounts set").
 #[derive(PartialEq, Eq, PartialOrd, Ord, Hash, Drop)]

@@ -1,2 +1,1 @@
-pub mod AsciiLemmas
-pub mod FloatLemmas
+pub mod values

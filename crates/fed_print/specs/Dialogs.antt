@@ -1,14 +1,14 @@
 -- The objects of dialogs.
 use Rattle.std.specs.Prelude.{ℕ, List, [], ◌∷◌, codes, not, Option, Some, option_map, map}
 use Rattle.serde_json.specs.Data.{boolean, string, object, Members}
-use Rattle.fed_consent.specs.declared.dialog.Dialog.{Dialog}
-use Rattle.fed_consent.specs.declared.dialog.Dialog.TheVariants.{Choose, Prompt, Mismatch}
-use Rattle.fed_consent.specs.declared.dialog.Shown.{Shown}
-use Rattle.fed_consent.specs.declared.finish.Failure.{Failure}
+use Rattle.fed_consent.specs.declared.table.dialog.Dialog.{Dialog}
+use Rattle.fed_consent.specs.declared.table.dialog.Dialog.TheVariants.{Choose, Prompt, Mismatch}
+use Rattle.fed_consent.specs.declared.table.dialog.Shown.{Shown}
+use Rattle.fed_consent.specs.declared.table.finish.Failure.{Failure}
 use Rattle.fed_consent.specs.Words.{step_text, detail_text}
 use Rattle.fed_origin.specs.declared.options.Context.{Context}
+use Rattle.fed_origin.specs.Words.{context_text}
 use Rattle.fed_print.specs.Objects.{count, present, objects}
-use Rattle.fed_print.specs.Words.{context_text}
 
 -- an account that is shown
 abbrev pub account_members : Shown → Members

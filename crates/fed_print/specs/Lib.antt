@@ -4,4 +4,3 @@ pub mod Lines
 pub mod Object
 pub mod Objects
 pub mod Records
-pub mod Words

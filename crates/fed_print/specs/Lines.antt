@@ -2,7 +2,7 @@
 use Rattle.std.specs.Prelude.{ℕ, List, [], ◌∷◌, ◌++◌, flat_map}
 use Rattle.serde_json.specs.Data.{Members, object}
 use Rattle.serde_json.specs.Written.{compact_text}
-use Rattle.fed_session.specs.declared.out.Out.{Out}
+use Rattle.fed_trace.specs.declared.out.Out.{Out}
 use Rattle.fed_print.specs.Records.{record_members}
 
 -- the line of an object with these members: its compact JSON text and LF

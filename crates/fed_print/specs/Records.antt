@@ -5,15 +5,15 @@ use Rattle.base64.specs.Engines.{standard}
 use Rattle.base64.specs.GeneralPurpose.{encode_of}
 use Rattle.serde_json.specs.Data.{string, Members}
 use Rattle.url.specs.Parts.{serialize}
-use Rattle.fed_consent.specs.declared.why.Why.{Why}
+use Rattle.fed_consent.specs.declared.table.why.Why.{Why}
 use Rattle.fed_consent.specs.Words.{why_text}
 use Rattle.fed_origin.specs.declared.stage.ReplyKind.{ReplyKind}
-use Rattle.fed_session.specs.declared.out.Out.{Out}
-use Rattle.fed_session.specs.declared.out.Out.TheVariants.{Request, Dialog, Window, Answer, Ignored}
+use Rattle.fed_origin.specs.Words.{kind_text}
+use Rattle.fed_trace.specs.declared.out.Out.{Out}
+use Rattle.fed_trace.specs.declared.out.Out.TheVariants.{Request, Dialog, Window, Answer, Ignored}
 use Rattle.fed_print.specs.Answers.{answer_members}
 use Rattle.fed_print.specs.Dialogs.{dialog_members}
 use Rattle.fed_print.specs.Objects.{Named, count, present}
-use Rattle.fed_print.specs.Words.{kind_text}
 
 -- bytes below 128 are a text, and others none
 abbrev pub ascii_text : List ℕ → Option (List ℕ)

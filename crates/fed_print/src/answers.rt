@@ -4,7 +4,7 @@ ghost use Rattle.fed_print.specs.Object.{members_of};
 ghost use Rattle.fed_print.specs.Answers as spec;
 
 use crate::Object;
-use crate::words::{detail_text, text_of};
+use crate::words::{detail_text, text_in};
 use fed_consent::Finish;
 use fed_io::NoRoom;
 use std::alloc::Global;
@@ -48,6 +48,6 @@ pub fn answer_object(
         Finish::ProviderError { code, url } => seen
             .text("code", code.as_str())?
             .text("step", "provider-error")?
-            .text_if("url", text_of(url)),
+            .text_if("url", text_in(url)),
     }
 }

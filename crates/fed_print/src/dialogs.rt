@@ -5,7 +5,7 @@ ghost use Rattle.fed_print.specs.Object.{members_of};
 ghost use Rattle.fed_print.specs.Dialogs as spec;
 
 use crate::Object;
-use crate::words::{context_text, detail_text, text_of};
+use crate::words::{detail_text, text_in};
 use fed_consent::{Dialog, Failure, Shown};
 use fed_io::NoRoom;
 use fed_origin::Context;
@@ -20,8 +20,8 @@ fn account_object(alloc: Global, shown: &Shown) -> Result<Object, NoRoom>
         .text("id", shown.id.as_str())?
         .text("name", shown.name.as_str())?
         .count("provider", shown.provider)?
-        .text_if("given_name", text_of(&shown.given_name))?
-        .text_if("picture", text_of(&shown.picture))
+        .text_if("given_name", text_in(&shown.given_name))?
+        .text_if("picture", text_in(&shown.picture))
 }
 
 fn account_objects(alloc: Global, accounts: &[Shown]) -> Result<Vec<Object>, NoRoom>
@@ -64,7 +64,7 @@ fn choose_object(
 {
     any_object(alloc, line, call, "choose", site)?
         .objects("accounts", account_objects(alloc, accounts)?)?
-        .text("context", context_text(context))
+        .text("context", context.as_str())
 }
 
 fn prompt_object(
@@ -81,7 +81,7 @@ fn prompt_object(
 {
     any_object(alloc, line, call, "prompt", site)?
         .object("account", account_object(alloc, account)?)?
-        .text("context", context_text(context))?
+        .text("context", context.as_str())?
         .flag("disclosure", !account.connected)?
         .text_if("privacy", privacy)?
         .text_if("terms", terms)
@@ -133,8 +133,8 @@ pub fn dialog_object(alloc: Global, line: u32, call: u32, dialog: &Dialog) -> Re
             account,
             *context,
             site.as_str(),
-            text_of(privacy),
-            text_of(terms),
+            text_in(privacy),
+            text_in(terms),
         ),
         Dialog::Mismatch {
             provider,

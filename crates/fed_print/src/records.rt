@@ -8,12 +8,11 @@ use crate::Object;
 use crate::answers::answer_object;
 use crate::ascii::ascii_text;
 use crate::dialogs::dialog_object;
-use crate::words::kind_text;
 use base64::engine::general_purpose::STANDARD;
 use fed_consent::Why;
 use fed_io::NoRoom;
 use fed_origin::ReplyKind;
-use fed_session::Out;
+use fed_trace::Out;
 use std::alloc::Global;
 
 fn request_object(
@@ -28,7 +27,7 @@ fn request_object(
 {
     let start = Object::new(alloc)
         .count("call", call)?
-        .text("kind", kind_text(kind))?
+        .text("kind", kind.as_str())?
         .count("line", line)?
         .text("out", "request")?
         .count("provider", provider)?;

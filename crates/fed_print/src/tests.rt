@@ -4,7 +4,7 @@ use fed_consent::{Detail, Dialog, FailStep, Failure, Finish, Shown, Why};
 use fed_io::{Bytes, Items, NoRoom, Text};
 use fed_origin::{Context, ReplyKind, WebUrl};
 use fed_reply::ReplyStep;
-use fed_session::Out;
+use fed_trace::Out;
 use std::alloc::Global;
 use std::test::Fail;
 

@@ -1,4 +1,2 @@
-pub mod LawLemmas
-pub mod ListLemmas
-pub mod SiteLemmas
-pub mod EndpointLemmas
+pub mod files
+pub mod promises

@@ -8,6 +8,8 @@ mod step;
 mod wellknown;
 
 pub use config::{Config, read_config};
+/// The endpoint that a step names.
+pub use fed_origin::Endpoint;
 pub use metadata::{PolicyLinks, read_metadata};
 pub use step::ProviderStep;
 pub use wellknown::{read_wellknown, wellknown_url};

@@ -1,8 +1,3 @@
-pub mod ChunksLemmas
-pub mod LengthLemmas
-pub mod FieldsLemmas
-pub mod JsonLemmas
-pub mod FramingLemmas
-pub mod FrontLemmas
-pub mod ChunkedLemmas
-pub mod ValuesLemmas
+pub mod body
+pub mod head
+pub mod value

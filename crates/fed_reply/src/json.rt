@@ -1,5 +1,5 @@
 //! The JSON value of a reply.
-ghost use Rattle.std.specs.Prelude.{◌≡◌, ◌==◌, ok_or, position, reverse};
+ghost use Rattle.std.specs.Prelude.{◌≡◌, ok_or};
 ghost use Rattle.std.specs.List.{list_all};
 ghost use Rattle.std.specs.Option.{option_copied};
 ghost use Rattle.httparse.specs.Grammar as grammar;
@@ -9,7 +9,7 @@ ghost use Rattle.fed_reply.specs.Json as spec;
 
 use crate::fields::is_in_any_case;
 use crate::{Reply, ReplyStep, read_reply};
-use fed_io::Fault;
+use fed_io::{Fault, place_of, trim};
 use serde_json::Value;
 use std::alloc::Global;
 
@@ -82,8 +82,8 @@ pub fn essence(value: &[u8]) -> &[u8]
     ensures { result.now ≡ spec.essence value.now }
 {
     match place_of(b';', value) {
-        Some(at) => trimmed(&value[..at]),
-        None => trimmed(value),
+        Some(at) => trim(&value[..at]),
+        None => trim(value),
     }
 }
 
@@ -106,54 +106,6 @@ fn names_json(media: &[u8], subtype: &[u8]) -> bool
     is_in_any_case(media, b"application/json")
         || is_in_any_case(media, b"text/json")
         || has_json_suffix(subtype)
-}
-
-// Where the byte stands first.
-fn place_of(byte: u8, bytes: &[u8]) -> Option<usize>
-    ensures { result ≡ position (λ b. b == byte) bytes.now }
-{
-    bytes.iter().position(|b| *b == byte)
-}
-
-// The bytes without the spaces and tabs at their ends.
-fn trimmed(bytes: &[u8]) -> &[u8]
-    ensures { result.now ≡ grammar.trim_ows bytes.now }
-{
-    before_blanks(after_blanks(bytes))
-}
-
-// The bytes from the first that is no space or tab.
-fn after_blanks(bytes: &[u8]) -> &[u8]
-    ensures { result.now ≡ grammar.skip_ows bytes.now }
-{
-    let mut rest = bytes;
-    while let Some((first, after)) = rest.split_first() {
-        if !is_blank(*first) {
-            return rest;
-        }
-        rest = after;
-    }
-    rest
-}
-
-// The bytes up to the last that is no space or tab.
-fn before_blanks(bytes: &[u8]) -> &[u8]
-    ensures { reverse result.now ≡ grammar.skip_ows (reverse bytes.now) }
-{
-    let mut rest = bytes;
-    while let Some((last, before)) = rest.split_last() {
-        if !is_blank(*last) {
-            return rest;
-        }
-        rest = before;
-    }
-    rest
-}
-
-fn is_blank(byte: u8) -> bool
-    ensures { result ≡ grammar.is_ows byte }
-{
-    byte == b' ' || byte == b'\t'
 }
 
 // Whether the last five bytes are `+json`, in any case.

@@ -3,8 +3,8 @@ use Rattle.std.specs.Prelude.{◌≡◌, ℕ, ◌==◌, List, [], ◌++◌, code
 use Rattle.url.specs.Parts.{Parts}
 use Rattle.fed_origin.specs.Origin.{origin_text}
 use Rattle.fed_origin.specs.WebUrl.{origin_of, path_query_of}
-use Rattle.fed_consent.specs.declared.ask.Ask.{Ask}
-use Rattle.fed_consent.specs.declared.ask.Ask.TheVariants.{WellKnown, Config, Accounts, Metadata, Assertion, Disconnect}
+use Rattle.fed_consent.specs.declared.table.ask.Ask.{Ask}
+use Rattle.fed_consent.specs.declared.table.ask.Ask.TheVariants.{WellKnown, Config, Accounts, Metadata, Assertion, Disconnect}
 use Rattle.fed_request.specs.Form.{metadata_target, assertion_form, disconnect_form}
 use Rattle.fed_request.specs.Text.{get_text, named_get_text, post_text}
 

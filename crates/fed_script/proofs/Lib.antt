@@ -1,9 +1,4 @@
-pub mod LineLemmas
-mod EventLemmas
-mod HeaderLemmas
-mod FurtherLemmas
-mod HalfLemmas
-pub mod ReadLemmas
-mod StopLemmas
-mod WalkLemmas
-mod WithinLemmas
+pub mod events
+pub mod lines
+pub mod scripts
+pub mod halves

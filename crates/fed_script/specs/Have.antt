@@ -3,6 +3,7 @@ use Rattle.std.specs.Prelude.{ℕ, List, codes, Result, Ok, Err, bytes_eq, if◌
 use Rattle.serde_json.specs.Data.{Data}
 use Rattle.serde_json.specs.Find.{as_str}
 use Rattle.fed_origin.specs.WebUrl.{origin_of}
+use Rattle.fed_origin.specs.Words.{status_of_word}
 use Rattle.fed_script.specs.declared.cause.LineCause.{LineCause}
 use Rattle.fed_script.specs.declared.cause.LineCause.TheVariants.{Member}
 use Rattle.fed_script.specs.declared.cause.MemberName.TheVariants as names
@@ -12,13 +13,12 @@ use Rattle.fed_script.specs.declared.event.Have.{Have}
 use Rattle.fed_script.specs.declared.event.Have.TheVariants.{Login, Cookie}
 use Rattle.fed_script.specs.Member.{◌>>=◌, required, as_word, url_of}
 use Rattle.fed_script.specs.Raw.{required_bytes}
-use Rattle.fed_script.specs.Status.{login_status}
 
 -- the login status that a line names; of the URL its origin alone counts
 abbrev pub login_of : Data → Result Have LineCause
 login_of d = do
   text ← required as_str names.Origin d
-  status ← required (as_word login_status) names.Status d
+  status ← required (as_word status_of_word) names.Status d
   url ← url_of text
   Ok (Login (origin_of url) status)
 

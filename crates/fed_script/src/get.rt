@@ -1,6 +1,5 @@
 //! Lines of the kind `get`.
 ghost use Rattle.std.specs.Prelude.{◌≡◌, IfOk, option_map};
-ghost use Rattle.std.specs.Option.{option_copied};
 ghost use Rattle.std.specs.Result.{result_map_both};
 ghost use Rattle.serde_json.specs.View.{view};
 ghost use Rattle.fed_io.specs.Fault.{Answers};
@@ -12,7 +11,7 @@ use crate::cause::{LineCause, MemberName};
 use crate::event::Event;
 use crate::member::{member, number, optional_text, text, web_url};
 use crate::options::{context, no_options};
-use fed_io::{Fault, Items, NoRoom, Text};
+use fed_io::{Fault, Items, NoRoom, Text, text_of};
 use fed_origin::{Context, GetOptions, Mediation, Mode, ProviderOptions, WebUrl};
 use serde_json::Value;
 use std::alloc::Global;
@@ -93,15 +92,6 @@ fn get_members(d: &Value) -> Result<GetMembers<'_>, LineCause>
     })
 }
 
-fn copy_text(alloc: Global, text: Option<&str>) -> Result<Option<Text>, NoRoom>
-    ensures { IfOk result (λ copy. copy ≡ option_copied text.entry) }
-{
-    match text {
-        Some(text) => Ok(Some(Text::of(alloc, text)?)),
-        None => Ok(None),
-    }
-}
-
 // The options of a provider.
 fn provider_of(
     alloc: Global,
@@ -113,10 +103,10 @@ fn provider_of(
     Ok(ProviderOptions {
         config,
         client: Text::of(alloc, members.client)?,
-        nonce: copy_text(alloc, members.nonce)?,
-        login_hint: copy_text(alloc, members.login_hint)?,
-        domain_hint: copy_text(alloc, members.domain_hint)?,
-        params: copy_text(alloc, members.params)?,
+        nonce: text_of(alloc, members.nonce)?,
+        login_hint: text_of(alloc, members.login_hint)?,
+        domain_hint: text_of(alloc, members.domain_hint)?,
+        params: text_of(alloc, members.params)?,
     })
 }
 

@@ -33,7 +33,7 @@ fn read_rules(alloc: Global, text: &str) -> Result<Suffixes, Fault<SuffixRefusal
 {
     let mut rules = Suffixes::new(alloc);
     for line in text.split('\n') {
-        match rules.read_line(alloc, line) {
+        match rules.read_line(line) {
             Ok(()) => {}
             Err(fault) => return Err(fault),
         }

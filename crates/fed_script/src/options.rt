@@ -1,6 +1,7 @@
 //! The options of a get, but for its providers.
 ghost use Rattle.std.specs.Prelude.{◌≡◌};
 ghost use Rattle.serde_json.specs.View.{view};
+ghost use Rattle.fed_origin.specs.Words.{context_of_word};
 ghost use Rattle.fed_script.specs.Member.{as_word};
 ghost use Rattle.fed_script.specs.Options as spec;
 
@@ -18,24 +19,11 @@ pub(crate) fn no_options(d: &Value) -> Result<(), LineCause>
     not_built(d, MemberName::Activation)
 }
 
-// The context that a word stands for.
-fn context_word(word: &str) -> Option<Context>
-    ensures { result ≡ spec.context_word word.now }
-{
-    match word {
-        "signin" => Some(Context::SignIn),
-        "signup" => Some(Context::SignUp),
-        "use" => Some(Context::UseHere),
-        "continue" => Some(Context::GoOn),
-        _ => None,
-    }
-}
-
 // The context that a value names.
 fn as_context(found: &Value) -> Option<Context>
-    ensures { result ≡ as_word spec.context_word (view found.now) }
+    ensures { result ≡ as_word context_of_word (view found.now) }
 {
-    context_word(found.as_str()?)
+    Context::of_word(found.as_str()?)
 }
 
 /// The context that a line names; where it names none, signing in.

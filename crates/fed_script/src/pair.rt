@@ -1,7 +1,7 @@
 //! Two scripts that a line divides.
 ghost use Rattle.std.specs.Prelude.{◌≡◌, ◌==◌, ℕ, ◌+◌, ◌^◌, ◌<◌, ◌≤◌, List, ◌++◌, length, drop, count_by, option_map, IfSome, IfOk, MatchOption};
 ghost use Rattle.std.specs.List.{prefix_len};
-ghost use Rattle.fed_io.specs.Fault.{Answers, Refuses};
+ghost use Rattle.fed_io.specs.Fault.{Answers};
 ghost use Rattle.fed_script.specs.Half.{half_of, halves_by};
 ghost use Rattle.fed_script.specs.Pair as spec;
 ghost use Rattle.fed_script.specs.Pair.{halves_of, pair_of, bad_within};

@@ -15,17 +15,13 @@ use fed_origin::ReplyKind;
 use serde_json::Value;
 use std::alloc::Global;
 
-// The kind of reply that a word stands for.
+// The kind of reply that a word stands for. No call asks for a disconnection yet.
 fn reply_kind(word: &str) -> Option<ReplyKind>
     ensures { result ≡ spec.reply_kind word.now }
 {
-    match word {
-        "wellknown" => Some(ReplyKind::WellKnown),
-        "config" => Some(ReplyKind::Config),
-        "accounts" => Some(ReplyKind::Accounts),
-        "metadata" => Some(ReplyKind::Metadata),
-        "assertion" => Some(ReplyKind::Assertion),
-        _ => None,
+    match ReplyKind::of_word(word)? {
+        ReplyKind::Disconnect => None,
+        kind => Some(kind),
     }
 }
 

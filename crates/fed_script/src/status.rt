@@ -1,6 +1,7 @@
 //! Login statuses, and lines of the kind `setstatus`.
 ghost use Rattle.std.specs.Prelude.{◌≡◌};
 ghost use Rattle.serde_json.specs.View.{view};
+ghost use Rattle.fed_origin.specs.Words.{status_of_word};
 ghost use Rattle.fed_script.specs.Member.{required, as_word};
 ghost use Rattle.fed_script.specs.Status as spec;
 ghost use Rattle.fed_script.specs.declared.cause.MemberName.TheVariants as names;
@@ -11,27 +12,16 @@ use crate::member::{member, number};
 use fed_origin::LoginStatus;
 use serde_json::Value;
 
-// The status that a word stands for.
-fn login_status(word: &str) -> Option<LoginStatus>
-    ensures { result ≡ spec.login_status word.now }
-{
-    match word {
-        "logged-in" => Some(LoginStatus::LoggedIn),
-        "logged-out" => Some(LoginStatus::LoggedOut),
-        _ => None,
-    }
-}
-
 // The status that a value names.
 fn as_status(found: &Value) -> Option<LoginStatus>
-    ensures { result ≡ as_word spec.login_status (view found.now) }
+    ensures { result ≡ as_word status_of_word (view found.now) }
 {
-    login_status(found.as_str()?)
+    LoginStatus::of_word(found.as_str()?)
 }
 
 /// The member `status`.
 pub(crate) fn status(d: &Value) -> Result<LoginStatus, LineCause>
-    ensures { result ≡ required (as_word spec.login_status) names.Status (view d.now) }
+    ensures { result ≡ required (as_word status_of_word) names.Status (view d.now) }
 {
     let Some(found) = member(d, MemberName::Status) else {
         return Err(LineCause::Member(MemberName::Status));

@@ -1,11 +1,2 @@
-pub mod Begun
-pub mod Cause
-pub mod Effect
-pub mod Keyed
-pub mod Known
-pub mod Laws
-pub mod OfScript
-pub mod Records
-pub mod Row
 pub mod Session
-pub mod Trace
+pub mod StepParts

@@ -5,18 +5,17 @@ ghost use Rattle.std.specs.List.{filter_map};
 ghost use Rattle.fed_cookie.specs.SetCookie.{HasNoLineEnd};
 ghost use Rattle.fed_request.specs.Request.{TakesCookies};
 ghost use Rattle.fed_status.specs.Shared.{world_of};
-ghost use Rattle.fed_session.specs.Effect.{Sent, Ignored};
-ghost use Rattle.fed_session.specs.Records.{records_of, record_of};
-ghost use Rattle.fed_session.specs.Row.{call_effect};
-ghost use Rattle.fed_session.specs.Session.{cookies_of, call_records, world_in, AllSetKnown, SetsKnown, login_after, login_by};
+ghost use Rattle.fed_trace.specs.Effect.{Sent, Ignored};
+ghost use Rattle.fed_trace.specs.Records.{records_of, record_of};
+ghost use Rattle.fed_session.specs.StepParts.{cookies_of, call_records, world_in, CanApplyAll, CanApply, login_after, login_by};
 
-use crate::out::Out;
 use fed_consent::{Ask, Effect, Finish, Why};
 use fed_io::{Bytes, Items, NoRoom};
 use fed_jar::Jar;
 use fed_request::build;
 use fed_status::{KeptSet, LoginMap, Shared, SilentFlags};
 use fed_suffix::Suffixes;
+use fed_trace::Out;
 use std::alloc::Global;
 
 /// What calls look at beside the statuses: the public suffix rules, the cookies, and the time in seconds since 1970.
@@ -81,7 +80,7 @@ pub(crate) fn apply(
     page: u32,
     effects: Items<Effect>,
 ) -> Result<Items<Out>, NoRoom>
-    requires { AllSetKnown effects }
+    requires { CanApplyAll effects }
     ensures outs { IfOk result (λ outs. outs ≡ call_records line (cookies_of sight.entry) call page effects) }
     ensures login { OnOk result (statuses.new.login ≡ login_after effects statuses.old.login) }
     ensures kept { statuses.new.kept ≡ statuses.old.kept }
@@ -114,7 +113,7 @@ fn answered(
 
 // Sets the login statuses that a call sets, in their order.
 fn set_statuses(statuses: &mut Statuses, effects: &[Effect]) -> Result<(), NoRoom>
-    requires { AllSetKnown effects.now }
+    requires { CanApplyAll effects.now }
     ensures login { OnOk result (statuses.new.login ≡ login_after effects.now statuses.old.login) }
     ensures kept { statuses.new.kept ≡ statuses.old.kept }
     ensures flags { statuses.new.flags ≡ statuses.old.flags }
@@ -127,7 +126,7 @@ fn set_statuses(statuses: &mut Statuses, effects: &[Effect]) -> Result<(), NoRoo
 
 // Sets the login status that a call sets, if it sets one.
 fn set_status(statuses: &mut Statuses, effect: &Effect) -> Result<(), NoRoom>
-    requires { SetsKnown effect.now }
+    requires { CanApply effect.now }
     ensures login { OnOk result (statuses.new.login ≡ login_by effect.now statuses.old.login) }
     ensures kept { statuses.new.kept ≡ statuses.old.kept }
     ensures flags { statuses.new.flags ≡ statuses.old.flags }
@@ -136,7 +135,7 @@ fn set_status(statuses: &mut Statuses, effect: &Effect) -> Result<(), NoRoom>
         Effect::SetLogin(origin, status) => statuses.login.set(origin, *status),
         Effect::Send(_, _)
         | Effect::Dialog(_)
-        | Effect::Window(_)
+        | Effect::Window(_, _)
         | Effect::Keep(_)
         | Effect::Forget(_)
         | Effect::ForgetPair(_, _)
@@ -169,8 +168,13 @@ fn record(
             finish,
         })),
         Effect::Ignored(why) => Ok(Some(Out::Ignored { line, why })),
+        Effect::Window(provider, url) => Ok(Some(Out::Window {
+            line,
+            call,
+            provider,
+            url,
+        })),
         Effect::SetLogin(_, _)
-        | Effect::Window(_)
         | Effect::Keep(_)
         | Effect::Forget(_)
         | Effect::ForgetPair(_, _)

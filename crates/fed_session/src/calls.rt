@@ -2,7 +2,7 @@
 ghost use Rattle.std.specs.Prelude.{◌≡◌, nat_eq, IfOk, None, option_map, option_and_then};
 ghost use Rattle.std.specs.Map.{lookup};
 ghost use Rattle.fed_call.specs.State.{facts_of};
-ghost use Rattle.fed_session.specs.Session.{with_ended, with_kept};
+ghost use Rattle.fed_session.specs.StepParts.{with_ended, with_kept};
 
 use fed_call::CallState;
 use fed_io::NoRoom;

@@ -1,21 +1,21 @@
 //! Calls of `navigator.credentials.get`.
 ghost use Rattle.std.specs.Prelude.{◌≡◌, length, nat_eq, IfOk, OnOk};
 ghost use Rattle.std.specs.Map.{lookup};
-ghost use Rattle.fed_call.specs.Row.{fails, plain};
+ghost use Rattle.fed_call.specs.Outcomes.{fails, plain};
 ghost use Rattle.fed_status.specs.Shared.{world_of};
-ghost use Rattle.fed_session.specs.Records.{records_of};
-ghost use Rattle.fed_session.specs.Row.{get_outcome};
-ghost use Rattle.fed_session.specs.Session.{cookies_of, world_in, get_at, get_kept, with_new, holding, begun_as};
+ghost use Rattle.fed_trace.specs.Records.{records_of};
+ghost use Rattle.fed_trace.specs.Row.{get_outcome};
+ghost use Rattle.fed_session.specs.StepParts.{cookies_of, world_in, get_at, get_kept, with_new, holding, begun_as};
 
 use crate::apply::{Sight, Statuses, apply, ignored};
 use crate::calls::{Calls, Kept};
-use crate::out::Out;
 use crate::page::{Page, hold};
 use fed_call::CallState;
 use fed_consent::{Effect, FailStep, Failure, Finish, Why};
 use fed_io::{Items, NoRoom};
 use fed_origin::{GetOptions, Origin};
 use fed_status::Shared;
+use fed_trace::Out;
 use indexmap::IndexMap;
 use std::alloc::Global;
 

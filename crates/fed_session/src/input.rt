@@ -1,15 +1,17 @@
 //! Events that name a call.
 ghost use Rattle.std.specs.Prelude.{◌≡◌, nat_eq, IfOk, OnOk};
 ghost use Rattle.std.specs.Map.{lookup};
-ghost use Rattle.fed_session.specs.Records.{records_of};
-ghost use Rattle.fed_session.specs.Session.{cookies_of, world_in, login_after, outcome_at, input_at, input_kept, freed_by};
+ghost use Rattle.fed_trace.specs.Known as spec;
+ghost use Rattle.fed_trace.specs.Records.{records_of};
+ghost use Rattle.fed_session.specs.StepParts.{cookies_of, world_in, login_after, outcome_at, input_at, input_kept, freed_by};
 
 use crate::apply::{Sight, Statuses, apply, ignored};
 use crate::calls::{Calls, Kept, give_back, lend};
-use crate::out::Out;
 use crate::page::{Page, free};
 use fed_consent::{Input, Why};
 use fed_io::{Items, NoRoom};
+use fed_script::Event;
+use fed_trace::Out;
 use indexmap::IndexMap;
 use std::alloc::Global;
 
@@ -47,4 +49,45 @@ pub(crate) fn take_input(
     give_back(calls, call, kept);
     let outs = apply(alloc, line, sight, statuses, call, page, effects)?;
     Ok(outs)
+}
+
+/// The call that an event names, and the input that it brings to it, if it brings one.
+pub(crate) fn input_of(alloc: Global, event: &Event) -> Result<Option<(u32, Input)>, NoRoom>
+    ensures { IfOk result (λ brought. brought ≡ spec.input_of event.now) }
+{
+    Ok(match event {
+        Event::Abort { call } => Some((*call, Input::Abort)),
+        Event::GoOn { call } => Some((*call, Input::GoOn)),
+        Event::Cancel { call } => Some((*call, Input::Cancel)),
+        Event::Choose {
+            call,
+            provider,
+            account,
+        } => {
+            let choice = Input::Choose {
+                provider: *provider,
+                account: account.copy(alloc)?,
+            };
+            Some((*call, choice))
+        }
+        Event::Reply {
+            call,
+            provider,
+            kind,
+            raw,
+        } => {
+            let reply = Input::Reply {
+                provider: *provider,
+                kind: *kind,
+                raw: raw.copy(alloc)?,
+            };
+            Some((*call, reply))
+        }
+        Event::Have(_)
+        | Event::At { .. }
+        | Event::Load { .. }
+        | Event::ClosePage { .. }
+        | Event::SetStatus { .. }
+        | Event::Get { .. } => None,
+    })
 }

@@ -5,16 +5,14 @@ mod apply;
 mod calls;
 mod get;
 mod input;
-pub mod laws;
 mod load;
-mod out;
 mod page;
 mod session;
 #[cfg(test)]
 mod tests;
 mod view;
 
-pub use out::Out;
+pub use fed_trace::Out;
 pub use page::Page;
 pub use session::Session;
 pub use view::View;

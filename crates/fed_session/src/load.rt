@@ -4,8 +4,8 @@ ghost use Rattle.fed_origin.specs.WebUrl.{origin_of};
 ghost use Rattle.fed_jar.specs.Cookie.{cookies_after};
 ghost use Rattle.fed_reply.specs.Fields.{values};
 ghost use Rattle.fed_script.specs.Used.{SaysKnown};
-ghost use Rattle.fed_session.specs.Row.{cookies_from, have_cookies, set_cookies, set_cookie_name, set_logins, set_login_name};
-ghost use Rattle.fed_session.specs.Session.{with_statuses, logins_in, have_statuses};
+ghost use Rattle.fed_trace.specs.Row.{cookies_from, have_cookies, set_cookies, set_cookie_name, set_logins, set_login_name};
+ghost use Rattle.fed_session.specs.StepParts.{with_statuses, logins_in, have_statuses};
 
 use fed_cookie::read_set_cookie;
 use fed_io::{Bytes, Fault, NoRoom};

@@ -5,18 +5,18 @@ ghost use Rattle.indexmap.specs.IndexMap.{insert_entry, shift_remove_entry};
 ghost use Rattle.fed_origin.specs.Origin.{same_origin};
 ghost use Rattle.fed_origin.specs.WebUrl.{origin_of};
 ghost use Rattle.fed_script.specs.Used.{IsKnown};
-ghost use Rattle.fed_session.specs.Effect.{login_change};
-ghost use Rattle.fed_session.specs.Keyed.{entries_after};
-ghost use Rattle.fed_session.specs.Records.{records_of};
-ghost use Rattle.fed_session.specs.Session.{with_ended, without_get, holding, freed_at, status_at, close_records};
+ghost use Rattle.fed_trace.specs.Effect.{login_change};
+ghost use Rattle.fed_trace.specs.Keyed.{entries_after};
+ghost use Rattle.fed_trace.specs.Records.{records_of};
+ghost use Rattle.fed_session.specs.StepParts.{with_ended, without_get, holding, freed_at, status_at, close_records};
 
 use crate::apply::ignored;
 use crate::calls::{Calls, Kept, end};
-use crate::out::Out;
 use fed_consent::Why;
 use fed_io::{Items, NoRoom};
 use fed_origin::{LoginStatus, Origin, WebUrl};
 use fed_status::LoginMap;
+use fed_trace::Out;
 use indexmap::IndexMap;
 use std::alloc::Global;
 

@@ -1,28 +1,29 @@
 //! One event at a time.
-ghost use Rattle.std.specs.Prelude.{◌≡◌, ◌<◌, ℕ, nat_eq, [], None, length, true, false, IfOk, OnErr, IsErr};
+ghost use Rattle.std.specs.Prelude.{◌≡◌, ◌<◌, ℕ, nat_eq, [], None, length, is_some, true, false, IfOk, OnErr, IsErr};
 ghost use Rattle.std.specs.Map.{lookup};
 ghost use Rattle.fed_script.specs.declared.event.Event.TheVariants as events;
 ghost use Rattle.fed_script.specs.Used.{HasOneProvider, HasKnownStatus, SaysKnown};
-ghost use Rattle.fed_session.specs.Records.{records};
-ghost use Rattle.fed_session.specs.Row.{row_of, with_event};
-ghost use Rattle.fed_session.specs.Session.{Stands, Shows, IsFresh, Brings, revived, stepped};
-ghost use Rattle.fed_session.specs.Trace.{Trace};
+ghost use Rattle.fed_trace.specs.Known.{input_of};
+ghost use Rattle.fed_trace.specs.Records.{records};
+ghost use Rattle.fed_trace.specs.Row.{row_of, with_event};
+ghost use Rattle.fed_session.specs.Session.{Stands, Shows, IsFresh};
+ghost use Rattle.fed_session.specs.StepParts.{revived, stepped};
+ghost use Rattle.fed_trace.specs.Trace.{Trace};
 
 use crate::apply::{Sight, Statuses};
 use crate::calls::Calls;
 use crate::get::get;
-use crate::input::take_input;
+use crate::input::{input_of, take_input};
 use crate::load::{CookieSource, take_have, take_head};
-use crate::out::Out;
 use crate::page::{Page, close, load, set_page_status};
-use crate::view::{View, shown_calls, shown_logins, shown_pages};
-use fed_consent::Input;
+use crate::view::{View, shown_calls, shown_flags, shown_kept, shown_logins, shown_pages};
 use fed_io::{Bytes, Items, NoRoom, Steps};
 use fed_jar::Jar;
 use fed_origin::{GetOptions, WebUrl};
 use fed_script::{Event, Have, Header};
 use fed_status::{KeptSet, LoginMap, SilentFlags};
 use fed_suffix::Suffixes;
+use fed_trace::Out;
 use indexmap::IndexMap;
 use std::alloc::Global;
 use std::marker::Model;
@@ -174,33 +175,11 @@ impl Session {
                 call,
                 options,
             } => self.get(line, *page, *call, options),
-            Event::Abort { call } => self.input(line, *call, &Input::Abort),
-            Event::GoOn { call } => self.input(line, *call, &Input::GoOn),
-            Event::Cancel { call } => self.input(line, *call, &Input::Cancel),
-            Event::Choose {
-                call,
-                provider,
-                account,
-            } => {
-                let choice = Input::Choose {
-                    provider: *provider,
-                    account: account.copy(self.alloc)?,
-                };
-                self.input(line, *call, &choice)
-            }
-            Event::Reply {
-                call,
-                provider,
-                kind,
-                raw,
-            } => {
-                let reply = Input::Reply {
-                    provider: *provider,
-                    kind: *kind,
-                    raw: raw.copy(self.alloc)?,
-                };
-                self.input(line, *call, &reply)
-            }
+            Event::Abort { .. }
+            | Event::GoOn { .. }
+            | Event::Cancel { .. }
+            | Event::Choose { .. }
+            | Event::Reply { .. } => self.called(line, event),
         }
     }
 
@@ -280,13 +259,17 @@ impl Session {
         Ok(outs)
     }
 
-    // An input of a call, which some event brings.
-    fn input(&mut self, line: u32, call: u32, input: &Input) -> Result<Items<Out>, NoRoom>
-        ensures row { (T : Trace) (event : Event) → Stands (revived self.old) T → Brings T event call input.now
-            → IfOk result (λ outs. (outs ≡ records (row_of T line event)) × Stands (stepped self.new) (with_event T line event)) }
+    // An event that names a call, and brings it an input.
+    fn called(&mut self, line: u32, event: &Event) -> Result<Items<Out>, NoRoom>
+        requires { is_some (input_of event.now) ≡ true }
+        ensures row { (T : Trace) → Stands (revived self.old) T
+            → IfOk result (λ outs. (outs ≡ records (row_of T line event.now)) × Stands (stepped self.new) (with_event T line event.now)) }
         ensures steps { self.new.steps ≡ self.old.steps }
         ensures alive { self.new.alive ≡ self.old.alive }
     {
+        let Some((call, input)) = input_of(self.alloc, event)? else {
+            unreachable!()
+        };
         let sight = Sight {
             rules: &self.rules,
             jar: &self.jar,
@@ -300,7 +283,7 @@ impl Session {
             &mut self.pages,
             &mut self.calls,
             call,
-            input,
+            &input,
         )?;
         Ok(outs)
     }
@@ -316,8 +299,8 @@ impl Session {
         Ok(View {
             now: self.time,
             login: shown_logins(self.alloc, &self.statuses.login)?,
-            kept: Items::new(self.alloc),
-            silent: Items::new(self.alloc),
+            kept: shown_kept(self.alloc, &self.statuses.kept)?,
+            silent: shown_flags(self.alloc, &self.statuses.flags)?,
             cookies: Items::from_vec(self.jar.list(self.alloc)?),
             pages: shown_pages(self.alloc, &self.pages)?,
             calls: shown_calls(self.alloc, &self.calls)?,

@@ -65,8 +65,8 @@ fn read_load(
 // The rules `com` and `blog.example.com`.
 fn nested_rules(alloc: Global) -> Result<Suffixes, Fail> {
     let mut rules = Suffixes::new(alloc);
-    rules.read_line(alloc, "com")?;
-    rules.read_line(alloc, "blog.example.com")?;
+    rules.read_line("com")?;
+    rules.read_line("blog.example.com")?;
     Ok(rules)
 }
 

@@ -1,14 +1,15 @@
 //! What stands in a session.
 ghost use Rattle.std.specs.Prelude.{◌≡◌, IfOk};
 ghost use Rattle.std.specs.List.{filter_map};
-ghost use Rattle.fed_session.specs.Session.{origins_of, shown_call};
+ghost use Rattle.fed_session.specs.Session.{origins_of};
+ghost use Rattle.fed_session.specs.StepParts.{shown_call};
 
 use crate::calls::Calls;
 use crate::page::Page;
 use fed_io::{Items, NoRoom};
 use fed_jar::Cookie;
 use fed_origin::{LoginStatus, Origin, Stage, Triple};
-use fed_status::LoginMap;
+use fed_status::{KeptSet, LoginMap, SilentFlags};
 use indexmap::IndexMap;
 use std::alloc::Global;
 
@@ -19,9 +20,9 @@ pub struct View {
     pub now: u64,
     /// The login statuses of providers that were set.
     pub login: Items<(Origin, LoginStatus)>,
-    /// The kept permissions. No event keeps one yet.
+    /// The kept permissions.
     pub kept: Items<Triple>,
-    /// The origins whose prevent-silent flag is set. No event sets one yet.
+    /// The origins whose prevent-silent flag is set.
     pub silent: Items<Origin>,
     /// The cookies.
     pub cookies: Items<Cookie>,
@@ -42,6 +43,32 @@ pub(crate) fn shown_logins(
     for place in 0..login.len() {
         if let Some((origin, status)) = login.item(place) {
             shown.push((origin.copy(alloc)?, status))?;
+        }
+    }
+    Ok(shown)
+}
+
+/// The permissions that are kept.
+pub(crate) fn shown_kept(alloc: Global, kept: &KeptSet) -> Result<Items<Triple>, NoRoom>
+    ensures { IfOk result (λ shown. shown ≡ kept.now) }
+{
+    let mut shown = Items::new(alloc);
+    for place in 0..kept.len() {
+        if let Some(triple) = kept.item(place) {
+            shown.push(triple.copy(alloc)?)?;
+        }
+    }
+    Ok(shown)
+}
+
+/// The origins whose flag is set.
+pub(crate) fn shown_flags(alloc: Global, flags: &SilentFlags) -> Result<Items<Origin>, NoRoom>
+    ensures { IfOk result (λ shown. shown ≡ flags.now) }
+{
+    let mut shown = Items::new(alloc);
+    for place in 0..flags.len() {
+        if let Some(origin) = flags.item(place) {
+            shown.push(origin.copy(alloc)?)?;
         }
     }
     Ok(shown)

@@ -1,6 +1,3 @@
-pub mod Entries
-pub mod Lists
-pub mod Names
-pub mod Pairs
-pub mod Places
-pub mod Tables
+pub mod lists
+pub mod numbers
+pub mod removals

@@ -1,5 +1,5 @@
 -- Kept permissions, in order of entering, none twice.
-use Rattle.std.specs.Prelude.{ℕ, Bool, not, ◌&&◌, List, [], ◌∷◌, ◌++◌, filter, if◌then◌else◌}
+use Rattle.std.specs.Prelude.{ℕ, Bool, not, ◌&&◌, List, [], ◌∷◌, ◌++◌, filter, fold, if◌then◌else◌}
 use Rattle.std.specs.List.{list_any, IsDistinct}
 use Rattle.indexmap.specs.IndexSet.{remove_key}
 use Rattle.fed_origin.specs.declared.origin.Origin.{Origin}
@@ -38,6 +38,14 @@ has_pair kept page provider = list_any (is_of_pair page provider) kept
 -- the permissions that are not of the pair, in their order
 abbrev pub without_pair : List Triple → Origin → Origin → List Triple
 without_pair kept page provider = filter (λ triple. not (is_of_pair page provider triple)) kept
+
+-- the permissions of the pair, in their order
+abbrev pub triples_of_pair : List Triple → Origin → Origin → List Triple
+triples_of_pair kept page provider = filter (is_of_pair page provider) kept
+
+-- the permissions without each of these, which go one after the other
+abbrev pub without_each : List Triple → List Triple → List Triple
+without_each kept triples = fold without_triple kept triples
 
 -- no permission stands twice
 abbrev pub HasDistinctTriples : List Triple → Type 0

@@ -1,13 +1,14 @@
 -- Login statuses: a list of origins with their statuses in order of entering, no origin twice.
-use Rattle.std.specs.Prelude.{ℕ, not, List, filter, codes, bytes_eq, Option, Some, None, unwrap_or, if◌then◌else◌}
+use Rattle.std.specs.Prelude.{ℕ, not, List, filter, Option, unwrap_or}
 use Rattle.std.specs.List.{IsDistinct}
 use Rattle.std.specs.Map.{lookup, keys_of}
 use Rattle.indexmap.specs.IndexMap.{insert_entry}
 use Rattle.fed_reply.specs.Json.{essence}
 use Rattle.fed_origin.specs.declared.origin.Origin.{Origin}
 use Rattle.fed_origin.specs.declared.status.LoginStatus.{LoginStatus}
-use Rattle.fed_origin.specs.declared.status.LoginStatus.TheVariants.{Unknown, LoggedIn, LoggedOut}
+use Rattle.fed_origin.specs.declared.status.LoginStatus.TheVariants.{Unknown}
 use Rattle.fed_origin.specs.Origin.{same_origin}
+use Rattle.fed_origin.specs.Words.{status_of_word}
 
 abbrev pub Logins : Type 0
 Logins = List (Origin × LoginStatus)
@@ -28,12 +29,6 @@ but_origin origin logins = filter (λ login. not (same_origin origin login.0)) l
 abbrev pub HasDistinctOrigins : Logins → Type 0
 HasDistinctOrigins logins = IsDistinct same_origin (keys_of logins)
 
--- the status that a word names
-abbrev pub status_named : List ℕ → Option LoginStatus
-status_named word =
-    if bytes_eq word (codes "logged-in") then Some LoggedIn
-    else (if bytes_eq word (codes "logged-out") then Some LoggedOut else None)
-
 -- what a Set-Login value says; none where it is ignored
 abbrev pub set_login_of : List ℕ → Option LoginStatus
-set_login_of value = status_named (essence value)
+set_login_of value = status_of_word (essence value)

@@ -6,6 +6,7 @@ use Rattle.fed_origin.specs.declared.status.Triple.{Triple}
 use Rattle.fed_status.specs.declared.place.Pair.{Pair}
 use Rattle.fed_status.specs.declared.place.Place.{Place}
 use Rattle.fed_status.specs.declared.table.Table.{Table}
+use Rattle.fed_status.specs.Kept.{HasDistinctTriples}
 use Rattle.fed_status.specs.Place.{IsInPlace, same_pair, is_at_pair}
 
 -- the permissions, in order of entering
@@ -20,3 +21,4 @@ ArePairsOf entries pairs = (pair : Pair) → list_any (same_pair pair) pairs ≡
 pub record IsTable (table : Table) : Type 0 where
   pub in_place : AllByRecursion (IsInPlace table.names) table.kept.entries
   pub pairs : ArePairsOf table.kept.entries table.pairs.keys
+  pub distinct : HasDistinctTriples (triples_of table)

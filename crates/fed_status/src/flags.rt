@@ -9,7 +9,8 @@ use std::alloc::Global;
 use std::marker::Model;
 
 /// The origins at whose pages no account is chosen without the user (Credential Management, 2.3.3, "prevent silent access
-/// flag"). Contracts see them as a list in order of setting, none twice.
+/// flag"). Contracts see them as a list in order of setting. That none stands twice is a fact of the type; each call that only
+/// looks gives it.
 #[derive(Drop)]
 pub struct SilentFlags {
     origins: IndexSet<Origin>,
@@ -19,10 +20,13 @@ pub struct SilentFlags {
 impl Model for SilentFlags {
     ghost use Rattle.std.specs.Prelude.{List};
     ghost use Rattle.fed_origin.specs.declared.origin.Origin.{Origin};
+    ghost use Rattle.fed_status.specs.Flags.{HasDistinctFlags};
 
     ghost Value = { List Origin };
 
     ghost view = { λ f. f.origins.keys };
+
+    ghost invariant = { λ f. HasDistinctFlags f.origins.keys };
 }
 
 impl SilentFlags {
@@ -64,7 +68,8 @@ impl SilentFlags {
 
     /// Whether the flag of an origin is set. It takes no memory.
     pub fn is_set(&self, origin: &Origin) -> bool
-        ensures { result ≡ has_flag self.now origin.now }
+        ensures value { result ≡ has_flag self.now origin.now }
+        ensures distinct { HasDistinctFlags self.now }
     {
         self.origins.contains(origin)
     }
@@ -79,7 +84,8 @@ impl SilentFlags {
 
     /// The origin at place `k` from 0 in order of setting; `None` exactly where `k` is at least `len`. It takes no memory.
     pub fn item(&self, k: usize) -> Option<&Origin>
-        ensures { option_copied result ≡ slice_get self.now k }
+        ensures value { option_copied result ≡ slice_get self.now k }
+        ensures distinct { HasDistinctFlags self.now }
     {
         self.origins.get_index(k)
     }

@@ -2,7 +2,7 @@
 ghost use Rattle.std.specs.Prelude.{◌≡◌, [], length, slice_get, OnOk, OnErr};
 ghost use Rattle.std.specs.Option.{option_copied};
 ghost use Rattle.fed_status.specs.Kept as spec;
-ghost use Rattle.fed_status.specs.Kept.{triple_of, with_triple, without_triple, but_triple, without_pair};
+ghost use Rattle.fed_status.specs.Kept.{triple_of, with_triple, without_triple, but_triple, without_pair, triples_of_pair, without_each};
 
 use crate::table::Table;
 use fed_io::{NoRoom, Text};
@@ -10,7 +10,8 @@ use fed_origin::{Origin, Triple};
 use std::alloc::Global;
 use std::marker::Model;
 
-/// The kept permissions (FedCM, "connected accounts set"). Contracts see them as a list in order of entering, none twice.
+/// The kept permissions (FedCM, "connected accounts set"). Contracts see them as a list in order of entering. That
+/// none stands twice is a fact of the type; each call that only looks gives it.
 #[derive(Drop)]
 pub struct KeptSet {
     table: Table,
@@ -55,14 +56,16 @@ impl KeptSet {
 
     /// Whether the permission is kept. It takes no memory.
     pub fn has(&self, page: &Origin, provider: &Origin, account: &Text) -> bool
-        ensures { result ≡ spec.has_triple self.now (triple_of page.now provider.now account.now) }
+        ensures value { result ≡ spec.has_triple self.now (triple_of page.now provider.now account.now) }
+        ensures distinct { spec.HasDistinctTriples self.now }
     {
         self.table.has(page, provider, account)
     }
 
     /// Whether some permission for pages of an origin and a provider is kept. It takes no memory.
     pub fn has_pair(&self, page: &Origin, provider: &Origin) -> bool
-        ensures { result ≡ spec.has_pair self.now page.now provider.now }
+        ensures value { result ≡ spec.has_pair self.now page.now provider.now }
+        ensures distinct { spec.HasDistinctTriples self.now }
     {
         self.table.has_pair(page, provider)
     }
@@ -79,7 +82,10 @@ impl KeptSet {
 
     /// Removes all permissions for pages of an origin and a provider; the others keep their order. It takes no memory.
     pub fn remove_pair(&mut self, page: &Origin, provider: &Origin)
-        ensures { self.new ≡ without_pair self.old page.now provider.now }
+        ensures value { self.new ≡ without_pair self.old page.now provider.now }
+
+        // Each permission of the pair goes, one after the other.
+        ensures each { self.new ≡ without_each self.old (triples_of_pair self.old page.now provider.now) }
     {
         self.table.remove_pair(page, provider);
     }
@@ -95,7 +101,8 @@ impl KeptSet {
     /// The permission at place `k` from 0 in order of entering; `None` exactly where `k` is at least `len`. It takes no
     /// memory.
     pub fn item(&self, k: usize) -> Option<&Triple>
-        ensures { option_copied result ≡ slice_get self.now k }
+        ensures value { option_copied result ≡ slice_get self.now k }
+        ensures distinct { spec.HasDistinctTriples self.now }
     {
         self.table.item(k)
     }

@@ -10,7 +10,7 @@ use std::alloc::Global;
 use std::marker::Model;
 
 /// The login statuses that were set (Login Status API, "login status map"). Contracts see them as a list of origins with
-/// their statuses in order of entering, no origin twice.
+/// their statuses in order of entering. That no origin stands twice is a fact of the type; each call that only looks gives it.
 #[derive(Drop)]
 pub struct LoginMap {
     statuses: IndexMap<Origin, LoginStatus>,
@@ -18,11 +18,13 @@ pub struct LoginMap {
 }
 
 impl Model for LoginMap {
-    ghost use Rattle.fed_status.specs.Login.{Logins};
+    ghost use Rattle.fed_status.specs.Login.{Logins, HasDistinctOrigins};
 
     ghost Value = { Logins };
 
     ghost view = { λ m. m.statuses.entries };
+
+    ghost invariant = { λ m. HasDistinctOrigins m.statuses.entries };
 }
 
 impl LoginMap {
@@ -38,7 +40,8 @@ impl LoginMap {
 
     /// The status of an origin, unknown where it was never set. It takes no memory.
     pub fn get(&self, origin: &Origin) -> LoginStatus
-        ensures { result ≡ status_of self.now origin.now }
+        ensures value { result ≡ status_of self.now origin.now }
+        ensures distinct { HasDistinctOrigins self.now }
     {
         self.statuses
             .get(origin)
@@ -81,7 +84,8 @@ impl LoginMap {
     /// The origin at place `k` from 0 in order of entering, with its status; `None` exactly where `k` is at least `len`. It
     /// takes no memory.
     pub fn item(&self, k: usize) -> Option<(&Origin, LoginStatus)>
-        ensures { option_map (λ e. (e.0.now, e.1)) result ≡ slice_get self.now k }
+        ensures value { option_map (λ e. (e.0.now, e.1)) result ≡ slice_get self.now k }
+        ensures distinct { HasDistinctOrigins self.now }
     {
         match self.statuses.get_index(k) {
             Some((origin, status)) => Some((origin, *status)),

@@ -5,6 +5,7 @@ ghost use Rattle.fed_status.specs.Login as spec;
 
 use fed_origin::LoginStatus;
 use fed_reply::essence;
+use std::str;
 
 /// What a Set-Login value says (Login Status API, "The Set-Login HTTP response header field"): the part up to the first
 /// `;`, without spaces and tabs at its ends, is `logged-in` or `logged-out`, byte for byte. `None` exactly where it is
@@ -13,19 +14,8 @@ pub fn read_set_login(field: &[u8]) -> Option<LoginStatus>
     ensures value { result ≡ spec.set_login_of field.now }
     ensures known { IfSome result (λ status. is_known status ≡ true) }
 {
-    status_named(essence(field))
-}
-
-// The status that a word names.
-fn status_named(word: &[u8]) -> Option<LoginStatus>
-    ensures value { result ≡ spec.status_named word.now }
-    ensures known { IfSome result (λ status. is_known status ≡ true) }
-{
-    if word == b"logged-in".as_slice() {
-        Some(LoginStatus::LoggedIn)
-    } else if word == b"logged-out".as_slice() {
-        Some(LoginStatus::LoggedOut)
-    } else {
-        None
+    match str::from_utf8(essence(field)) {
+        Ok(word) => LoginStatus::of_word(word),
+        Err(_) => None,
     }
 }

@@ -5,7 +5,7 @@ ghost use Rattle.std.specs.Map.{keys_of};
 ghost use Rattle.std.specs.Option.{option_copied};
 ghost use Rattle.fed_status.specs.Kept as spec;
 ghost use Rattle.fed_status.specs.Kept.{triple_of, with_triple, without_triple, without_pair};
-ghost use Rattle.indexmap.specs.IndexMap.{shift_remove_entry};
+ghost use Rattle.indexmap.specs.IndexMap.{shift_remove_entry, IsUnique};
 ghost use Rattle.indexmap.specs.IndexSet.{spare};
 ghost use Rattle.fed_status.specs.Place.{place_of, same_place, same_pair, is_at_pair};
 ghost use Rattle.fed_status.specs.declared.place.Pair.{Pair};
@@ -115,9 +115,7 @@ impl Table {
     }
 
     pub fn len(&self) -> usize
-        requires { IsTable self.now }
-        ensures value { result ≡ length (triples_of self.now) }
-        ensures distinct { spec.HasDistinctTriples (triples_of self.now) }
+        ensures { result ≡ length (triples_of self.now) }
     {
         self.kept.len()
     }
@@ -143,6 +141,7 @@ fn holds_pair(kept: &IndexMap<Place, Triple>, pair: Pair) -> bool
 fn forget(kept: &mut IndexMap<Place, Triple>, pairs: &mut IndexSet<Pair>, place: Place)
     ensures kept { kept.new.entries ≡ shift_remove_entry (same_place place) kept.old.entries }
     ensures pairs { ArePairsOf kept.old.entries pairs.old.keys → ArePairsOf kept.new.entries pairs.new.keys }
+    ensures unique { IsUnique same_place kept.new }
 {
     kept.shift_remove(&place);
     let pair = place.pair();

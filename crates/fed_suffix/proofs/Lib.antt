@@ -1,5 +1,4 @@
-pub mod RuleOrder
-pub mod LabelLemmas
-pub mod Most
-pub mod TreeLemmas
-pub mod SetLemmas
+pub mod labels
+pub mod rules
+pub mod nodes
+pub mod sets

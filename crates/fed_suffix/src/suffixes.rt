@@ -22,6 +22,7 @@ use std::marker::Model;
 #[derive(Drop)]
 pub struct Suffixes {
     tree: Tree,
+    alloc: Global,
 }
 
 impl Model for Suffixes {
@@ -46,6 +47,7 @@ impl Suffixes {
     {
         Suffixes {
             tree: Tree::new(alloc),
+            alloc,
         }
     }
 
@@ -54,7 +56,7 @@ impl Suffixes {
     /// `!` in front marks an exception. The labels stand in ASCII form. `BadRule` comes exactly
     /// where a label has no ASCII form, is empty or holds a dot, or where an exception has one
     /// label only. After any refusal the rules are unchanged.
-    pub fn read_line(&mut self, alloc: Global, line: &str) -> Result<(), Fault<SuffixRefusal>>
+    pub fn read_line(&mut self, line: &str) -> Result<(), Fault<SuffixRefusal>>
         ensures answer { AnswersBy (λ _. self.new) result (rules_after self.old line.now) }
         ensures err { OnErr result (self.new ≡ self.old) }
     {
@@ -62,9 +64,9 @@ impl Suffixes {
         if is_skipped(text) {
             return Ok(());
         }
-        match read_rule(alloc, text)? {
+        match read_rule(self.alloc, text)? {
             Some(rule) => {
-                self.tree.add(alloc, rule)?;
+                self.tree.add(self.alloc, rule)?;
                 Ok(())
             }
             None => Err(Fault::Step(SuffixRefusal::BadRule)),
@@ -121,6 +123,7 @@ impl Suffixes {
     {
         Ok(Suffixes {
             tree: self.tree.copy(alloc)?,
+            alloc,
         })
     }
 

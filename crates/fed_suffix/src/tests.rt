@@ -9,7 +9,7 @@ use std::test::Fail;
 fn read(alloc: Global, list: &str) -> Result<Suffixes, Fault<SuffixRefusal>> {
     let mut rules = Suffixes::new(alloc);
     for line in list.split('\n') {
-        rules.read_line(alloc, line)?;
+        rules.read_line(line)?;
     }
     Ok(rules)
 }
@@ -107,7 +107,7 @@ fn raw_names(rt: HostRuntime) -> Result<(), Fail> {
 fn lines_that_hold_no_rule_or_a_bad_one(rt: HostRuntime) -> Result<(), Fail> {
     let mut rules = read(rt.alloc(), "\n// com\n//com\n \tcom\n\r")?;
     for line in ".\n.com\ncom.\na..b\n!\n!com\n!a..com\na/b.com\na%.com".split('\n') {
-        let bad = rules.read_line(rt.alloc(), line) == Err(Fault::Step(SuffixRefusal::BadRule));
+        let bad = rules.read_line(line) == Err(Fault::Step(SuffixRefusal::BadRule));
         assert!(rt; bad);
     }
     assert!(rt; rules.same(&Suffixes::new(rt.alloc())));

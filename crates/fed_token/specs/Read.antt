@@ -1,6 +1,8 @@
 -- Replies of the assertion and the disconnect endpoints (FedCM).
-use Rattle.std.specs.Prelude.{ℕ, List, [], codes, unwrap_or, Result, Ok, Err, if◌then◌else◌}
+use Rattle.std.specs.Prelude.{ℕ, List, [], codes, unwrap_or, Result, Ok, Err, ⊤, if◌then◌else◌}
 use Rattle.serde_json.specs.Data.{Data}
+use Rattle.fed_io.specs.declared.error.Fault.{Fault}
+use Rattle.fed_io.specs.declared.error.Fault.TheVariants.{Step, NoRoom}
 use Rattle.fed_reply.specs.declared.member.Member.{Member}
 use Rattle.fed_reply.specs.declared.member.Member.TheVariants.{Absent, Wrong, Is}
 use Rattle.fed_reply.specs.Steps.{◌>>=◌, with_step}
@@ -51,3 +53,15 @@ unfoldable pub DisconnectOf : List ℕ → List ℕ → Result (List ℕ) TokenS
 DisconnectOf raw origin = do
   value ← CheckedJsonOf raw origin
   account_id_of value
+
+-- a step of a disconnect reply: nothing that a provider says in it is an error of its own
+abbrev pub IsDisconnectStep : TokenStep → Type 0
+IsDisconnectStep (Reply step) = ⊤
+IsDisconnectStep Cors = ⊤
+IsDisconnectStep Shape = ⊤
+IsDisconnectStep (ProviderError code url) = ⊥
+
+-- the same, or there was no memory
+abbrev pub IsDisconnectFault : Fault TokenStep → Type 0
+IsDisconnectFault (Step step) = IsDisconnectStep step
+IsDisconnectFault NoRoom = ⊤

@@ -1,5 +1,5 @@
 //! Reading replies of the assertion and the disconnect endpoints.
-ghost use Rattle.std.specs.Prelude.{◌≡◌, IfOk};
+ghost use Rattle.std.specs.Prelude.{◌≡◌, IfOk, IfErr};
 ghost use Rattle.serde_json.specs.View.{view};
 ghost use Rattle.fed_io.specs.Fault.{Answers, AnswersBy};
 ghost use Rattle.fed_origin.specs.Origin.{origin_text};
@@ -30,10 +30,13 @@ pub fn read_assertion(alloc: Global, raw: &[u8], origin: &Origin) -> Result<Text
 
 /// Reads the account id in a reply of the disconnect endpoint (FedCM, "The disconnect endpoint") to
 /// a page of the origin. The steps are those of `read_assertion` up to `Json`, and `Shape` where
-/// there is no id.
+/// there is no id. An `error` in such a reply is not read, so the step is never `ProviderError`.
 #[tactic(auto, unfolding(crate::specs::Read::DisconnectOf))]
 pub fn read_disconnect(alloc: Global, raw: &[u8], origin: &Origin) -> Result<Text, Fault<TokenStep>>
-    ensures { Answers result (spec.DisconnectOf raw.now (origin_text origin.now)) }
+    ensures answers { Answers result (spec.DisconnectOf raw.now (origin_text origin.now)) }
+
+    // No step is an error of the provider.
+    ensures never { IfErr result spec.IsDisconnectFault }
 {
     match checked_json(alloc, raw, origin) {
         Ok(value) => account_id(alloc, &value),
@@ -44,7 +47,8 @@ pub fn read_disconnect(alloc: Global, raw: &[u8], origin: &Origin) -> Result<Tex
 // The JSON value of a reply that a page of the origin may read.
 #[tactic(auto, unfolding(crate::specs::Read::CheckedJsonOf))]
 fn checked_json(alloc: Global, raw: &[u8], origin: &Origin) -> Result<Value, Fault<TokenStep>>
-    ensures { AnswersBy view result (spec.CheckedJsonOf raw.now (origin_text origin.now)) }
+    ensures answers { AnswersBy view result (spec.CheckedJsonOf raw.now (origin_text origin.now)) }
+    ensures never { IfErr result spec.IsDisconnectFault }
 {
     let reply = match read_reply(alloc, raw) {
         Ok(reply) => reply,
@@ -77,7 +81,8 @@ fn token(alloc: Global, value: &Value) -> Result<Text, Fault<TokenStep>>
 
 // The account id of a value.
 fn account_id(alloc: Global, value: &Value) -> Result<Text, Fault<TokenStep>>
-    ensures { Answers result (spec.account_id_of (view value.now)) }
+    ensures answers { Answers result (spec.account_id_of (view value.now)) }
+    ensures never { IfErr result spec.IsDisconnectFault }
 {
     match text_member(value, "account_id") {
         Member::Is(id) => Ok(Text::of(alloc, id)?),

@@ -4,9 +4,9 @@ use Rattle.std.specs.List.{list_any, filter_map}
 use Rattle.fed_origin.specs.declared.stage.ReplyKind.{ReplyKind}
 use Rattle.fed_origin.specs.declared.stage.ReplyKind.TheVariants as kinds
 use Rattle.fed_script.specs.Script.{Script, IsRead}
-use Rattle.fed_session.specs.declared.out.Out.{Out}
-use Rattle.fed_session.specs.declared.out.Out.TheVariants.{Request}
-use Rattle.fed_session.specs.Trace.{Row}
+use Rattle.fed_trace.specs.declared.out.Out.{Out}
+use Rattle.fed_trace.specs.declared.out.Out.TheVariants.{Request}
+use Rattle.fed_trace.specs.Trace.{Row}
 use Rattle.fed_twin.specs.Script.{kept_events, first_sent, is_loud, Quiet, sign_in}
 
 -- the greatest number of kept events up to which neither script asks for a token or a disconnect

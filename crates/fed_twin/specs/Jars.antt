@@ -7,10 +7,10 @@ use Rattle.fed_script.specs.declared.event.Event.TheVariants as events
 use Rattle.fed_script.specs.declared.event.Have.TheVariants as haves
 use Rattle.fed_script.specs.declared.event.Numbered.{Numbered}
 use Rattle.fed_script.specs.Script.{Script}
-use Rattle.fed_session.specs.Effect.{Effect, Cookie, Sent}
-use Rattle.fed_session.specs.Row.{load_values, set_login_name}
-use Rattle.fed_session.specs.Trace.{Row}
-use Rattle.fed_session.specs.OfScript.{trace_of}
+use Rattle.fed_trace.specs.Effect.{Effect, Cookie, Sent}
+use Rattle.fed_trace.specs.Row.{load_values, set_login_name}
+use Rattle.fed_trace.specs.Trace.{Row}
+use Rattle.fed_trace.specs.OfScript.{trace_of}
 
 -- two events that are equal but for the cookies that they bring
 pub data BringCookies : Event → Event → Type 0 where

@@ -9,9 +9,9 @@ use Rattle.fed_script.specs.declared.event.Event.TheVariants as events
 use Rattle.fed_script.specs.declared.event.Have.{Have}
 use Rattle.fed_script.specs.declared.event.Header.{Header}
 use Rattle.fed_script.specs.Used.{HasOneProvider}
-use Rattle.fed_session.specs.Row.{with_event}
-use Rattle.fed_session.specs.Trace.{Trace}
-use Rattle.fed_session.specs.OfScript.{start}
+use Rattle.fed_trace.specs.Row.{with_event}
+use Rattle.fed_trace.specs.Trace.{Trace}
+use Rattle.fed_trace.specs.OfScript.{start}
 use Rattle.fed_twin.specs.Script.{is_kept}
 use Rattle.fed_twin.specs.Providers.{Providers}
 use Rattle.fed_twin.specs.Same.{SameOptions}

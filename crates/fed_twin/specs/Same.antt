@@ -8,8 +8,8 @@ use Rattle.fed_origin.specs.declared.stage.Stage.TheVariants as stages
 use Rattle.fed_origin.specs.WebUrl.{host_of}
 use Rattle.fed_consent.specs.Consent.{Listed}
 use Rattle.fed_call.specs.Facts.{Facts}
-use Rattle.fed_session.specs.Known.{facts_at}
-use Rattle.fed_session.specs.Trace.{Trace}
+use Rattle.fed_trace.specs.Known.{facts_at}
+use Rattle.fed_trace.specs.Trace.{Trace}
 use Rattle.fed_twin.specs.Providers.{Providers, is_provider}
 use Rattle.fed_twin.specs.Seen.{view}
 use Rattle.fed_twin.specs.Twin.{SharesProvider}

@@ -2,16 +2,16 @@
 use Rattle.std.specs.Prelude.{◌≡◌, ℕ, zero, suc, Bool, true, false, List, [], ◌∷◌, filter, map, Option, Some, None, if◌then◌else◌}
 use Rattle.std.specs.List.{list_any, AllByRecursion}
 use Rattle.fed_origin.specs.declared.stage.ReplyKind.TheVariants as kinds
-use Rattle.fed_consent.specs.declared.ask.Ask.{Ask}
-use Rattle.fed_consent.specs.declared.ask.Ask.TheVariants as asks
+use Rattle.fed_consent.specs.declared.table.ask.Ask.{Ask}
+use Rattle.fed_consent.specs.declared.table.ask.Ask.TheVariants as asks
 use Rattle.fed_request.specs.Request.{request_bytes}
 use Rattle.fed_script.specs.declared.event.Event.{Event}
 use Rattle.fed_script.specs.declared.event.Event.TheVariants.{Reply}
 use Rattle.fed_script.specs.declared.event.Numbered.{Numbered}
 use Rattle.fed_script.specs.Script.{Script}
-use Rattle.fed_session.specs.Effect.{Effect, Sent}
-use Rattle.fed_session.specs.OfScript.{start, with_events}
-use Rattle.fed_session.specs.Trace.{Row, Trace, all_said}
+use Rattle.fed_trace.specs.Effect.{Effect, Sent}
+use Rattle.fed_trace.specs.OfScript.{start, with_events}
+use Rattle.fed_trace.specs.Trace.{Row, Trace, all_said}
 
 -- ---- kept events
 

@@ -6,11 +6,11 @@ use Rattle.fed_origin.specs.declared.stage.Stage.TheVariants as stages
 use Rattle.fed_origin.specs.declared.status.LoginStatus.{LoginStatus}
 use Rattle.fed_origin.specs.Origin.{is_trustworthy}
 use Rattle.fed_jar.specs.Cookie.{StoredCookie}
-use Rattle.fed_consent.specs.declared.ask.Ask.{Ask}
-use Rattle.fed_consent.specs.declared.ask.Ask.TheVariants as asks
-use Rattle.fed_session.specs.Effect.{Effect}
-use Rattle.fed_session.specs.Effect as does
-use Rattle.fed_session.specs.Trace.{Row, all_said}
+use Rattle.fed_consent.specs.declared.table.ask.Ask.{Ask}
+use Rattle.fed_consent.specs.declared.table.ask.Ask.TheVariants as asks
+use Rattle.fed_trace.specs.Effect.{Effect}
+use Rattle.fed_trace.specs.Effect as does
+use Rattle.fed_trace.specs.Trace.{Row, all_said}
 use Rattle.fed_twin.specs.Providers.{Providers, is_provider}
 
 pub data Seen : Type 0 where
@@ -49,6 +49,9 @@ seen p (does.Begin begun) = Some (Begin begun.call begun.page)
 seen p (does.Move call stage) = seen_move call stage
 seen p (does.Sent call provider ask cookies) = seen_sent call provider ask cookies
 seen p (does.Shown call dialog) = None
+seen p (does.Window call provider url) = None
+seen p (does.Kept triple stays) = None
+seen p (does.Flag origin stays) = None
 seen p (does.Result call page finish) = None
 seen p (does.Ignored why) = None
 

@@ -4,13 +4,13 @@ use Rattle.fed_origin.specs.declared.stage.ReplyKind.TheVariants as kinds
 use Rattle.fed_origin.specs.declared.stage.Stage.TheVariants.{Ended}
 use Rattle.fed_token.specs.declared.step.TokenStep.{TokenStep}
 use Rattle.fed_token.specs.Read.{AssertionOf}
-use Rattle.fed_consent.specs.declared.finish.Finish.TheVariants.{Token}
+use Rattle.fed_consent.specs.declared.table.finish.Finish.TheVariants.{Token}
 use Rattle.fed_script.specs.declared.event.Event.TheVariants.{Reply}
 use Rattle.fed_script.specs.declared.event.Numbered.{Numbered}
 use Rattle.fed_script.specs.Script.{Script}
-use Rattle.fed_session.specs.Effect.{Effect, Move, Result}
-use Rattle.fed_session.specs.Trace.{Row}
-use Rattle.fed_session.specs.OfScript.{trace_of}
+use Rattle.fed_trace.specs.Effect.{Effect, Move, Result}
+use Rattle.fed_trace.specs.Trace.{Row}
+use Rattle.fed_trace.specs.OfScript.{trace_of}
 
 -- both readings are tokens, or they are equal
 abbrev pub AreTokens : Answer (List ℕ) TokenStep → Answer (List ℕ) TokenStep → Type 0

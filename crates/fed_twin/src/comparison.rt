@@ -2,10 +2,10 @@
 ghost use Rattle.std.specs.Prelude.{◌≡◌, ◌<◌, filter, length, IfOk};
 ghost use Rattle.std.specs.List.{list_any};
 ghost use Rattle.fed_script.specs.Used.{HasOneProvider, HasKnownStatus};
-ghost use Rattle.fed_session.specs.OfScript.{start};
-ghost use Rattle.fed_session.specs.Row.{row_of, with_event};
+ghost use Rattle.fed_trace.specs.OfScript.{start};
+ghost use Rattle.fed_trace.specs.Row.{row_of, with_event};
 ghost use Rattle.fed_session.specs.Session.{Stands, IsFresh};
-ghost use Rattle.fed_session.specs.Trace.{Trace};
+ghost use Rattle.fed_trace.specs.Trace.{Trace};
 ghost use Rattle.fed_twin.specs.Compare.{IsQuietLength, QuietRun};
 ghost use Rattle.fed_twin.specs.Compare.{is_naming_record, is_first_record, quiet_count, quiet_requests};
 ghost use Rattle.fed_twin.specs.Script.{sign_in};

@@ -1,4 +1,3 @@
-pub mod AlikeLemmas
-pub mod EndsLemmas
-pub mod RunLemmas
-pub mod TopLemmas
+pub mod runs
+pub mod halves
+pub mod calls

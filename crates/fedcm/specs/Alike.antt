@@ -6,9 +6,9 @@ use Rattle.fed_origin.specs.declared.stage.ReplyKind.TheVariants as kinds
 use Rattle.fed_script.specs.declared.pair.Pair.{Pair}
 use Rattle.fed_script.specs.Pair.{is_divider, pair_of}
 use Rattle.fed_script.specs.Script.{Script, lines_of}
-use Rattle.fed_session.specs.declared.out.Out.{Out}
-use Rattle.fed_session.specs.declared.out.Out.TheVariants as outs
-use Rattle.fed_session.specs.Records.{records_in}
+use Rattle.fed_trace.specs.declared.out.Out.{Out}
+use Rattle.fed_trace.specs.declared.out.Out.TheVariants as outs
+use Rattle.fed_trace.specs.Records.{records_in}
 use Rattle.fed_print.specs.Lines.{text_of}
 use Rattle.fed_twin.specs.Compare.{IsQuietLength}
 use Rattle.fed_twin.specs.Script.{trace_to}

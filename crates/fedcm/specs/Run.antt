@@ -11,11 +11,11 @@ use Rattle.fed_script.specs.Line.{event_of}
 use Rattle.fed_script.specs.declared.event.Numbered.{Numbered}
 use Rattle.fed_script.specs.Script.{Events, Script, Stop, script_of, is_blank}
 use Rattle.fed_script.specs.Used.{UsedState, used_after}
-use Rattle.fed_session.specs.OfScript.{start, with_events, trace_of}
-use Rattle.fed_session.specs.Records.{records}
-use Rattle.fed_session.specs.Row.{with_event}
+use Rattle.fed_trace.specs.OfScript.{start, with_events, trace_of}
+use Rattle.fed_trace.specs.Records.{records}
+use Rattle.fed_trace.specs.Row.{with_event}
 use Rattle.fed_session.specs.Session.{State, Stands}
-use Rattle.fed_session.specs.Trace.{Row, Trace, begun}
+use Rattle.fed_trace.specs.Trace.{Row, Trace, begun}
 use Rattle.fedcm.specs.declared.status.Status.{Status}
 use Rattle.fedcm.specs.declared.status.Status.TheVariants.{Done, BadScript, TooLong}
 use Rattle.fed_print.specs.Lines.{line_of, text_of}

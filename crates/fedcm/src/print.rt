@@ -8,7 +8,7 @@ ghost use Rattle.fedcm.specs.Text as spec;
 use fed_io::NoRoom;
 use fed_print::{Object, print};
 use fed_script::{LineCause, PairCause, PairStop};
-use fed_session::Out;
+use fed_trace::Out;
 use fed_twin::TwinFault;
 use std::alloc::Global;
 

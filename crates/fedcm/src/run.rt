@@ -2,10 +2,10 @@
 ghost use Rattle.std.specs.Prelude.{◌≡◌, ◌<◌, ◌+◌, ◌^◌, length, [], IfOk, OnOk, None};
 ghost use Rattle.fed_script.specs.Script.{lines_of, events_of, no_events, script_of};
 ghost use Rattle.fed_script.specs.Used.{unused, HasOneProvider, HasKnownStatus};
-ghost use Rattle.fed_session.specs.OfScript.{start};
-ghost use Rattle.fed_session.specs.Row.{with_event};
+ghost use Rattle.fed_trace.specs.OfScript.{start};
+ghost use Rattle.fed_trace.specs.Row.{with_event};
 ghost use Rattle.fed_session.specs.Session.{Stands, IsFresh};
-ghost use Rattle.fed_session.specs.Trace.{Trace};
+ghost use Rattle.fed_trace.specs.Trace.{Trace};
 ghost use Rattle.fed_print.specs.Lines.{line_of};
 ghost use Rattle.fedcm.specs.Text.{bad_members};
 ghost use Rattle.fedcm.specs.Run.{run_text, rows_text, outcome, last_written, IsAt, GoesAs, Follows, after_line, used_after_line, line_cause, script_status};

@@ -1,6 +1,6 @@
 use Rattle.std.proofs.Common.{◌≡◌, ◌∙◌, sym, rules}
 use Rattle.std.specs.Vec.Iter.{into_iter_items}
-use Rattle.fed_accounts.proofs.FirstLemmas.{firsts_begin, firsts_insert, firsts_skip}
+use Rattle.fed_accounts.proofs.ids.Firsts.{firsts_begin, firsts_insert, firsts_skip}
 use Rattle.fed_accounts.proofs.firsts.first_of_each_id.Goals as goal
 
 pub loop-account-init : goal.loop-account-init

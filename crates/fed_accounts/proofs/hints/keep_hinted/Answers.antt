@@ -1,5 +1,5 @@
 use Rattle.std.proofs.Common.{◌∙◌}
-use Rattle.fed_accounts.proofs.FirstLemmas.{left_are}
+use Rattle.fed_accounts.proofs.ids.Distinct.{left_are}
 use Rattle.fed_accounts.proofs.hints.keep_hinted.Goals as goal
 
 pub new-requires : goal.new-requires

@@ -1,5 +1,5 @@
 use Rattle.std.proofs.Common.{◌∙◌}
-use Rattle.fed_accounts.proofs.FirstLemmas.{firsts_of_some}
+use Rattle.fed_accounts.proofs.ids.Distinct.{firsts_of_some}
 use Rattle.fed_accounts.proofs.read.with_some.Goals as goal
 
 pub new-requires : goal.new-requires

@@ -5,7 +5,7 @@ use Rattle.fed_status.specs.Shared.{world_of}
 use Rattle.fed_call.specs.Facts.{at_stage, with_candidate}
 use Rattle.fed_call.specs.ListingRows.{prompts}
 use Rattle.fed_call.specs.State.{configured, facts_of}
-use Rattle.fed_call.proofs.ConsentLemmas.{no_choice}
+use Rattle.fed_call.proofs.agreed.Consent.{no_choice}
 use Rattle.fed_call.proofs.choosing.settles.Goals as goal
 
 pub returns-in-Err-clause-effects : goal.returns-in-Err-clause-effects

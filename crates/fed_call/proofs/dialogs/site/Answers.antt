@@ -1,4 +1,4 @@
-use Rattle.fed_provider.proofs.SiteLemmas.{site_is_ascii}
+use Rattle.fed_provider.proofs.files.SiteText.{site_is_ascii}
 use Rattle.fed_call.proofs.dialogs.site.Goals as goal
 
 pub domain_text-requires : goal.domain_text-requires

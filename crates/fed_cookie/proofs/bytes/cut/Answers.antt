@@ -1,6 +1,6 @@
 use Rattle.std.proofs.Common.{sym}
 use Rattle.std.specs.Prelude.{◌==◌}
-use Rattle.fed_cookie.proofs.Lists.{split_at_range, split_nowhere}
+use Rattle.fed_cookie.proofs.parts.Lists.{split_at_range, split_nowhere}
 use Rattle.fed_cookie.proofs.bytes.cut.Goals as goal
 
 pub returns-in-Some-clause-some : goal.returns-in-Some-clause-some

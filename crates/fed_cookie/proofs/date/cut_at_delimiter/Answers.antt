@@ -1,6 +1,6 @@
 use Rattle.std.proofs.Common.{sym}
 use Rattle.fed_cookie.specs.Date.{is_delimiter}
-use Rattle.fed_cookie.proofs.Lists.{split_at_range, split_nowhere}
+use Rattle.fed_cookie.proofs.parts.Lists.{split_at_range, split_nowhere}
 use Rattle.fed_cookie.proofs.date.cut_at_delimiter.Goals as goal
 
 pub returns-in-Some-clause-some : goal.returns-in-Some-clause-some

@@ -1,6 +1,6 @@
 use Rattle.std.proofs.Common.{◌<◌, arith, rules}
 use Rattle.fed_cookie.specs.Bytes.{number_of}
-use Rattle.fed_cookie.proofs.Lists.{four_digits}
+use Rattle.fed_cookie.proofs.parts.Lists.{four_digits}
 use Rattle.fed_cookie.proofs.date.short_number.Goals as goal
 
 pub returns : goal.returns

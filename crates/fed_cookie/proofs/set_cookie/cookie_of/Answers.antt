@@ -1,5 +1,5 @@
 use Rattle.fed_cookie.specs.SetCookie.{is_line_end}
-use Rattle.fed_cookie.proofs.LineEnds.{clean_named}
+use Rattle.fed_cookie.proofs.parts.LineEnds.{clean_named}
 use Rattle.fed_cookie.proofs.set_cookie.cookie_of.Goals as goal
 
 pub invariant_of-result : goal.invariant_of-result

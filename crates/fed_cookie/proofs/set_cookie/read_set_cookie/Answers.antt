@@ -2,7 +2,7 @@ use Rattle.std.proofs.Common.{◌≡◌, sym, ◌∙◌, rules, refl, false}
 use Rattle.std.specs.List.{list_any}
 use Rattle.fed_cookie.specs.Fields.{attributes_of, is_refused, set_cookie_of, named_cookie, no_attributes}
 use Rattle.fed_cookie.specs.SetCookie.{is_line_end}
-use Rattle.fed_cookie.proofs.LineEnds.{clean_cut, clean_field}
+use Rattle.fed_cookie.proofs.parts.LineEnds.{clean_cut, clean_field}
 use Rattle.fed_cookie.proofs.set_cookie.read_set_cookie.Goals as goal
 
 pub cookie_of-requires : goal.cookie_of-requires

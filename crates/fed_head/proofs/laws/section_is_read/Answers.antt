@@ -1,4 +1,4 @@
-use Rattle.fed_head.proofs.SectionLemmas.{section_reads}
+use Rattle.fed_head.proofs.printed.Section.{section_reads}
 use Rattle.fed_head.proofs.laws.section_is_read.Goals as goal
 
 pub returns : goal.returns

@@ -1,4 +1,4 @@
-use Rattle.fed_head.proofs.FoundLemmas.{section_answered}
+use Rattle.fed_head.proofs.found.Found.{section_answered}
 use Rattle.fed_head.proofs.read.has_trailer.Goals as goal
 
 pub returns : goal.returns

@@ -1,4 +1,4 @@
-use Rattle.fed_head.proofs.FoundLemmas.{head_answered}
+use Rattle.fed_head.proofs.found.Found.{head_answered}
 use Rattle.fed_head.proofs.read.read_head_spans.Goals as goal
 
 pub returns : goal.returns

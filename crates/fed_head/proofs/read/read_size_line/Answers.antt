@@ -1,4 +1,4 @@
-use Rattle.fed_head.proofs.FoundLemmas.{size_answered}
+use Rattle.fed_head.proofs.found.Found.{size_answered}
 use Rattle.fed_head.proofs.read.read_size_line.Goals as goal
 
 pub returns : goal.returns

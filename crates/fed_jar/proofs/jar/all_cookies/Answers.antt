@@ -1,4 +1,4 @@
-use Rattle.fed_jar.proofs.Entries.{distinct_cookies}
+use Rattle.fed_jar.proofs.keys.Entries.{distinct_cookies}
 use Rattle.fed_jar.proofs.jar.all_cookies.Goals as goal
 
 pub returns-in_err-copy_cookie-clause-distinct : goal.returns-in_err-copy_cookie-clause-distinct

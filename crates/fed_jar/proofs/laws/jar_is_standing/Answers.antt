@@ -1,4 +1,4 @@
-use Rattle.fed_jar.proofs.WriteLaws.{jar_is_standing}
+use Rattle.fed_jar.proofs.writes.Writes.{jar_is_standing}
 use Rattle.fed_jar.proofs.laws.jar_is_standing.Goals as goal
 
 pub returns : goal.returns

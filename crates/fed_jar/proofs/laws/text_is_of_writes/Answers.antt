@@ -1,4 +1,4 @@
-use Rattle.fed_jar.proofs.PartyLaws.{text_is_of_writes}
+use Rattle.fed_jar.proofs.parties.Parties.{text_is_of_writes}
 use Rattle.fed_jar.proofs.laws.text_is_of_writes.Goals as goal
 
 pub returns : goal.returns

@@ -4,7 +4,7 @@ use Rattle.std.proofs.lemmas.List.Sorted.{answers_always}
 use Rattle.fed_jar.specs.declared.send.Sent.{Sent}
 use Rattle.fed_jar.specs.Key.{sent_cookie, sent_cookies}
 use Rattle.fed_jar.specs.Send.{path_length}
-use Rattle.fed_jar.proofs.Order.{reversed_sort, largest-map}
+use Rattle.fed_jar.proofs.order.Order.{reversed_sort, largest-map}
 use Rattle.fed_jar.proofs.send.put_longest_first.Goals as goal
 
 -- the sort's keys are the lengths of the paths, the other way round

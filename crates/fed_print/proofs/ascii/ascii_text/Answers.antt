@@ -2,7 +2,7 @@ use Rattle.std.proofs.Common.{◌≡◌, ◌∙◌, true, ap, sym, Some, None, c
 use Rattle.std.proofs.lemmas.Str.{IsUtf8-from_ascii}
 use Rattle.std.specs.List.{list_all}
 use Rattle.std.specs.Prelude.{nat_lt}
-use Rattle.fed_print.proofs.AsciiLemmas.{IsAscii-from_list_all}
+use Rattle.fed_print.proofs.values.Ascii.{IsAscii-from_list_all}
 use Rattle.fed_print.proofs.ascii.ascii_text.Goals as goal
 
 pub returns-in-Ok : goal.returns-in-Ok

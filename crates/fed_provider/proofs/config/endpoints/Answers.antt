@@ -1,4 +1,4 @@
-use Rattle.fed_provider.proofs.EndpointLemmas.{refused_last}
+use Rattle.fed_provider.proofs.files.LastEndpoint.{refused_last}
 use Rattle.fed_provider.proofs.config.endpoints.Goals as goal
 
 pub returns-in-Err : goal.returns-in-Err

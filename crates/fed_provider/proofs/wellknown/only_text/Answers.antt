@@ -1,5 +1,5 @@
 use Rattle.std.proofs.Common.{◌∙◌}
-use Rattle.fed_provider.proofs.ListLemmas.{no_only_text}
+use Rattle.fed_provider.proofs.files.OnlyText.{no_only_text}
 use Rattle.fed_provider.proofs.wellknown.only_text.Goals as goal
 
 pub returns-else-len-eq1 : goal.returns-else-len-eq1

@@ -1,4 +1,4 @@
-use Rattle.fed_provider.proofs.SiteLemmas.{site_is_ascii}
+use Rattle.fed_provider.proofs.files.SiteText.{site_is_ascii}
 use Rattle.fed_provider.proofs.wellknown.wellknown_url.Goals as goal
 
 pub site_text-requires : goal.site_text-requires

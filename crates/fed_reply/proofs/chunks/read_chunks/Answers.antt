@@ -1,6 +1,6 @@
 use Rattle.std.proofs.Common.{◌≡◌, ◌<◌, length, sym, arith, Some}
 use Rattle.fed_head.specs.Chunk.{size_line}
-use Rattle.fed_reply.proofs.ChunksLemmas.{reads_chunk, ends_short, ends_last, ends_trailer, ends_without_line, after_chunk-shorter}
+use Rattle.fed_reply.proofs.body.Chunks.{reads_chunk, ends_short, ends_last, ends_trailer, ends_without_line, after_chunk-shorter}
 use Rattle.fed_reply.proofs.chunks.read_chunks.Goals as goal
 
 pub returns-in-Ok : goal.returns-in-Ok

@@ -1,5 +1,5 @@
 use Rattle.std.proofs.Common.{length}
-use Rattle.fed_reply.proofs.ChunksLemmas.{ReadsOn}
+use Rattle.fed_reply.proofs.body.Chunks.{ReadsOn}
 use Rattle.fed_reply.proofs.chunks.read_chunks.Given as goal
 
 abbrev pub invariant-loop-line : goal.invariant-loop-line

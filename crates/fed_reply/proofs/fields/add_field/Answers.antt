@@ -1,5 +1,5 @@
 use Rattle.std.proofs.Common.{Err, ap}
-use Rattle.fed_reply.proofs.FieldsLemmas.{refused_name, refused_value, taken_field, same_step}
+use Rattle.fed_reply.proofs.head.Fields.{refused_name, refused_value, taken_field, same_step}
 use Rattle.fed_reply.proofs.fields.add_field.Goals as goal
 
 pub returns-in-Err-Invalid-clause-refused : goal.returns-in-Err-Invalid-clause-refused

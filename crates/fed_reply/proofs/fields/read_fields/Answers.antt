@@ -3,7 +3,7 @@ use Rattle.std.specs.Prelude.{slice_index_or}
 use Rattle.httparse.specs.Spans.{header_bytes}
 use Rattle.httparse.specs.declared.spans.HeaderSpan.{HeaderSpan}
 use Rattle.fed_reply.specs.Fields.{is_taken_field}
-use Rattle.fed_reply.proofs.FieldsLemmas.{fields_more, taken_more, refuses_at}
+use Rattle.fed_reply.proofs.head.Fields.{fields_more, taken_more, refuses_at}
 use Rattle.fed_reply.proofs.fields.read_fields.Goals as goal
 
 pub returns-in-Err : goal.returns-in-Err

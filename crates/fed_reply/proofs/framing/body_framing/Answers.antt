@@ -1,5 +1,5 @@
 use Rattle.std.proofs.Common.{sym, ◌∙◌}
-use Rattle.fed_reply.proofs.FramingLemmas.{framing_by}
+use Rattle.fed_reply.proofs.body.Framing.{framing_by}
 use Rattle.fed_reply.proofs.framing.body_framing.Goals as goal
 
 pub returns-then-is_identity : goal.returns-then-is_identity

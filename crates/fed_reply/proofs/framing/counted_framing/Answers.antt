@@ -1,6 +1,6 @@
 use Rattle.std.proofs.Common.{ap, sym, ◌∙◌}
 use Rattle.fed_reply.specs.Body.{counted}
-use Rattle.fed_reply.proofs.FramingLemmas.{counted_first}
+use Rattle.fed_reply.proofs.body.Framing.{counted_first}
 use Rattle.fed_reply.proofs.framing.counted_framing.Goals as goal
 
 pub returns-then-not-are_all : goal.returns-then-not-are_all

@@ -1,7 +1,7 @@
 use Rattle.std.proofs.Common.{rules, arith, ◌≡◌, ◌<◌, sym, ◌∙◌, true}
 use Rattle.std.specs.Char.{is_ascii_digit}
 use Rattle.std.proofs.Common.{get_or}
-use Rattle.fed_reply.proofs.LengthLemmas.{below_limit, digits_more, number_more}
+use Rattle.fed_reply.proofs.body.Length.{below_limit, digits_more, number_more}
 use Rattle.fed_reply.proofs.framing.length.Goals as goal
 
 pub overflow_mul-length : goal.overflow_mul-length

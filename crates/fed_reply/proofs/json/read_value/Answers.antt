@@ -1,5 +1,5 @@
 use Rattle.std.proofs.Common.{◌≡◌, true, false}
-use Rattle.fed_reply.proofs.JsonLemmas.{text_read, no_text}
+use Rattle.fed_reply.proofs.value.Json.{text_read, no_text}
 use Rattle.fed_reply.proofs.json.read_value.Goals as goal
 
 pub returns-in-Ok : goal.returns-in-Ok

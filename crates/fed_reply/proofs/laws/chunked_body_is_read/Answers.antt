@@ -1,4 +1,4 @@
-use Rattle.fed_reply.proofs.ChunkedLemmas.{body_read}
+use Rattle.fed_reply.proofs.body.Chunked.{body_read}
 use Rattle.fed_reply.proofs.laws.chunked_body_is_read.Goals as goal
 
 pub returns : goal.returns

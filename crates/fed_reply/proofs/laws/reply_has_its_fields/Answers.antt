@@ -1,4 +1,4 @@
-use Rattle.fed_reply.proofs.ValuesLemmas.{reply_fields}
+use Rattle.fed_reply.proofs.head.Values.{reply_fields}
 use Rattle.fed_reply.proofs.laws.reply_has_its_fields.Goals as goal
 
 pub returns : goal.returns

@@ -1,5 +1,5 @@
 use Rattle.std.proofs.Common.{◌∙◌}
-use Rattle.fed_reply.proofs.FrontLemmas.{no_head, no_status, front_taken, front_refused}
+use Rattle.fed_reply.proofs.head.Front.{no_head, no_status, front_taken, front_refused}
 use Rattle.fed_reply.proofs.read.read_front.Goals as goal
 
 pub returns-in_default : goal.returns-in_default

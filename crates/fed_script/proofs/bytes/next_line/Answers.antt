@@ -2,7 +2,7 @@
 use Rattle.std.proofs.Common.{◌<◌, length, arith}
 use Rattle.std.proofs.lemmas.Bool.Decides.{nat_tests}
 use Rattle.std.proofs.lemmas.List.{take_rest}
-use Rattle.fed_script.proofs.LineLemmas.{lines_of-cut, lines_of-whole}
+use Rattle.fed_script.proofs.lines.Line.{lines_of-cut, lines_of-whole}
 use Rattle.fed_script.proofs.bytes.next_line.Goals as goal
 
 pub returns-in-Some-clause-lines : goal.returns-in-Some-clause-lines

@@ -1,7 +1,7 @@
 -- Each line that `split` gives is the next of the text's lines.
 use Rattle.std.proofs.Common.{refl, lit<}
 use Rattle.std.proofs.lemmas.Iterator.Splits.{YieldsList-from_str_split}
-use Rattle.fed_script.proofs.HeaderLemmas.{begins, goes_on, stops, ends}
+use Rattle.fed_script.proofs.lines.Header.{begins, goes_on, stops, ends}
 use Rattle.fed_script.proofs.header.read_rules.Goals as goal
 
 pub loop-line-init : goal.loop-line-init

@@ -3,7 +3,7 @@ use Rattle.std.proofs.Common.{◌≡◌}
 use Rattle.std.specs.Str.Iter.{split_steps}
 use Rattle.std.specs.Str.Pattern.{FindsChar}
 use Rattle.fed_script.specs.Header.{rules_of_text}
-use Rattle.fed_script.proofs.HeaderLemmas.{HasLines}
+use Rattle.fed_script.proofs.lines.Header.{HasLines}
 use Rattle.fed_script.proofs.header.read_rules.Given as goal
 
 abbrev pub invariant-loop-line : goal.invariant-loop-line

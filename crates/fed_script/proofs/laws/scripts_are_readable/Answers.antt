@@ -1,4 +1,4 @@
-use Rattle.fed_script.proofs.ReadLemmas.{readable}
+use Rattle.fed_script.proofs.scripts.Read.{readable}
 use Rattle.fed_script.proofs.laws.scripts_are_readable.Goals as goal
 
 pub returns : goal.returns

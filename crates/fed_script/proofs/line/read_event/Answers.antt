@@ -1,5 +1,5 @@
 -- What is so of each event that a line names.
-use Rattle.fed_script.proofs.EventLemmas.{named-good}
+use Rattle.fed_script.proofs.events.Event.{named-good}
 use Rattle.fed_script.proofs.line.read_event.Goals as goal
 
 pub returns-in_ok-note-in-Ok-clause-provider : goal.returns-in_ok-note-in-Ok-clause-provider

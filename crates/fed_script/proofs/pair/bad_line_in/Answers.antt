@@ -1,4 +1,4 @@
-use Rattle.fed_script.proofs.WithinLemmas.{none_within, stop_is_within}
+use Rattle.fed_script.proofs.halves.Within.{none_within, stop_is_within}
 use Rattle.fed_script.proofs.pair.bad_line_in.Goals as goal
 
 pub returns-in_default : goal.returns-in_default

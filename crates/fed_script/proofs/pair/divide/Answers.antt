@@ -1,6 +1,6 @@
 use Rattle.std.proofs.Common.{◌∙◌, sym}
 use Rattle.fed_script.specs.Pair.{is_divider}
-use Rattle.fed_script.proofs.WalkLemmas.{walk_begins, walks_on, walk_divides, walk_counts, walk_undivided, walk_counts-all}
+use Rattle.fed_script.proofs.lines.Walk.{walk_begins, walks_on, walk_divides, walk_counts, walk_undivided, walk_counts_all}
 use Rattle.fed_script.proofs.pair.divide.Goals as goal
 
 pub loop-line-init : goal.loop-line-init
@@ -24,4 +24,4 @@ pub returns-clause-halves : goal.returns-clause-halves
 returns-clause-halves c = walk_undivided c.args.bytes.now c.loop-line.rest.now c.loop-line.before c.loop-line.invariant (sym c.in_default.ensures.line)
 
 pub returns-clause-before : goal.returns-clause-before
-returns-clause-before c = walk_counts-all c.args.bytes.now c.loop-line.rest.now c.loop-line.before c.loop-line.invariant (sym c.in_default.ensures.line)
+returns-clause-before c = walk_counts_all c.args.bytes.now c.loop-line.rest.now c.loop-line.before c.loop-line.invariant (sym c.in_default.ensures.line)

@@ -1,6 +1,6 @@
 use Rattle.std.proofs.Common.{length}
 use Rattle.fed_script.specs.Pair.{is_divider}
-use Rattle.fed_script.proofs.WalkLemmas.{Walked}
+use Rattle.fed_script.proofs.lines.Walk.{Walked}
 use Rattle.fed_script.proofs.pair.divide.Given as goal
 
 -- The rest is left after so many lines, of which none divides.

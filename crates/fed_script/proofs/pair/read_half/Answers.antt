@@ -1,7 +1,7 @@
 use Rattle.std.proofs.Common.{arith}
 use Rattle.fed_script.specs.Script.{script_of}
-use Rattle.fed_script.proofs.HalfLemmas.{half_stops}
-use Rattle.fed_script.proofs.StopLemmas.{bad_line-le}
+use Rattle.fed_script.proofs.halves.Half.{half_stops}
+use Rattle.fed_script.proofs.scripts.Stop.{bad_line-le}
 use Rattle.fed_script.proofs.pair.read_half.Goals as goal
 
 pub moved-requires : goal.moved-requires

@@ -1,5 +1,5 @@
 use Rattle.fed_script.specs.Script.{script_of}
-use Rattle.fed_script.proofs.HalfLemmas.{first_refused, second_refused}
+use Rattle.fed_script.proofs.halves.Half.{first_refused, second_refused}
 use Rattle.fed_script.proofs.pair.read_halves.Goals as goal
 
 pub returns-in-Err : goal.returns-in-Err

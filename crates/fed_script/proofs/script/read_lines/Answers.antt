@@ -1,5 +1,5 @@
 use Rattle.fed_script.specs.Script.{lines_of}
-use Rattle.fed_script.proofs.ReadLemmas.{found_readable}
+use Rattle.fed_script.proofs.scripts.Read.{found_readable}
 use Rattle.fed_script.proofs.script.read_lines.Goals as goal
 
 pub invariant_of-result : goal.invariant_of-result

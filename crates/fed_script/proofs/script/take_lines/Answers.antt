@@ -1,5 +1,5 @@
 use Rattle.std.proofs.Common.{sym, arith}
-use Rattle.fed_script.proofs.FurtherLemmas.{goes_further, stops_here, ends_here}
+use Rattle.fed_script.proofs.halves.Further.{goes_further, stops_here, ends_here}
 use Rattle.fed_script.proofs.script.take_lines.Goals as goal
 
 pub loop-line-preserved : goal.loop-line-preserved

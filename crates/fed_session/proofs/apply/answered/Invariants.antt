@@ -1,5 +1,5 @@
 use Rattle.std.proofs.Common.{◌≡◌, ◌++◌}
-use Rattle.fed_session.specs.Session.{cookies_of, call_records}
+use Rattle.fed_session.specs.StepParts.{cookies_of, call_records}
 use Rattle.fed_session.proofs.apply.answered.Given as goal
 
 -- What was answered, and what is left, is the whole.

@@ -2,14 +2,14 @@ use Rattle.std.proofs.Common.{◌≡◌, ◌∙◌, ap, sym, subst, true, Some, 
 use Rattle.std.specs.Map.{lookup}
 use Rattle.fed_origin.specs.Origin.{is_trustworthy}
 use Rattle.fed_status.specs.Shared.{world_of}
-use Rattle.fed_session.specs.Row.{get_outcome}
-use Rattle.fed_session.specs.Session.{cookies_of, call_records, world_in, login_after, AllSetKnown}
-use Rattle.fed_session.proofs.GetLemmas.{get_records, get_still}
-use Rattle.fed_session.proofs.SetsLemmas.{get_sets_known}
+use Rattle.fed_trace.specs.Row.{get_outcome}
+use Rattle.fed_session.specs.StepParts.{cookies_of, call_records, world_in, login_after, CanApplyAll}
+use Rattle.fed_session.proofs.events.Get.{get_records, get_still}
+use Rattle.fed_session.proofs.clauses.Sets.{get_can_apply}
 use Rattle.fed_session.proofs.get.get.Goals as goal
 
 pub apply-requires : goal.apply-requires
-apply-requires c = subst AllSetKnown (sym c.in_ok-kept.ensures.effects) (get_sets_known (world_of c.lent.result) c.is_some.result c.args.options.now)
+apply-requires c = subst CanApplyAll (sym c.in_ok-kept.ensures.effects) (get_can_apply (world_of c.lent.result) c.is_some.result c.args.options.now)
 
 pub returns-clause-outs : goal.returns-clause-outs
 returns-clause-outs c =

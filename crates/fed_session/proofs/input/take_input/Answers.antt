@@ -4,13 +4,13 @@ use Rattle.std.specs.Map.{lookup}
 use Rattle.fed_call.specs.Row.{call_row}
 use Rattle.fed_call.specs.State.{facts_of}
 use Rattle.fed_status.specs.Shared.{world_of}
-use Rattle.fed_session.specs.Session.{cookies_of, call_records, kept_after, with_kept, world_in, login_after, outcome_at, AllSetKnown}
-use Rattle.fed_session.proofs.InputLemmas.{pending_records, lent_and_back}
-use Rattle.fed_session.proofs.SetsLemmas.{row_sets_known}
+use Rattle.fed_session.specs.StepParts.{cookies_of, call_records, kept_after, with_kept, world_in, login_after, outcome_at, CanApplyAll}
+use Rattle.fed_session.proofs.events.Input.{pending_records, lent_and_back}
+use Rattle.fed_session.proofs.clauses.Sets.{row_can_apply}
 use Rattle.fed_session.proofs.input.take_input.Goals as goal
 
 pub apply-requires : goal.apply-requires
-apply-requires c = subst AllSetKnown (sym c.in_ok-state.ensures.effects) (row_sets_known (world_of c.lent.result) (facts_of c.in-Some-into_state.state) c.args.input.now)
+apply-requires c = subst CanApplyAll (sym c.in_ok-state.ensures.effects) (row_can_apply (world_of c.lent.result) (facts_of c.in-Some-into_state.state) c.args.input.now)
 
 pub returns-clause-outs : goal.returns-clause-outs
 returns-clause-outs c =

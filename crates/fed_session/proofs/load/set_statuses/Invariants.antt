@@ -1,7 +1,7 @@
 use Rattle.std.proofs.Common.{◌≡◌, map}
 use Rattle.fed_reply.specs.Fields.{values}
-use Rattle.fed_session.specs.Row.{set_login_name}
-use Rattle.fed_session.specs.Session.{with_statuses, logins_in}
+use Rattle.fed_trace.specs.Row.{set_login_name}
+use Rattle.fed_session.specs.StepParts.{with_statuses, logins_in}
 use Rattle.fed_session.proofs.load.set_statuses.Given as goal
 
 -- What is set, and then what is left, is the whole.

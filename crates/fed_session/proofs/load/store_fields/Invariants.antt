@@ -1,7 +1,7 @@
 use Rattle.std.proofs.Common.{◌≡◌, map}
 use Rattle.fed_jar.specs.Cookie.{cookies_after}
 use Rattle.fed_reply.specs.Fields.{values}
-use Rattle.fed_session.specs.Row.{cookies_from, set_cookie_name}
+use Rattle.fed_trace.specs.Row.{cookies_from, set_cookie_name}
 use Rattle.fed_session.proofs.load.store_fields.Given as goal
 
 -- What is stored, and then what is left, is the whole.

@@ -1,6 +1,6 @@
 use Rattle.std.proofs.Common.{◌≡◌, ◌++◌}
 use Rattle.std.specs.List.{filter_map}
-use Rattle.fed_session.specs.Session.{shown_call}
+use Rattle.fed_session.specs.StepParts.{shown_call}
 use Rattle.fed_session.proofs.view.shown_calls.Given as goal
 
 -- What was shown, and what is left, is all.

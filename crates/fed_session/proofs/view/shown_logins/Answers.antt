@@ -1,5 +1,5 @@
 use Rattle.std.proofs.Common.{◌∙◌, ◌++◌, ◌∷◌, [], ap, sym, take}
-use Rattle.fed_session.proofs.ViewLemmas.{take_next, take_none}
+use Rattle.fed_session.proofs.shown.View.{take_next, take_none}
 use Rattle.fed_session.proofs.view.shown_logins.Goals as goal
 use Rattle.fed_session.proofs.view.shown_logins.Goals.{in-Some+in_ok-copy+in_ok-push, in_default}
 
@@ -8,6 +8,6 @@ loop-place-preserved c =
     elim c.match-item.branch [
       | in-Some+in_ok-copy+in_ok-push w ↦
           w.shown-is ∙ w.in_ok-push.ensures.ok ∙ ap (λ xs. xs ++ (w.in_ok-copy.field-0, w.in-Some.status) ∷ []) c.loop-place.invariant
-          ∙ ap (λ o. take c.loop-place.place c.args.login.now ++ (o, w.in-Some.status) ∷ []) w.in_ok-copy.ensures ∙ sym (take_next c.args.login.now c.loop-place.place _ (sym w.in-Some.ensures))
-      | in_default w ↦ w.shown-is ∙ c.loop-place.invariant ∙ sym (take_none c.args.login.now c.loop-place.place (sym w.in_default.ensures))
+          ∙ ap (λ o. take c.loop-place.place c.args.login.now ++ (o, w.in-Some.status) ∷ []) w.in_ok-copy.ensures ∙ sym (take_next c.args.login.now c.loop-place.place _ (sym w.in-Some.ensures.value))
+      | in_default w ↦ w.shown-is ∙ c.loop-place.invariant ∙ sym (take_none c.args.login.now c.loop-place.place (sym w.in_default.ensures.value))
     ]

@@ -3,7 +3,7 @@ use Rattle.std.specs.List.{list_any}
 use Rattle.std.specs.Map.{keys_of}
 use Rattle.fed_status.specs.Place.{same_pair, is_at_pair, pair_at}
 use Rattle.fed_status.specs.Table.{ArePairsOf}
-use Rattle.fed_status.proofs.Pairs.{last_goes, one_goes}
+use Rattle.fed_status.proofs.numbers.Pairs.{last_goes, one_goes}
 use Rattle.fed_status.proofs.table.forget.Goals as goal
 
 pub returns-then-not-holds_pair-clause-pairs : goal.returns-then-not-holds_pair-clause-pairs

@@ -3,7 +3,7 @@ use Rattle.std.specs.List.{slice_split}
 use Rattle.std.proofs.lemmas.Iterator.Search.{any_from_yields_List}
 use Rattle.std.proofs.lemmas.Iterator.Splits.{YieldsList-from_slice_split}
 use Rattle.fed_suffix.specs.Label.{is_dot, is_empty}
-use Rattle.fed_suffix.proofs.LabelLemmas.{list_any-reverse}
+use Rattle.fed_suffix.proofs.labels.Label.{list_any-reverse}
 use Rattle.fed_suffix.proofs.label.has_empty_label.Goals as goal
 
 pub returns : goal.returns

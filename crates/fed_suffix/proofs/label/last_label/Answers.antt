@@ -1,6 +1,6 @@
 use Rattle.std.proofs.Common.{rules}
 use Rattle.std.proofs.lemmas.List.{take_rest}
-use Rattle.fed_suffix.proofs.LabelLemmas.{labels_of-none, labels_of-last, joined-last}
+use Rattle.fed_suffix.proofs.labels.Label.{labels_of-none, labels_of-last, joined-last}
 use Rattle.fed_suffix.proofs.label.last_label.Goals as goal
 
 pub returns-in-Some-clause-labels : goal.returns-in-Some-clause-labels

@@ -3,7 +3,7 @@ use Rattle.std.specs.Option.{option_copied}
 use Rattle.std.proofs.lemmas.Bool.Decides.{nat_tests}
 use Rattle.std.proofs.lemmas.List.{take_rest}
 use Rattle.fed_suffix.specs.Label.{labels_of, labels_before}
-use Rattle.fed_suffix.proofs.LabelLemmas.{cut_is, drop-next, short_of}
+use Rattle.fed_suffix.proofs.labels.Label.{cut_is, drop-next, short_of}
 use Rattle.fed_suffix.proofs.label.one_label_more.Goals as goal
 
 pub returns-in_err-rest : goal.returns-in_err-rest

@@ -1,6 +1,6 @@
 use Rattle.std.proofs.Common.{length, ap}
 use Rattle.std.proofs.lemmas.Result.{IfOk-weaker}
-use Rattle.fed_twin.proofs.CompareLemmas.{both_quiet, both_alike}
+use Rattle.fed_twin.proofs.compared.Compare.{both_quiet, both_alike}
 use Rattle.fed_twin.proofs.comparison.compare_by.Goals as goal
 
 pub returns-clause-quiet : goal.returns-clause-quiet

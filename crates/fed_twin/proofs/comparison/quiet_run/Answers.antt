@@ -1,5 +1,5 @@
 use Rattle.std.proofs.Common.{◌∙◌, subst}
-use Rattle.fed_session.specs.OfScript.{start}
+use Rattle.fed_trace.specs.OfScript.{start}
 use Rattle.fed_session.specs.Session.{Stands}
 use Rattle.fed_twin.proofs.comparison.quiet_run.Goals as goal
 

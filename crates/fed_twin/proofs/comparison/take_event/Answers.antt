@@ -1,7 +1,7 @@
 use Rattle.std.proofs.Common.{◌∙◌, ap}
-use Rattle.fed_session.specs.Row.{row_of}
+use Rattle.fed_trace.specs.Row.{row_of}
 use Rattle.fed_twin.specs.Compare.{quiet_count}
-use Rattle.fed_twin.proofs.CompareLemmas.{count_of_row}
+use Rattle.fed_twin.proofs.compared.Compare.{count_of_row}
 use Rattle.fed_twin.proofs.comparison.take_event.Goals as goal
 
 pub returns : goal.returns

@@ -1,5 +1,5 @@
 use Rattle.std.proofs.Common.{◌+◌, ◌<◌, ◌^◌, ◌∙◌, sym, arith}
-use Rattle.fed_twin.proofs.CompareLemmas.{begins, at_next, at_end, may_step, fits_more, goes_on_kept, goes_on_skipped, ends_full, ends_loud, ends_here}
+use Rattle.fed_twin.proofs.compared.Compare.{begins, at_next, at_end, may_step, fits_more, goes_on_kept, goes_on_skipped, ends_full, ends_loud, ends_here}
 use Rattle.fed_twin.proofs.comparison.take_events.Goals as goal
 use Rattle.fed_twin.proofs.comparison.take_events.Goals.{then-is_kept, else-is_kept}
 

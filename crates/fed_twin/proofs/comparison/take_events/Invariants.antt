@@ -1,5 +1,5 @@
 use Rattle.std.proofs.Common.{drop}
-use Rattle.fed_twin.proofs.CompareLemmas.{GoesOn}
+use Rattle.fed_twin.proofs.compared.Compare.{GoesOn}
 use Rattle.fed_twin.proofs.comparison.take_events.Given as goal
 
 -- the run goes on with the events that are left

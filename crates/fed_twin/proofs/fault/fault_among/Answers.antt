@@ -1,5 +1,5 @@
 use Rattle.std.proofs.Common.{arith}
-use Rattle.fed_twin.proofs.TestLemmas.{walk_begins, walk_stops, walk_goes_on}
+use Rattle.fed_twin.proofs.twins.Test.{walk_begins, walk_stops, walk_goes_on}
 use Rattle.fed_twin.proofs.fault.fault_among.Goals as goal
 
 pub loop-one-init : goal.loop-one-init

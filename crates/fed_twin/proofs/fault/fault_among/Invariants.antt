@@ -2,7 +2,7 @@ use Rattle.std.proofs.Common.{◌+◌, ◌≤◌, length}
 use Rattle.fed_twin.specs.Clauses.{known_by}
 use Rattle.fed_twin.specs.Names.{names_of}
 use Rattle.fed_twin.specs.Script.{kept_events}
-use Rattle.fed_twin.proofs.TestLemmas.{Walks}
+use Rattle.fed_twin.proofs.twins.Test.{Walks}
 use Rattle.fed_twin.proofs.fault.fault_among.Given as goal
 
 -- what is found of the events that are left is found of all, and their numbers fit

@@ -1,6 +1,6 @@
 use Rattle.std.proofs.Common.{◌≤◌, length, IfOk, sym, subst}
 use Rattle.std.proofs.lemmas.Result.{IfOk-weaker}
-use Rattle.fed_twin.proofs.TestLemmas.{IsTested, few_in_script, tested}
+use Rattle.fed_twin.proofs.twins.Test.{IsTested, few_in_script, tested}
 use Rattle.fed_twin.proofs.fault.twin_fault.Goals as goal
 use Rattle.fed_twin.proofs.fault.twin_fault.Goals.{After-fault_among}
 

@@ -1,4 +1,4 @@
-use Rattle.fed_twin.proofs.OriginsLemmas.{numbers_decide_lem}
+use Rattle.fed_twin.proofs.twins.Origins.{numbers_decide_lem}
 use Rattle.fed_twin.proofs.laws.numbers_decide.Goals as goal
 
 pub returns : goal.returns

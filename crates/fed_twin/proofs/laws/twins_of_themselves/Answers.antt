@@ -1,4 +1,4 @@
-use Rattle.fed_twin.proofs.SelfLemmas.{twin_self, quiet_before}
+use Rattle.fed_twin.proofs.twins.Self.{twin_self, quiet_before}
 use Rattle.fed_twin.proofs.laws.twins_of_themselves.Goals as goal
 
 pub returns-clause-selves : goal.returns-clause-selves

@@ -1,4 +1,4 @@
-use Rattle.fed_twin.proofs.JarsLemmas.{two_jars_lem}
+use Rattle.fed_twin.proofs.others.Jars.{two_jars_lem}
 use Rattle.fed_twin.proofs.laws.two_jars.Goals as goal
 
 pub returns : goal.returns

@@ -2,7 +2,7 @@
 use Rattle.std.proofs.Common.{arith}
 use Rattle.std.proofs.lemmas.List.{length-take}
 use Rattle.std.proofs.lemmas.Result.{IfOk-weaker}
-use Rattle.fedcm.proofs.EndsLemmas.{twin_of_more}
+use Rattle.fedcm.proofs.runs.Ends.{twin_of_more}
 use Rattle.fedcm.proofs.answer.answer_twin.Goals as goal
 
 pub slice_bounds-twin_of_front-end : goal.slice_bounds-twin_of_front-end

@@ -1,6 +1,6 @@
 use Rattle.std.proofs.Common.{◌∙◌, sym, ap}
 use Rattle.std.proofs.lemmas.Result.{IfOk-weaker}
-use Rattle.fedcm.proofs.RunLemmas.{no_line, run_text-no_line, run_text-bad_header, run_text-header}
+use Rattle.fedcm.proofs.runs.Run.{no_line, run_text-no_line, run_text-bad_header, run_text-header}
 use Rattle.fedcm.proofs.run.run.Goals as goal
 
 pub returns-in_default-clause-text : goal.returns-in_default-clause-text

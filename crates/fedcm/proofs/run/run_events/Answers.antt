@@ -1,8 +1,8 @@
 use Rattle.std.proofs.Common.{◌∙◌, ap}
 use Rattle.fed_script.specs.Script.{events_of, lines_of}
-use Rattle.fed_session.specs.OfScript.{start}
+use Rattle.fed_trace.specs.OfScript.{start}
 use Rattle.fedcm.specs.Run.{outcome}
-use Rattle.fedcm.proofs.RunLemmas.{starts, each_ok}
+use Rattle.fedcm.proofs.runs.Run.{starts, each_ok}
 use Rattle.fedcm.proofs.run.run_events.Goals as goal
 
 pub run_lines-requires-clause-at : goal.run_lines-requires-clause-at

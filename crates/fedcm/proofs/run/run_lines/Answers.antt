@@ -1,5 +1,5 @@
 use Rattle.std.proofs.Common.{◌∙◌}
-use Rattle.fedcm.proofs.RunLemmas.{each_ok, written_as}
+use Rattle.fedcm.proofs.runs.Run.{each_ok, written_as}
 use Rattle.fedcm.proofs.run.run_lines.Goals as goal
 
 pub take_lines-requires-clause-at : goal.take_lines-requires-clause-at

@@ -1,5 +1,5 @@
 use Rattle.std.proofs.Common.{◌∙◌, sym}
-use Rattle.fedcm.proofs.RunLemmas.{at_after}
+use Rattle.fedcm.proofs.runs.Run.{at_after}
 use Rattle.fedcm.proofs.run.take_line.Goals as goal
 
 pub returns-in_ok-take_event-in-Ok-clause-at : goal.returns-in_ok-take_event-in-Ok-clause-at

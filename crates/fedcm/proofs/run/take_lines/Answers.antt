@@ -1,5 +1,5 @@
 use Rattle.std.proofs.Common.{refl, sym, arith}
-use Rattle.fedcm.proofs.RunLemmas.{follows, goes_on_as, stops_as, ends_as}
+use Rattle.fedcm.proofs.runs.Run.{follows, goes_on_as, stops_as, ends_as}
 use Rattle.fedcm.proofs.run.take_lines.Goals as goal
 
 pub loop-line-init : goal.loop-line-init

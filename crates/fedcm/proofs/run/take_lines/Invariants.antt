@@ -1,6 +1,6 @@
 use Rattle.std.proofs.Common.{◌≤◌, ◌+◌, length}
 use Rattle.fed_script.specs.Script.{events_of, lines_of}
-use Rattle.fed_session.specs.Trace.{Trace}
+use Rattle.fed_trace.specs.Trace.{Trace}
 use Rattle.fedcm.specs.Run.{outcome, IsAt, GoesAs}
 use Rattle.fedcm.proofs.run.take_lines.Given as goal
 

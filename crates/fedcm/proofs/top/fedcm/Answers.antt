@@ -2,7 +2,7 @@
 use Rattle.std.proofs.Common.{sym, subst, inl, inr}
 use Rattle.fedcm.specs.declared.status.Status.TheVariants.{Done, Usage, BadScript, ReadFault, NoRoom, NotTwins}
 use Rattle.fedcm.specs.Ends.{HasEnded}
-use Rattle.fedcm.proofs.TopLemmas.{at_end, has_ended, never, is_status, writes, writes_front, second_of}
+use Rattle.fedcm.proofs.calls.Top.{at_end, has_ended, never, is_status, writes, writes_front, second_of}
 use Rattle.fedcm.proofs.top.fedcm.Goals as goal
 
 pub returns-in-Ok-answer-clause-usage : goal.returns-in-Ok-answer-clause-usage

@@ -1,7 +1,7 @@
 use Rattle.std.proofs.Common.{refl}
 use Rattle.fed_status.specs.Shared.{world_of}
 use Rattle.fed_call.specs.State.{choosing_facts}
-use Rattle.fed_call.proofs.RowLemmas.{choice_with}
+use Rattle.fed_call.proofs.table.Row.{choice_with}
 use Rattle.fed_call.proofs.choosing.Choosing.choose.Goals as goal
 
 pub returns-then-has-clause-state : goal.returns-then-has-clause-state

@@ -1,5 +1,5 @@
 use Rattle.std.proofs.Common.{◌∙◌}
-use Rattle.fed_call.proofs.ListLemmas.{first_alone}
+use Rattle.fed_call.proofs.lists.List.{first_alone}
 use Rattle.fed_call.proofs.listing.Listing.accepts.Goals as goal
 
 pub asks_about-requires-clause-each : goal.asks_about-requires-clause-each

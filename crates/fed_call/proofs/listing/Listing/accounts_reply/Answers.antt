@@ -1,4 +1,4 @@
-use Rattle.fed_call.proofs.RowLemmas.{accounts_taken}
+use Rattle.fed_call.proofs.table.Row.{accounts_taken}
 use Rattle.fed_call.proofs.listing.Listing.accounts_reply.Goals as goal
 
 pub returns-then-has-clause-state : goal.returns-then-has-clause-state

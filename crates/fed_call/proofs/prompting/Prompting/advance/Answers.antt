@@ -1,4 +1,4 @@
-use Rattle.fed_call.proofs.RowLemmas.{with_go_on}
+use Rattle.fed_call.proofs.table.Row.{with_go_on}
 use Rattle.fed_call.proofs.prompting.Prompting.advance.Goals as goal
 
 pub returns-in-Cancel-clause-effects : goal.returns-in-Cancel-clause-effects

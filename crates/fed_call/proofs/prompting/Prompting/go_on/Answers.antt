@@ -1,5 +1,5 @@
 use Rattle.std.proofs.Common.{◌≡◌, sym, ◌∙◌, rules}
-use Rattle.fed_call.proofs.ConsentLemmas.{no_prompt}
+use Rattle.fed_call.proofs.agreed.Consent.{no_prompt}
 use Rattle.fed_call.proofs.prompting.Prompting.go_on.Goals as goal
 
 pub returns-in-Err-clause-effects : goal.returns-in-Err-clause-effects

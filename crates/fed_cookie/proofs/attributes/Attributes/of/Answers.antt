@@ -1,6 +1,6 @@
 use Rattle.std.proofs.Common.{ap, sym, ◌∙◌}
 use Rattle.fed_cookie.specs.Fields.{attributes_of}
-use Rattle.fed_cookie.proofs.Parts.{attributes_turn}
+use Rattle.fed_cookie.proofs.parts.Parts.{attributes_turn}
 use Rattle.fed_cookie.proofs.attributes.Attributes.of.Goals as goal
 
 pub loop-part-preserved : goal.loop-part-preserved

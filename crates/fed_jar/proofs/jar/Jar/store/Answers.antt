@@ -1,5 +1,5 @@
 use Rattle.fed_jar.specs.Store.{is_of_party}
-use Rattle.fed_jar.proofs.PartyLaws.{others_of, others_after}
+use Rattle.fed_jar.proofs.parties.Parties.{others_of, others_after}
 use Rattle.fed_jar.proofs.jar.Jar.store.Goals as goal
 
 pub returns-clause-others : goal.returns-clause-others

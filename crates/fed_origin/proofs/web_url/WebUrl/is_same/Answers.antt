@@ -1,8 +1,8 @@
-use Rattle.std.proofs.Common.{◌≡◌, ℕ, true, List, refl, sym, ap, ap₂, subst, ◌∙◌}
+use Rattle.std.proofs.Common.{◌≡◌, sym, ap, ap₂, ◌∙◌}
 use Rattle.std.specs.Prelude.{bytes_eq}
 use Rattle.std.proofs.lemmas.Slice.Eq.{bytes_eq-Decides}
 use Rattle.url.specs.Parts.{serialize}
-use Rattle.fed_origin.proofs.UrlLemmas.{same_text}
+use Rattle.fed_origin.proofs.urls.SameText.{same_text}
 use Rattle.fed_origin.proofs.web_url.WebUrl.is_same.Goals as goal
 
 pub returns : goal.returns

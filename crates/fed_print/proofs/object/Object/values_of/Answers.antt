@@ -6,7 +6,7 @@ use Rattle.serde_json.specs.View.{view, items_view}
 use Rattle.serde_json.specs.Written.{items_have_float}
 use Rattle.serde_json.specs.declared.value.Value.{Object}
 use Rattle.fed_print.specs.Object.{members_of}
-use Rattle.fed_print.proofs.FloatLemmas.{push_has_no_float}
+use Rattle.fed_print.proofs.values.Float.{push_has_no_float}
 use Rattle.fed_print.proofs.object.Object.values_of.Goals as goal
 
 pub loop-object-preserved : goal.loop-object-preserved

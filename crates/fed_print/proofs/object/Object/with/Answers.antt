@@ -1,7 +1,7 @@
 use Rattle.std.proofs.Common.{◌≡◌, false, sym, subst}
 use Rattle.serde_json.specs.View.{view, members_view}
 use Rattle.serde_json.specs.Written.{members_have_float}
-use Rattle.fed_print.proofs.FloatLemmas.{put_has_no_float}
+use Rattle.fed_print.proofs.values.Float.{put_has_no_float}
 use Rattle.fed_print.proofs.object.Object.with.Goals as goal
 
 pub invariant_of-result : goal.invariant_of-result

@@ -1,9 +1,10 @@
 use Rattle.std.proofs.Common.{◌≡◌, ◌∙◌, sym, subst, refl, nat_eq, None}
 use Rattle.std.specs.Map.{lookup}
 use Rattle.fed_script.specs.declared.event.Event.TheVariants as events
-use Rattle.fed_session.specs.Session.{State, Stands, revived}
-use Rattle.fed_session.proofs.GetLemmas.{owes_get, get_records-stand, is_new}
-use Rattle.fed_session.proofs.StandsLemmas.{stands_after}
+use Rattle.fed_session.specs.Session.{State, Stands}
+use Rattle.fed_session.specs.StepParts.{revived}
+use Rattle.fed_session.proofs.events.Get.{owes_get, get_records-stand, is_new}
+use Rattle.fed_session.proofs.stands.Stands.{stands_after}
 use Rattle.fed_session.proofs.session.Session.get.Goals as goal
 
 pub returns-clause-row : goal.returns-clause-row

@@ -1,8 +1,10 @@
 use Rattle.std.proofs.Common.{◌∙◌, sym, subst, refl}
 use Rattle.fed_script.specs.declared.event.Event.TheVariants as events
-use Rattle.fed_session.specs.Session.{State, Stands, revived}
-use Rattle.fed_session.proofs.EventLemmas.{owes_load, load_records}
-use Rattle.fed_session.proofs.StandsLemmas.{stands_after}
+use Rattle.fed_session.specs.Session.{State, Stands}
+use Rattle.fed_session.specs.StepParts.{revived}
+use Rattle.fed_session.proofs.events.Event.{owes_load}
+use Rattle.fed_trace.proofs.events.Aside.{load_records}
+use Rattle.fed_session.proofs.stands.Stands.{stands_after}
 use Rattle.fed_session.proofs.session.Session.load.Goals as goal
 
 pub returns-clause-row : goal.returns-clause-row

@@ -1,5 +1,5 @@
 use Rattle.std.proofs.Common.{refl}
-use Rattle.fed_session.proofs.StandsLemmas.{stands_new}
+use Rattle.fed_session.proofs.stands.Stands.{stands_new}
 use Rattle.fed_session.proofs.session.Session.new.Goals as goal
 
 pub returns : goal.returns

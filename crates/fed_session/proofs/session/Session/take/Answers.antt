@@ -1,8 +1,9 @@
 use Rattle.std.proofs.Common.{◌∙◌, sym, subst, refl}
 use Rattle.fed_script.specs.declared.event.Event.TheVariants as events
-use Rattle.fed_session.specs.Session.{State, Stands, revived}
-use Rattle.fed_session.proofs.EventLemmas.{owes_close, close_records-stand, owes_status, status_records-stand}
-use Rattle.fed_session.proofs.StandsLemmas.{stands_after}
+use Rattle.fed_session.specs.Session.{State, Stands}
+use Rattle.fed_session.specs.StepParts.{revived}
+use Rattle.fed_session.proofs.events.Event.{owes_close, close_records-stand, owes_status, status_records-stand}
+use Rattle.fed_session.proofs.stands.Stands.{stands_after}
 use Rattle.fed_session.proofs.session.Session.take.Goals as goal
 
 pub returns-in-Have-clause-row : goal.returns-in-Have-clause-row

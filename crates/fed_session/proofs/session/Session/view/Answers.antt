@@ -1,6 +1,6 @@
 use Rattle.std.proofs.Common.{◌∙◌, sym, ap, subst, map}
 use Rattle.fed_session.specs.Session.{State, Stands, with_stage}
-use Rattle.fed_session.proofs.ViewLemmas.{shown}
+use Rattle.fed_session.proofs.shown.View.{shown}
 use Rattle.fed_session.proofs.session.Session.view.Goals as goal
 
 pub returns-clause-shows : goal.returns-clause-shows
@@ -9,8 +9,8 @@ returns-clause-shows c = λ T h.
     record {
       now = stands.time;
       login = c.in_ok-shown_logins.ensures ∙ stands.login;
-      kept = c.new.ensures;
-      silent = c.new-2.ensures;
+      kept = c.in_ok-shown_kept.ensures ∙ stands.kept;
+      silent = c.in_ok-shown_flags.ensures ∙ stands.flags;
       cookies = c.from_vec.ensures ∙ c.in_ok-list.ensures.value ∙ stands.cookies;
       pages = c.in_ok-shown_pages.ensures ∙ stands.pages;
       calls = ap (map with_stage) c.in_ok-shown_calls.ensures ∙ shown _ T stands;

@@ -1,7 +1,7 @@
 use Rattle.std.proofs.Common.{ap, ◌∙◌}
 use Rattle.fed_origin.specs.Origin.{same_origin}
 use Rattle.fed_status.specs.Flags.{but_flag}
-use Rattle.fed_status.proofs.Lists.{remove_key-others}
+use Rattle.fed_status.proofs.lists.Others.{remove_key-others}
 use Rattle.fed_status.proofs.flags.SilentFlags.clear.Goals as goal
 
 pub returns-clause-others : goal.returns-clause-others

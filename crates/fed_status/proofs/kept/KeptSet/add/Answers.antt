@@ -2,8 +2,8 @@ use Rattle.std.proofs.Common.{ap, ◌∙◌}
 use Rattle.fed_origin.specs.Status.{same_triple}
 use Rattle.fed_status.specs.Kept.{has_triple, but_triple}
 use Rattle.fed_status.specs.Table.{triples_of}
-use Rattle.fed_status.proofs.Lists.{put_last-others, others_after}
-use Rattle.fed_status.proofs.Names.{same_triple_self}
+use Rattle.fed_status.proofs.lists.Others.{put_last-others, others_after}
+use Rattle.fed_status.proofs.lists.Same.{same_triple_self}
 use Rattle.fed_status.proofs.kept.KeptSet.add.Goals as goal
 
 pub returns-clause-others : goal.returns-clause-others

@@ -2,7 +2,7 @@ use Rattle.std.proofs.Common.{ap, ◌∙◌}
 use Rattle.fed_origin.specs.Status.{same_triple}
 use Rattle.fed_status.specs.Kept.{triple_of, but_triple}
 use Rattle.fed_status.specs.Table.{triples_of}
-use Rattle.fed_status.proofs.Lists.{remove_key-others}
+use Rattle.fed_status.proofs.lists.Others.{remove_key-others}
 use Rattle.fed_status.proofs.kept.KeptSet.remove.Goals as goal
 
 pub returns-clause-others : goal.returns-clause-others

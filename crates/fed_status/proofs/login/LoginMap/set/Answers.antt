@@ -1,7 +1,7 @@
 use Rattle.fed_origin.specs.Origin.{same_origin}
 use Rattle.fed_status.specs.Login.{but_origin}
-use Rattle.fed_status.proofs.Lists.{insert_entry-others, others_after}
-use Rattle.fed_status.proofs.Names.{same_origin_self}
+use Rattle.fed_status.proofs.lists.Others.{insert_entry-others, others_after}
+use Rattle.fed_status.proofs.lists.Same.{same_origin_self}
 use Rattle.fed_status.proofs.login.LoginMap.set.Goals as goal
 
 pub returns-clause-others : goal.returns-clause-others

@@ -1,4 +1,4 @@
-use Rattle.fed_status.proofs.Tables.{with_names}
+use Rattle.fed_status.proofs.numbers.Tables.{with_names}
 use Rattle.fed_status.proofs.table.Table.add.Goals as goal
 
 pub returns-in_err-place-clause-table : goal.returns-in_err-place-clause-table

@@ -1,6 +1,6 @@
 use Rattle.std.proofs.Common.{◌∙◌, sym}
 use Rattle.fed_status.specs.Kept.{triple_of}
-use Rattle.fed_status.proofs.Tables.{found, not_found}
+use Rattle.fed_status.proofs.numbers.Tables.{found, not_found}
 use Rattle.fed_status.proofs.table.Table.has.Goals as goal
 
 pub returns-in-Some : goal.returns-in-Some

@@ -1,5 +1,5 @@
 use Rattle.std.proofs.Common.{◌∙◌, sym}
-use Rattle.fed_status.proofs.Tables.{pair_found, no_pair_found}
+use Rattle.fed_status.proofs.numbers.Tables.{pair_found, no_pair_found}
 use Rattle.fed_status.proofs.table.Table.has_pair.Goals as goal
 
 pub returns-in-Some : goal.returns-in-Some

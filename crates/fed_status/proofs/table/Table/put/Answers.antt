@@ -2,7 +2,7 @@ use Rattle.std.proofs.Common.{◌∙◌, sym, ap, cond, true}
 use Rattle.std.specs.List.{list_any}
 use Rattle.std.specs.Map.{values_of}
 use Rattle.fed_status.specs.Place.{same_pair, pair_at}
-use Rattle.fed_status.proofs.Tables.{present, put_last, with_one}
+use Rattle.fed_status.proofs.numbers.Tables.{present, put_last, with_one, are_distinct}
 use Rattle.fed_status.proofs.table.Table.put.Goals as goal
 
 pub returns-then-contains_key-clause-ok : goal.returns-then-contains_key-clause-ok
@@ -21,4 +21,8 @@ returns-in-Ok-clause-table c =
     (λ other. c.put_pair.ensures other
     ∙ ap (λ p. cond (same_pair p other) true (list_any (same_pair other) c.reserve.new.self.keys)) c.pair.ensures
     ∙ ap (λ ks. cond (same_pair (pair_at c.args.place) other) true (list_any (same_pair other) ks)) c.in_ok-reserve.ensures.keys) in
-    record { in_place = one.0; pairs = one.1 }
+    record {
+      in_place = one.0;
+      pairs = one.1;
+      distinct = are_distinct c.args.self.now.names c.insert.new.self.entries one.0 c.insert.ensures.unique;
+    }

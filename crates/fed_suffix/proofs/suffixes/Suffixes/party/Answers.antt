@@ -1,5 +1,5 @@
 use Rattle.std.proofs.Common.{Some, None, ◌∙◌}
-use Rattle.fed_suffix.proofs.SetLemmas.{party-by}
+use Rattle.fed_suffix.proofs.sets.Set.{party-by}
 use Rattle.fed_suffix.proofs.suffixes.Suffixes.party.Goals as goal
 
 pub returns-in-Some : goal.returns-in-Some

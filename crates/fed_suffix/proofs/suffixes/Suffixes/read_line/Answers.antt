@@ -1,7 +1,7 @@
 use Rattle.std.proofs.Common.{Ok, Some, None, sym, ap, ◌∙◌}
 use Rattle.std.specs.FinSet as set
 use Rattle.fed_suffix.specs.RuleLine.{rule_text, is_skipped, rule_of}
-use Rattle.fed_suffix.proofs.SetLemmas.{rules_after-skipped, rules_after-read}
+use Rattle.fed_suffix.proofs.sets.Set.{rules_after-skipped, rules_after-read}
 use Rattle.fed_suffix.proofs.suffixes.Suffixes.read_line.Goals as goal
 
 pub returns-then-is_skipped-clause-answer : goal.returns-then-is_skipped-clause-answer

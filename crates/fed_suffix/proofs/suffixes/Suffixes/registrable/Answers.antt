@@ -2,7 +2,7 @@ use Rattle.std.proofs.Common.{inl, inr, option_map, sym, ap, ◌∙◌}
 use Rattle.fed_origin.specs.Host.{host_kind}
 use Rattle.fed_suffix.specs.Label.{labels_of, name_of}
 use Rattle.fed_suffix.specs.Registrable.{registrable_labels}
-use Rattle.fed_suffix.proofs.SetLemmas.{registrable-name, registrable-V4, registrable-V6}
+use Rattle.fed_suffix.proofs.sets.Set.{registrable-name, registrable-V4, registrable-V6}
 use Rattle.fed_suffix.proofs.suffixes.Suffixes.registrable.Goals as goal
 
 pub returns-in-Name : goal.returns-in-Name

@@ -1,5 +1,5 @@
 use Rattle.std.proofs.Common.{inl, inr, sym, ◌∙◌}
-use Rattle.fed_suffix.proofs.SetLemmas.{registrable-name, registrable-V4, registrable-V6}
+use Rattle.fed_suffix.proofs.sets.Set.{registrable-name, registrable-V4, registrable-V6}
 use Rattle.fed_suffix.proofs.suffixes.Suffixes.registrable_name.Goals as goal
 
 pub returns-in-Name : goal.returns-in-Name

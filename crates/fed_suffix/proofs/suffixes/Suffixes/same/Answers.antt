@@ -1,6 +1,6 @@
 use Rattle.std.proofs.Common.{◌≡◌, true, false, sym, ◌∙◌}
 use Rattle.std.specs.FinSet as set
-use Rattle.fed_suffix.proofs.SetLemmas.{same_rules-then, same_rules-else, tells_equal}
+use Rattle.fed_suffix.proofs.sets.Set.{same_rules-then, same_rules-else, tells_equal}
 use Rattle.fed_suffix.proofs.suffixes.Suffixes.same.Goals as goal
 
 pub returns-then-is_within-clause-value : goal.returns-then-is_within-clause-value

@@ -1,7 +1,7 @@
 use Rattle.std.proofs.Common.{◌+◌, ◌<◌, IfSome, length, true, false, ap, ◌∙◌, subst, arith}
 use Rattle.std.specs.Option.{option_copied, option_map_or}
 use Rattle.fed_suffix.specs.Label.{labels_before}
-use Rattle.fed_suffix.proofs.TreeLemmas.{ending_at-le, walk_next, joined-shorter}
+use Rattle.fed_suffix.proofs.nodes.Tree.{ending_at-le, walk_next, joined-shorter}
 use Rattle.fed_suffix.proofs.tree.Tree.+longest.Goals as goal
 
 pub longest-loop-name-init : goal.longest-loop-name-init

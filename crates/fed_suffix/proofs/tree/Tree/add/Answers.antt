@@ -3,7 +3,7 @@ use Rattle.std.specs.FinSet as set
 use Rattle.fed_suffix.specs.declared.node.End.{End}
 use Rattle.fed_suffix.specs.declared.tree.Tree.{Tree}
 use Rattle.fed_suffix.specs.Tree.{node_of, rules_of, entry_rule}
-use Rattle.fed_suffix.proofs.TreeLemmas.{IsTree-rule, rules_of-rule}
+use Rattle.fed_suffix.proofs.nodes.Tree.{IsTree-rule, rules_of-rule}
 use Rattle.fed_suffix.proofs.tree.Tree.add.Goals as goal
 
 pub returns-clause-tree : goal.returns-clause-tree

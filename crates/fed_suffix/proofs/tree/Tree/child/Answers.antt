@@ -1,5 +1,5 @@
 use Rattle.std.proofs.Common.{sym, arith}
-use Rattle.fed_suffix.proofs.TreeLemmas.{edge_after}
+use Rattle.fed_suffix.proofs.nodes.Tree.{edge_after}
 use Rattle.fed_suffix.proofs.tree.Tree.child.Goals as goal
 
 pub returns-clause-below : goal.returns-clause-below

@@ -1,6 +1,6 @@
 use Rattle.std.proofs.Common.{refl, sym, ◌≤◌, length, subst}
 use Rattle.fed_suffix.specs.declared.node.Edge.{Edge}
-use Rattle.fed_suffix.proofs.TreeLemmas.{IsTree-labels, IsTree-same, IsTree-edge}
+use Rattle.fed_suffix.proofs.nodes.Tree.{IsTree-labels, IsTree-same, IsTree-edge}
 use Rattle.fed_suffix.proofs.tree.Tree.child_for.Goals as goal
 
 pub returns-in_err-label-clause-tree : goal.returns-in_err-label-clause-tree

@@ -4,7 +4,7 @@ use Rattle.std.specs.Map.Iter.{deref_pair}
 use Rattle.std.proofs.lemmas.List.{map-append}
 use Rattle.std.proofs.lemmas.Map.Iter.{iter_end}
 use Rattle.fed_suffix.specs.Tree.{entry_rule, rules_of}
-use Rattle.fed_suffix.proofs.RuleOrder.{rule_cmp_total, rule_cmp-IsAntisymmetric}
+use Rattle.fed_suffix.proofs.rules.RuleOrder.{rule_cmp_total, rule_cmp-IsAntisymmetric}
 use Rattle.fed_suffix.proofs.tree.Tree.copy.Goals as goal
 
 pub loop-end-init : goal.loop-end-init

@@ -1,6 +1,6 @@
 use Rattle.std.proofs.Common.{reverse, sym, ap, ◌∙◌, option_and_then, take_all}
 use Rattle.fed_suffix.specs.Tree.{child, node_of}
-use Rattle.fed_suffix.proofs.TreeLemmas.{node_of-next, node_of-none}
+use Rattle.fed_suffix.proofs.nodes.Tree.{node_of-next, node_of-none}
 use Rattle.fed_suffix.proofs.tree.Tree.find.Goals as goal
 
 pub returns-in_err-node : goal.returns-in_err-node

@@ -1,5 +1,5 @@
 use Rattle.std.proofs.Common.{sym, ◌∙◌, Some, None}
-use Rattle.fed_suffix.proofs.TreeLemmas.{ends_at-rules_of}
+use Rattle.fed_suffix.proofs.nodes.Tree.{ends_at-rules_of}
 use Rattle.fed_suffix.proofs.tree.Tree.has.Goals as goal
 
 pub returns-in-Some : goal.returns-in-Some

@@ -5,7 +5,7 @@ use Rattle.std.proofs.lemmas.Iterator.Consumers.{YieldsList-from_rest}
 use Rattle.std.proofs.lemmas.List.Folds.{list_all-map}
 use Rattle.fed_suffix.specs.declared.node.End.{End}
 use Rattle.fed_suffix.specs.Tree.{rules_of, entry_rule}
-use Rattle.fed_suffix.proofs.SetLemmas.{is_subset-from_list}
+use Rattle.fed_suffix.proofs.sets.Set.{is_subset-from_list}
 use Rattle.fed_suffix.proofs.tree.Tree.is_within.Goals as goal
 
 pub returns : goal.returns

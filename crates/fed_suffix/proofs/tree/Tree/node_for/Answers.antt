@@ -1,6 +1,6 @@
 use Rattle.std.proofs.Common.{take, reverse, sym, ap, ◌∙◌, option_and_then}
 use Rattle.fed_suffix.specs.Tree.{child}
-use Rattle.fed_suffix.proofs.TreeLemmas.{node_of-next, node_of-Grows}
+use Rattle.fed_suffix.proofs.nodes.Tree.{node_of-next, node_of-Grows}
 use Rattle.fed_suffix.proofs.tree.Tree.node_for.Goals as goal
 
 pub loop-label-preserved : goal.loop-label-preserved

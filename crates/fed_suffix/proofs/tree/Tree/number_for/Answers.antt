@@ -1,7 +1,7 @@
 use Rattle.std.proofs.Common.{◌≡◌, rules, bytes_eq, Some, sym, ap, ◌∙◌, refl}
 use Rattle.std.specs.List.{position}
 use Rattle.std.proofs.lemmas.Slice.Eq.{bytes_eq-Decides}
-use Rattle.fed_suffix.proofs.TreeLemmas.{position-insert_key}
+use Rattle.fed_suffix.proofs.nodes.Tree.{position-insert_key}
 use Rattle.fed_suffix.proofs.tree.Tree.number_for.Goals as goal
 
 pub returns-clause-ok : goal.returns-clause-ok

@@ -1,9 +1,9 @@
 use Rattle.std.proofs.Common.{sym, ◌∙◌, max}
 use Rattle.fed_suffix.specs.Label.{labels_of}
 use Rattle.fed_suffix.specs.Registrable.{suffix_len_of}
-use Rattle.fed_suffix.proofs.LabelLemmas.{labels_of-some}
-use Rattle.fed_suffix.proofs.Most.{suffix_len_of-some, suffix_len_of-none}
-use Rattle.fed_suffix.proofs.TreeLemmas.{suffix_len-tree}
+use Rattle.fed_suffix.proofs.labels.Label.{labels_of-some}
+use Rattle.fed_suffix.proofs.rules.Most.{suffix_len_of-some, suffix_len_of-none}
+use Rattle.fed_suffix.proofs.nodes.Tree.{suffix_len-tree}
 use Rattle.fed_suffix.proofs.tree.Tree.suffix_len.Goals as goal
 
 pub returns-then-longest-gt0 : goal.returns-then-longest-gt0

@@ -1,5 +1,5 @@
 use Rattle.std.proofs.Common.{sym, ◌∙◌}
-use Rattle.fed_twin.proofs.PartyLemmas.{adds_known}
+use Rattle.fed_twin.proofs.twins.Party.{adds_known}
 use Rattle.fed_twin.proofs.parties.ProviderParties.add.Goals as goal
 
 pub returns-then-contains : goal.returns-then-contains

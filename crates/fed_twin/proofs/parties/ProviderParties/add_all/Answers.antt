@@ -1,4 +1,4 @@
-use Rattle.fed_twin.proofs.PartyLemmas.{event_step}
+use Rattle.fed_twin.proofs.twins.Party.{event_step}
 use Rattle.fed_twin.proofs.parties.ProviderParties.add_all.Goals as goal
 
 pub loop-numbered-preserved : goal.loop-numbered-preserved

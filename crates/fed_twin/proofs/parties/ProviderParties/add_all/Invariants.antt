@@ -1,7 +1,7 @@
 use Rattle.std.proofs.Common.{drop}
 use Rattle.fed_twin.specs.Clauses.{parties_of}
 use Rattle.fed_twin.specs.Twin.{configs}
-use Rattle.fed_twin.proofs.PartyLemmas.{LeavesOf}
+use Rattle.fed_twin.proofs.twins.Party.{LeavesOf}
 use Rattle.fed_twin.proofs.parties.ProviderParties.add_all.Given as goal
 
 -- the parties of the events that are left are to be gathered

@@ -1,4 +1,4 @@
-use Rattle.fed_twin.proofs.PartyLemmas.{provider_step}
+use Rattle.fed_twin.proofs.twins.Party.{provider_step}
 use Rattle.fed_twin.proofs.parties.ProviderParties.add_of.Goals as goal
 
 pub loop-provider-preserved : goal.loop-provider-preserved

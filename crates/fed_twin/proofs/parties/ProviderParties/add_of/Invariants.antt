@@ -1,5 +1,5 @@
 use Rattle.std.proofs.Common.{drop}
-use Rattle.fed_twin.proofs.PartyLemmas.{LeavesOf, provider_parties}
+use Rattle.fed_twin.proofs.twins.Party.{LeavesOf, provider_parties}
 use Rattle.fed_twin.proofs.parties.ProviderParties.add_of.Given as goal
 
 -- the parties of the providers that are left are to be gathered

@@ -1,5 +1,5 @@
 use Rattle.std.proofs.Common.{◌∙◌}
-use Rattle.fed_twin.proofs.PartyLemmas.{looks_up}
+use Rattle.fed_twin.proofs.twins.Party.{looks_up}
 use Rattle.fed_twin.proofs.parties.ProviderParties.has.Goals as goal
 
 pub returns : goal.returns

@@ -1,0 +1,3 @@
+-- Accounts and their ids.
+pub mod Distinct
+pub mod Firsts

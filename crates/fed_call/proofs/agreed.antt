@@ -1,0 +1,2 @@
+-- What the user agreed to, by the states of a call.
+pub mod Consent

@@ -1,0 +1,2 @@
+-- Accounts with their connections.
+pub mod List

@@ -1,0 +1,2 @@
+-- The rows of a stage, and the table.
+pub mod Row

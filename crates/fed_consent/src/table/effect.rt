@@ -1,0 +1,29 @@
+//! What a call does.
+
+use super::{Ask, Dialog, Finish, Why};
+use fed_origin::{LoginStatus, Origin, Triple, WebUrl};
+
+/// What a call does at an event (this profile's own).
+#[derive(Drop)]
+pub enum Effect {
+    /// A request to the provider at this place in the call's list.
+    Send(u32, Ask),
+    /// A dialog is shown.
+    Dialog(Dialog),
+    /// The login window of the provider at this place in the call's list opens at this URL.
+    Window(u32, WebUrl),
+    /// The login status of a provider's origin is set.
+    SetLogin(Origin, LoginStatus),
+    /// A permission is kept from now on.
+    Keep(Triple),
+    /// A permission is kept no longer.
+    Forget(Triple),
+    /// No permission for pages of the first origin and the provider of the second is kept any longer.
+    ForgetPair(Origin, Origin),
+    /// The prevent-silent flag of a page's origin is cleared.
+    ClearFlag(Origin),
+    /// What the promise of the call gets.
+    Finish(Finish),
+    /// The event was not taken.
+    Ignored(Why),
+}

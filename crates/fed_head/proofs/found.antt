@@ -1,0 +1,2 @@
+-- What httparse answers.
+pub mod Found

@@ -1,0 +1,3 @@
+-- Name, domain and path of a cookie.
+pub mod Keys
+pub mod Entries

@@ -1,0 +1,2 @@
+-- Lists in order by a number.
+pub mod Order

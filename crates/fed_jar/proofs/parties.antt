@@ -1,0 +1,2 @@
+-- Cookies by the party of their domain.
+pub mod Parties

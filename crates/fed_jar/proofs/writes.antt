@@ -1,0 +1,2 @@
+-- The writes that stand.
+pub mod Writes

@@ -1,0 +1,6 @@
+pub mod turns
+pub mod pending
+pub mod tokens
+pub mod causes
+pub mod followed
+pub mod scripts

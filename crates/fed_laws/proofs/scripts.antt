@@ -1,0 +1,2 @@
+-- The laws of the traces of scripts.
+pub mod Scripts

@@ -1,0 +1,156 @@
+-- A token reaches the page whose call was answered.
+use Rattle.std.proofs.Common.{◌≡◌, ℕ, zero, suc, Bool, List, [], ◌∷◌, ◌++◌, length, Option, Some, None, map, refl, sym, ap, subst, ◌∙◌, arith, cond}
+use Rattle.std.specs.Prelude.{slice_get}
+use Rattle.std.proofs.lemmas.List.Elements.{filter_map-append}
+use Rattle.std.specs.List.{filter_map, cons_option}
+use Rattle.fed_origin.specs.declared.options.ProviderOptions.{ProviderOptions}
+use Rattle.fed_origin.specs.declared.stage.ReplyKind.TheVariants as kinds
+use Rattle.fed_origin.specs.Origin.{origin_text}
+use Rattle.fed_token.specs.Read.{AssertionOf}
+use Rattle.fed_consent.specs.declared.table.finish.Finish.{Finish}
+use Rattle.fed_consent.specs.declared.table.finish.Finish.TheVariants.{Token, Failed}
+use Rattle.fed_call.specs.Facts.{Facts}
+use Rattle.fed_call.specs.Row.{call_row}
+use Rattle.fed_script.specs.declared.event.Event.{Event}
+use Rattle.fed_script.specs.declared.event.Event.TheVariants as events
+use Rattle.fed_script.specs.declared.event.Header.{Header}
+use Rattle.fed_trace.specs.OfCall.{Has, given}
+use Rattle.fed_laws.specs.Cause.{Asked, Delivers}
+use Rattle.fed_trace.specs.Effect.{Effect, Result}
+use Rattle.fed_trace.specs.Known.{world_at, facts_at}
+use Rattle.fed_laws.specs.Laws.{OfRuns, ReachesItsPage, at}
+use Rattle.fed_trace.specs.Row.{effects_of, cookies_with, outcome_effects, get_outcome, page_of, IsNew, IsRun}
+use Rattle.fed_trace.specs.Trace.{Row, Trace}
+use Rattle.fed_laws.proofs.pending.Asked.{invariant}
+use Rattle.fed_trace.proofs.happens.First.{FirstTurn, FailsFirst, ReadsFirst, first_turn}
+use Rattle.fed_laws.proofs.pending.Stood.{Stood, Invariant}
+use Rattle.fed_trace.proofs.happens.Taken.{Meets, outcome_of}
+use Rattle.fed_laws.proofs.pending.Taken.{gives_at}
+use Rattle.fed_trace.proofs.happens.Ends.{Happens, Left, Ends, Started, Took, Starts, Takes, event_for}
+use Rattle.fed_trace.proofs.happens.Happens.{happens}
+use Rattle.fed_trace.proofs.happens.Says.{own, outcome_gives, finish_of}
+use Rattle.fed_laws.proofs.turns.Turn.{Turn, Asks, Gives, Goes, IfToken, InReply, turn_at}
+
+-- ---- a row of what happened, and what happened before it
+
+pub record RowOf (header : Header) (row : Row) (before : List Row) : Type 0 where
+  pub effects : row.effects ≡ effects_of (record { header = header; rows = before }) row.event
+  pub new : IsNew before row.event
+  pub run : IsRun header before
+
+row_at : (header : Header) (after before : List Row) (row : Row) → IsRun header (after ++ row ∷ before) → RowOf header row before
+row_at header [] before row run = record { effects = run.0; new = run.1; run = run.2 }
+row_at header (later ∷ after) before row run = row_at header after before row run.2
+
+pub row_of_trace : (T : Trace) (after before : List Row) (row : Row) → IsRun T.header T.rows → T.rows ≡ after ++ row ∷ before → RowOf T.header row before
+row_of_trace T after before row run is = row_at T.header after before row (subst (IsRun T.header) is run)
+
+-- ---- an effect among effects
+
+none_among : {A B : Type 0} (x : A) (xs ys : List A) → xs ++ x ∷ ys ≡ [] → B
+none_among x [] ys h = absurd (cc)
+none_among x (y ∷ xs) ys h = let no : y ∷ (xs ++ x ∷ ys) ≡ [] = h in absurd (cc)
+
+only_among : {A : Type 0} (x y : A) (xs ys : List A) → xs ++ x ∷ ys ≡ y ∷ [] → x ≡ y
+only_among x y [] ys h = cc
+only_among x y (z ∷ xs) ys h = let rest : xs ++ x ∷ ys ≡ [] = cc in none_among x xs ys rest
+
+said_among : {A : Type 0} (said : Effect → Option A) (effects : List Effect) (e : Effect) (x : A) → (has : Has effects e) → said e ≡ Some x
+    → filter_map said effects ≡ filter_map said has.before ++ x ∷ filter_map said has.after
+said_among said effects e x has is =
+    ap (filter_map said) has.all ∙ filter_map-append said has.before (e ∷ has.after)
+    ∙ ap (λ o. filter_map said has.before ++ cons_option o (filter_map said has.after)) is
+
+pub says_none : {A B : Type 0} (said : Effect → Option A) (effects : List Effect) (e : Effect) (x : A) → Has effects e → said e ≡ Some x → filter_map said effects ≡ [] → B
+says_none said effects e x has is none =
+    none_among x (filter_map said has.before) (filter_map said has.after) (sym (said_among said effects e x has is) ∙ none)
+
+pub says_one : {A : Type 0} (said : Effect → Option A) (effects : List Effect) (e : Effect) (x y : A) → Has effects e → said e ≡ Some x → filter_map said effects ≡ y ∷ [] → x ≡ y
+says_one said effects e x y has is one =
+    only_among x y (filter_map said has.before) (filter_map said has.after) (sym (said_among said effects e x has is) ∙ one)
+
+-- ---- the only provider
+
+pub first_place : (providers : List ProviderOptions) (place : ℕ) (provider : ProviderOptions) → length providers ≡ 1 → slice_get providers place ≡ Some provider → place ≡ 0
+first_place [] place provider one h = absurd (omega (arith, one))
+first_place (p ∷ q ∷ more) place provider one h = absurd (omega (arith, one))
+first_place (p ∷ []) zero provider one h = refl
+first_place (p ∷ []) (suc place) provider one h = let no : None ≡ Some provider = h in absurd (cc)
+
+-- ---- the token
+
+-- the event of a call that is answered
+delivers : (T : Trace) (event : Event) (call page provider : ℕ) (token : List ℕ) (f : Facts) → (m : Meets T event call f) → Stood T call f → page ≡ f.page
+    → InReply f m.takes.input provider token → Delivers T event call page provider token
+delivers T event call page provider token f m s is r =
+    let place_is : r.place ≡ 0 =
+    first_place f.options.providers r.place r.provider (ap (λ o. length o.providers) s.of_options ∙ s.one) r.has_provider in
+    let came : Some event ≡ Some (events.Reply call r.place kinds.Assertion r.raw) = m.takes.is_event ∙ ap (event_for call) r.is_reply in
+    let reply : event ≡ events.Reply call r.place kinds.Assertion r.raw = cc in
+    record {
+      begun = s.begun;
+      undisturbed = s.undisturbed;
+      is_page = is ∙ s.of_page;
+      asked = subst (Asked T.rows call) (sym r.is_first) (s.asked_for r.asserting);
+      raw = r.raw;
+      is_reply = reply ∙ ap (λ place. events.Reply call place kinds.Assertion r.raw) (place_is ∙ sym r.is_first);
+      reads = ap (λ o. AssertionOf r.raw (origin_text o)) (sym s.of_origin) ∙ r.reads;
+    }
+
+delivered : (T : Trace) (event : Event) (call page provider : ℕ) (auto : Bool) (token : List ℕ) → IsNew T.rows event → Invariant T call
+    → Has (effects_of T event) (Result call page (Token auto provider token)) → Delivers T event call page provider token
+delivered T event call page provider auto token new h has = go (happens T event call)
+  where
+    finish : Finish
+    finish = Token auto provider token
+
+    is : given call (Result call page finish) ≡ Some (page, finish)
+    is = ap (λ b. cond b (Some (page, finish)) None) (own call)
+
+    never : filter_map (given call) (effects_of T event) ≡ [] → Delivers T event call page provider token
+    never none = says_none (given call) (effects_of T event) (Result call page finish) (page, finish) has is none
+
+    same : (p : ℕ) (other : Finish) → filter_map (given call) (effects_of T event) ≡ (p, other) ∷ [] → ◌≡◌ {A = ℕ × Finish} (page, finish) (p, other)
+    same p other gives = says_one (given call) (effects_of T event) (Result call page finish) (page, finish) (p, other) has is gives
+
+    turned : (f : Facts) → (m : Meets T event call f) → Turn f m.takes.input (outcome_of T f m.takes.input) → Delivers T event call page provider token
+    turned f m (Asks a) = never (gives_at T event call f m ∙ ap (λ o. map (λ x. (f.page, x)) (filter_map finish_of o.effects)) a.is)
+    turned f m (Goes asks gives back) = never (gives_at T event call f m ∙ ap (map (λ x. (f.page, x))) gives)
+    turned f m (Gives other ended asks gives token_in) =
+        let both = same f.page other (gives_at T event call f m ∙ ap (map (λ x. (f.page, x))) gives) in
+        let page_is : page ≡ f.page = ap (λ x. x.0) both in
+        let finish_is : finish ≡ other = ap (λ x. x.1) both in
+        delivers T event call page provider token f m (h.stood f m.found) page_is (subst (IfToken f m.takes.input) (sym finish_is) token_in)
+
+    taken : (t : Takes T event call) → (o : Option Facts) → facts_at T call ≡ o → Delivers T event call page provider token
+    taken t None found =
+        never (ap (filter_map (given call)) (t.effects ∙ ap (λ o. outcome_effects (world_at T) (cookies_with T) call (page_of o) (call_row (world_at T) o t.input)) found))
+    taken t (Some f) found = turned f (record { takes = t; found = found }) (turn_at (world_at T) f t.input)
+
+    begins_with : (s : Starts T event call) → FirstTurn (get_outcome (world_at T) s.busy s.begun.options) → Delivers T event call page provider token
+    begins_with s turn = under turn
+      where
+        gives : filter_map (given call) (effects_of T event) ≡ map (λ x. (s.begun.page, x)) (filter_map finish_of (get_outcome (world_at T) s.busy s.begun.options).effects)
+        gives =
+            ap (filter_map (given call)) s.effects
+            ∙ ap (λ c. filter_map (given c) (outcome_effects (world_at T) (cookies_with T) s.begun.call s.begun.page (get_outcome (world_at T) s.busy s.begun.options))) (sym s.is_call)
+            ∙ outcome_gives (world_at T) (cookies_with T) s.begun.call s.begun.page (get_outcome (world_at T) s.busy s.begun.options)
+
+        under : FirstTurn (get_outcome (world_at T) s.busy s.begun.options) → Delivers T event call page provider token
+        under (ReadsFirst reading asks none) = never (gives ∙ ap (map (λ x. (s.begun.page, x))) none)
+        under (FailsFirst failure ended asks fails) =
+            let both = same s.begun.page (Failed failure) (gives ∙ ap (map (λ x. (s.begun.page, x))) fails) in
+            let no : finish ≡ Failed failure = ap (λ x. x.1) both in
+            absurd (cc)
+
+    go : Happens T event call → Delivers T event call page provider token
+    go (Left l) = never l.quiet.gives
+    go (Ends e) = never e.gives
+    go (Started s) = begins_with s (first_turn (world_at T) s.busy s.begun.options (subst (IsNew T.rows) s.is_get new).1)
+    go (Took t) = taken t (facts_at T call) refl
+
+pub token_lem : OfRuns ReachesItsPage
+token_lem T run after before row call page provider auto token is has =
+    let r = row_of_trace T after before row run is in
+    delivered (at T before) row.event call page provider auto token r.new (invariant T.header before call r.run)
+    (subst (λ es. Has es (Result call page (Token auto provider token))) r.effects has)

@@ -1,0 +1,5 @@
+-- What the tables do with what is known of a call.
+pub mod Config
+pub mod Turn
+pub mod Way
+pub mod Open

@@ -1,0 +1,354 @@
+-- How a call comes to a dialog at an input, and stays there.
+use Rattle.std.proofs.Common.{◌≡◌, ℕ, Bool, true, false, ◌||◌, ◌≤◌, ◌⊎◌, inl, inr, List, [], ◌∷◌, length, Option, Some, None, Result as Answer, Ok, Err, refl, sym, ap, ◌∙◌, arith}
+use Rattle.std.specs.Prelude.{option_and_then, unwrap_or, is_some, not}
+use Rattle.std.specs.List.{list_any}
+use Rattle.url.specs.Parts.{Parts}
+use Rattle.fed_origin.specs.declared.options.ProviderOptions.{ProviderOptions}
+use Rattle.fed_origin.specs.declared.stage.ReplyKind.{ReplyKind}
+use Rattle.fed_origin.specs.declared.stage.ReplyKind.TheVariants as kinds
+use Rattle.fed_origin.specs.declared.stage.Stage.{Stage}
+use Rattle.fed_origin.specs.declared.stage.Stage.TheVariants.{Reading, Listing, Mismatch, Choosing, Prompting, Asserting, Ended}
+use Rattle.fed_origin.specs.declared.status.LoginStatus.TheVariants.{LoggedIn}
+use Rattle.fed_origin.specs.WebUrl.{origin_of}
+use Rattle.fed_provider.specs.declared.config.Config.{Config as Configuration}
+use Rattle.fed_provider.specs.declared.step.ProviderStep.{ProviderStep}
+use Rattle.fed_provider.specs.declared.metadata.PolicyLinks.{PolicyLinks}
+use Rattle.fed_provider.specs.Metadata.{MetadataOf}
+use Rattle.fed_accounts.specs.declared.account.Account.{Account}
+use Rattle.fed_accounts.specs.declared.step.AccountsStep.{AccountsStep}
+use Rattle.fed_status.specs.Login.{status_of}
+use Rattle.fed_status.specs.Shared.{World}
+use Rattle.fed_consent.specs.declared.table.effect.Effect.{Effect as CallEffect}
+use Rattle.fed_consent.specs.declared.table.effect.Effect.TheVariants as does
+use Rattle.fed_consent.specs.declared.table.finish.Failure.{Failure}
+use Rattle.fed_consent.specs.declared.table.input.Input.{Input}
+use Rattle.fed_consent.specs.declared.table.input.Input.TheVariants as inputs
+use Rattle.fed_consent.specs.declared.consent.manner.Manner.TheVariants.{Chosen, Prompted}
+use Rattle.fed_consent.specs.declared.table.why.Why.{Why}
+use Rattle.fed_consent.specs.Consent.{Agreement, Candidate, Listed, chosen}
+use Rattle.fed_call.specs.Accounts.{accounts_of, candidate_of, listed_of}
+use Rattle.fed_call.specs.AssertingRows.{asserts, asserting_reply, assertion_reply}
+use Rattle.fed_call.specs.DialogRows.{agreed_to, chose, choice, settles, goes_on, went_on, cancelled, prompting_reply, metadata_reply, links_shown}
+use Rattle.fed_call.specs.Facts.{Facts, is_ignored, metadata_endpoint, provider_at, with_input, config_read, Outcome}
+use Rattle.fed_call.specs.ReadingRows.{wellknown_of}
+use Rattle.fed_call.specs.Outcomes.{ignored, after, accounts_failure}
+use Rattle.fed_call.specs.ListingRows.{listing_reply, accounts_reply, by_accounts, offers, prompt_effect, choice_dialog, by_mismatch, is_mismatch, site_of}
+use Rattle.fed_call.specs.ReadingRows.{reading_reply, wellknown_reply, config_reply}
+use Rattle.fed_call.specs.Row.{stage_reply, input_row}
+
+-- the stages at which an account is to be agreed to
+abbrev pub is_open : Stage → Bool
+is_open Choosing = true
+is_open Prompting = true
+is_open Reading = false
+is_open Listing = false
+is_open Mismatch = false
+is_open Asserting = false
+is_open Ended = false
+
+-- the call takes good accounts of its provider
+pub record TakesAccounts (f : Facts) (input : Input) (o : Outcome) (accounts : List Account) : Type 0 where
+  pub place : ℕ
+  pub raw : List ℕ
+  pub is_reply : input ≡ inputs.Reply place kinds.Accounts raw
+  pub provider : ProviderOptions
+  pub has_provider : provider_at place f.options ≡ Some provider
+  pub reads : accounts_of raw provider ≡ Ok accounts
+  pub taken : list_any is_ignored o.effects ≡ false
+  pub effect : CallEffect
+  pub effects : o.effects ≡ does.SetLogin (origin_of provider.config) LoggedIn ∷ effect ∷ []
+
+-- the call takes the choice of an account that is not connected
+pub record TakesChoice (f : Facts) (input : Input) (o : Outcome) : Type 0 where
+  pub place : ℕ
+  pub id : List ℕ
+  pub is_choice : input ≡ inputs.Choose place id
+  pub provider : ProviderOptions
+  pub has_provider : provider_at place f.options ≡ Some provider
+  pub listed : Listed
+  pub lists : f.listed ≡ Some listed
+  pub candidate : Candidate
+  pub is : chosen id listed ≡ Some candidate
+  pub unconnected : candidate.connected ≡ false
+  pub taken : list_any is_ignored o.effects ≡ false
+
+-- the call takes the metadata that its prompt waits for
+pub record TakesMetadata (f : Facts) (input : Input) (o : Outcome) : Type 0 where
+  pub place : ℕ
+  pub raw : List ℕ
+  pub is_reply : input ≡ inputs.Reply place kinds.Metadata raw
+  pub provider : ProviderOptions
+  pub has_provider : provider_at place f.options ≡ Some provider
+  pub taken : list_any is_ignored o.effects ≡ false
+
+-- the input chooses none of the accounts
+abbrev pub ChoosesNone : Facts → Input → Type 0
+ChoosesNone f input =
+    (place : ℕ) (id : List ℕ) → input ≡ inputs.Choose place id → (provider_at place f.options ≡ None) ⊎ (option_and_then (chosen id) f.listed ≡ None)
+
+pub data Way (f : Facts) (input : Input) (o : Outcome) : Type 0 where
+  Elsewhere : is_open (unwrap_or o.stage f.stage) ≡ false → Way f input o
+  OffersMany : (accounts : List Account) → 2 ≤ length accounts → f.stage ≡ Listing → o.stage ≡ Some Choosing → TakesAccounts f input o accounts → Way f input o
+  OffersOne : (only : Account) → f.stage ≡ Listing → o.stage ≡ Some Prompting → TakesAccounts f input o (only ∷ []) → Way f input o
+  Picks : f.stage ≡ Choosing → o.stage ≡ Some Prompting → TakesChoice f input o → Way f input o
+  Readies : f.stage ≡ Prompting → unwrap_or o.stage f.stage ≡ Prompting → TakesMetadata f input o → Way f input o
+  Unmoved : is_open f.stage ≡ true → o.stage ≡ None → ((world : World) → with_input world (list_any is_ignored o.effects) input f ≡ f) → (f.stage ≡ Choosing → ChoosesNone f input)
+      → Way f input o
+
+-- ---- at one stage
+
+-- what is ignored at a dialog leaves it as it was
+open_ignored : (f : Facts) (input : Input) (why : Why) → is_open f.stage ≡ true → (f.stage ≡ Choosing → ChoosesNone f input) → Way f input (ignored why)
+open_ignored f input why at none = Unmoved at refl (λ world. refl) none
+
+-- a reply chooses nothing
+reply_chooses_none : (f : Facts) (place : ℕ) (kind : ReplyKind) (raw : List ℕ) → ChoosesNone f (inputs.Reply place kind raw)
+reply_chooses_none f place kind raw other id is = absurd (cc)
+
+-- ---- in Reading
+
+way_wellknown : (f : Facts) (input : Input) (heard : Bool) (config : Option Configuration) (read : Option (Answer (Unit {0}) ProviderStep)) → is_open f.stage ≡ false
+    → Way f input (wellknown_reply heard config read)
+way_wellknown f input true config read at = Elsewhere at
+way_wellknown f input false config None at = Elsewhere at
+way_wellknown f input false None (Some (Err step)) at = Elsewhere refl
+way_wellknown f input false (Some config) (Some (Err step)) at = Elsewhere refl
+way_wellknown f input false None (Some (Ok u)) at = Elsewhere at
+way_wellknown f input false (Some config) (Some (Ok u)) at = Elsewhere refl
+
+way_config : (f : Facts) (input : Input) (heard : Bool) (config : Option Configuration) (read : Option (Answer Configuration ProviderStep)) → is_open f.stage ≡ false
+    → Way f input (config_reply heard config read)
+way_config f input heard (Some config) read at = Elsewhere at
+way_config f input heard None None at = Elsewhere at
+way_config f input false None (Some (Err step)) at = Elsewhere refl
+way_config f input true None (Some (Err step)) at = Elsewhere refl
+way_config f input false None (Some (Ok config)) at = Elsewhere at
+way_config f input true None (Some (Ok config)) at = Elsewhere refl
+
+way_reading : (world : World) (f : Facts) (input : Input) (provider : Option ProviderOptions) (kind : ReplyKind) (raw : List ℕ) → is_open f.stage ≡ false
+    → Way f input (reading_reply world.rules f.heard f.config provider kind raw)
+way_reading world f input provider kinds.WellKnown raw at = way_wellknown f input f.heard f.config (wellknown_of world.rules raw provider) at
+way_reading world f input provider kinds.Config raw at = way_config f input f.heard f.config (config_read raw provider) at
+way_reading world f input provider kinds.Accounts raw at = Elsewhere at
+way_reading world f input provider kinds.Metadata raw at = Elsewhere at
+way_reading world f input provider kinds.Assertion raw at = Elsewhere at
+way_reading world f input provider kinds.Disconnect raw at = Elsewhere at
+
+-- ---- in Listing
+
+way_refused : (f : Facts) (input : Input) (first : CallEffect) (site : List ℕ) (failure : Failure) (mismatch : Bool) → Way f input (after first (by_mismatch site failure mismatch))
+way_refused f input first site failure true = Elsewhere refl
+way_refused f input first site failure false = Elsewhere refl
+
+pub prompt_taken : (world : World) (f : Facts) (provider : ProviderOptions) (candidate : Candidate) (connected : Bool) (endpoint : Option Parts)
+    → is_ignored (prompt_effect world f provider candidate connected endpoint) ≡ false
+prompt_taken world f provider candidate true endpoint = refl
+prompt_taken world f provider candidate false None = refl
+prompt_taken world f provider candidate false (Some to) = refl
+
+way_offers : (world : World) (f : Facts) (place : ℕ) (raw : List ℕ) (provider : ProviderOptions) (accounts : List Account) → f.stage ≡ Listing
+    → provider_at place f.options ≡ Some provider → accounts_of raw provider ≡ Ok accounts
+    → Way f (inputs.Reply place kinds.Accounts raw) (after (does.SetLogin (origin_of provider.config) LoggedIn) (offers world f provider accounts))
+way_offers world f place raw provider [] at has reads = Elsewhere (ap is_open at)
+way_offers world f place raw provider (only ∷ []) at has reads =
+    let candidate = candidate_of world f.origin provider only in
+    let effect = prompt_effect world f provider candidate candidate.connected (metadata_endpoint f.config) in
+    OffersOne only at refl
+    (record {
+      place = place;
+      raw = raw;
+      is_reply = refl;
+      provider = provider;
+      has_provider = has;
+      reads = reads;
+      taken = ap (λ b. b || false) (prompt_taken world f provider candidate candidate.connected (metadata_endpoint f.config));
+      effect = effect;
+      effects = refl;
+    })
+way_offers world f place raw provider (one ∷ two ∷ more) at has reads =
+    OffersMany (one ∷ two ∷ more) (omega arith) at refl
+    (record {
+      place = place;
+      raw = raw;
+      is_reply = refl;
+      provider = provider;
+      has_provider = has;
+      reads = reads;
+      taken = refl;
+      effect = choice_dialog world f (listed_of world f.origin provider (one ∷ two ∷ more));
+      effects = refl;
+    })
+
+way_accounts : (world : World) (f : Facts) (place : ℕ) (raw : List ℕ) (provider : ProviderOptions) (read : Answer (List Account) AccountsStep) → f.stage ≡ Listing
+    → provider_at place f.options ≡ Some provider → accounts_of raw provider ≡ read
+    → Way f (inputs.Reply place kinds.Accounts raw) (by_accounts world f provider read)
+way_accounts world f place raw provider (Err step) at has reads =
+    way_refused f _ _ (site_of world f.origin) (accounts_failure step)
+    (is_mismatch f.options.mode f.options.mediation (status_of world.login (origin_of provider.config)))
+way_accounts world f place raw provider (Ok accounts) at has reads = way_offers world f place raw provider accounts at has reads
+
+way_accounts_reply : (world : World) (f : Facts) (place : ℕ) (raw : List ℕ) (provider : Option ProviderOptions) → f.stage ≡ Listing
+    → provider_at place f.options ≡ provider → Way f (inputs.Reply place kinds.Accounts raw) (accounts_reply world f provider raw)
+way_accounts_reply world f place raw None at has = Elsewhere (ap is_open at)
+way_accounts_reply world f place raw (Some provider) at has = way_accounts world f place raw provider (accounts_of raw provider) at has refl
+
+way_listing : (world : World) (f : Facts) (place : ℕ) (kind : ReplyKind) (raw : List ℕ) → f.stage ≡ Listing
+    → Way f (inputs.Reply place kind raw) (listing_reply world f (provider_at place f.options) kind raw)
+way_listing world f place kinds.Accounts raw at = way_accounts_reply world f place raw (provider_at place f.options) at refl
+way_listing world f place kinds.WellKnown raw at = Elsewhere (ap is_open at)
+way_listing world f place kinds.Config raw at = Elsewhere (ap is_open at)
+way_listing world f place kinds.Metadata raw at = Elsewhere (ap is_open at)
+way_listing world f place kinds.Assertion raw at = Elsewhere (ap is_open at)
+way_listing world f place kinds.Disconnect raw at = Elsewhere (ap is_open at)
+
+-- ---- in Prompting
+
+not_choosing : {A : Type 0} (f : Facts) → f.stage ≡ Prompting → f.stage ≡ Choosing → A
+not_choosing f at other = let no : Prompting ≡ Choosing = sym at ∙ other in absurd (cc)
+
+way_links : (world : World) (f : Facts) (place : ℕ) (raw : List ℕ) (provider : ProviderOptions) (picked : Option Candidate) (links : PolicyLinks) → f.stage ≡ Prompting
+    → provider_at place f.options ≡ Some provider → Way f (inputs.Reply place kinds.Metadata raw) (links_shown world f picked links)
+way_links world f place raw provider None links at has =
+    Readies at at (record { place = place; raw = raw; is_reply = refl; provider = provider; has_provider = has; taken = refl })
+way_links world f place raw provider (Some candidate) links at has =
+    Readies at refl (record { place = place; raw = raw; is_reply = refl; provider = provider; has_provider = has; taken = refl })
+
+way_metadata : (world : World) (f : Facts) (place : ℕ) (raw : List ℕ) (waits : Bool) (provider : Option ProviderOptions) → f.stage ≡ Prompting
+    → provider_at place f.options ≡ provider → Way f (inputs.Reply place kinds.Metadata raw) (metadata_reply world f waits provider raw)
+way_metadata world f place raw false provider at has = open_ignored f _ _ (ap is_open at) (λ other. not_choosing f at other)
+way_metadata world f place raw true None at has = open_ignored f _ _ (ap is_open at) (λ other. not_choosing f at other)
+way_metadata world f place raw true (Some provider) at has = way_links world f place raw provider f.picked (MetadataOf raw) at has
+
+way_prompting : (world : World) (f : Facts) (place : ℕ) (kind : ReplyKind) (raw : List ℕ) → f.stage ≡ Prompting
+    → Way f (inputs.Reply place kind raw) (prompting_reply world f (provider_at place f.options) kind raw)
+way_prompting world f place kinds.Metadata raw at = way_metadata world f place raw f.waits (provider_at place f.options) at refl
+way_prompting world f place kinds.WellKnown raw at = open_ignored f _ _ (ap is_open at) (λ other. not_choosing f at other)
+way_prompting world f place kinds.Config raw at = open_ignored f _ _ (ap is_open at) (λ other. not_choosing f at other)
+way_prompting world f place kinds.Accounts raw at = open_ignored f _ _ (ap is_open at) (λ other. not_choosing f at other)
+way_prompting world f place kinds.Assertion raw at = open_ignored f _ _ (ap is_open at) (λ other. not_choosing f at other)
+way_prompting world f place kinds.Disconnect raw at = open_ignored f _ _ (ap is_open at) (λ other. not_choosing f at other)
+
+-- ---- in Asserting
+
+way_assertion : (f : Facts) (input : Input) (provider : Option ProviderOptions) (raw : List ℕ) → f.stage ≡ Asserting → Way f input (assertion_reply f provider raw)
+way_assertion f input None raw at = Elsewhere (ap is_open at)
+way_assertion f input (Some provider) raw at = Elsewhere refl
+
+way_asserting : (f : Facts) (input : Input) (provider : Option ProviderOptions) (kind : ReplyKind) (raw : List ℕ) → f.stage ≡ Asserting
+    → Way f input (asserting_reply f provider kind raw)
+way_asserting f input provider kinds.Assertion raw at = way_assertion f input provider raw at
+way_asserting f input provider kinds.WellKnown raw at = Elsewhere (ap is_open at)
+way_asserting f input provider kinds.Config raw at = Elsewhere (ap is_open at)
+way_asserting f input provider kinds.Accounts raw at = Elsewhere (ap is_open at)
+way_asserting f input provider kinds.Metadata raw at = Elsewhere (ap is_open at)
+way_asserting f input provider kinds.Disconnect raw at = Elsewhere (ap is_open at)
+
+way_reply : (world : World) (f : Facts) (stage : Stage) → f.stage ≡ stage → (place : ℕ) (kind : ReplyKind) (raw : List ℕ)
+    → Way f (inputs.Reply place kind raw) (stage_reply world f stage place kind raw)
+way_reply world f Reading at place kind raw = way_reading world f _ (provider_at place f.options) kind raw (ap is_open at)
+way_reply world f Listing at place kind raw = way_listing world f place kind raw at
+way_reply world f Mismatch at place kind raw = Elsewhere (ap is_open at)
+way_reply world f Choosing at place kind raw = open_ignored f _ _ (ap is_open at) (λ other. reply_chooses_none f place kind raw)
+way_reply world f Prompting at place kind raw = way_prompting world f place kind raw at
+way_reply world f Asserting at place kind raw = way_asserting f _ (provider_at place f.options) kind raw at
+way_reply world f Ended at place kind raw = Elsewhere (ap is_open at)
+
+-- ---- the user's words
+
+way_asserts : (f : Facts) (input : Input) (provider : ProviderOptions) (config : Option Configuration) (agreed : Agreement) → is_some config ≡ true
+    → Way f input (asserts f (Some provider) config agreed)
+way_asserts f input provider None agreed some = absurd (cc)
+way_asserts f input provider (Some config) agreed some = Elsewhere refl
+
+way_settles : (world : World) (f : Facts) (place : ℕ) (id : List ℕ) (listed : Listed) (provider : ProviderOptions) (candidate : Candidate) → f.stage ≡ Choosing
+    → provider_at place f.options ≡ Some provider → f.listed ≡ Some listed → chosen id listed ≡ Some candidate → is_some f.config ≡ true
+    → (connected : Bool) → candidate.connected ≡ connected → Way f (inputs.Choose place id) (settles world f provider candidate connected)
+way_settles world f place id listed provider candidate at has lists is some true connected =
+    way_asserts f _ provider f.config (agreed_to f candidate Chosen false) some
+way_settles world f place id listed provider candidate at has lists is some false connected =
+    Picks at refl
+    (record {
+      place = place;
+      id = id;
+      is_choice = refl;
+      provider = provider;
+      has_provider = has;
+      listed = listed;
+      lists = lists;
+      candidate = candidate;
+      is = is;
+      unconnected = connected;
+      taken = ap (λ b. b || false) (prompt_taken world f provider candidate candidate.connected (metadata_endpoint f.config));
+    })
+
+way_choice : (world : World) (f : Facts) (place : ℕ) (id : List ℕ) → f.stage ≡ Choosing → is_some f.config ≡ true → (provider : Option ProviderOptions)
+    → provider_at place f.options ≡ provider → (listed : Option Listed) → f.listed ≡ listed → (candidate : Option Candidate) → option_and_then (chosen id) listed ≡ candidate
+    → Way f (inputs.Choose place id) (choice world f provider candidate)
+way_choice world f place id at some None has listed lists candidate is =
+    open_ignored f _ _ (ap is_open at) (λ other p i same. inl (let k : place ≡ p = cc in ap (λ n. provider_at n f.options) (sym k) ∙ has))
+way_choice world f place id at some (Some provider) has listed lists None is =
+    open_ignored f _ _ (ap is_open at)
+    (λ other p i same. inr (let k : id ≡ i = cc in ap (λ t. option_and_then (chosen t) f.listed) (sym k) ∙ ap (option_and_then (chosen id)) lists ∙ is))
+way_choice world f place id at some (Some provider) has None lists (Some candidate) is = absurd (cc)
+way_choice world f place id at some (Some provider) has (Some listed) lists (Some candidate) is =
+    way_settles world f place id listed provider candidate at has lists is some candidate.connected refl
+
+way_chose : (world : World) (f : Facts) (stage : Stage) → f.stage ≡ stage → (stage ≡ Choosing → is_some f.config ≡ true) → (place : ℕ) (id : List ℕ)
+    → Way f (inputs.Choose place id) (chose world f stage place id)
+way_chose world f Choosing at some place id =
+    way_choice world f place id at (some refl) (provider_at place f.options) refl f.listed refl (option_and_then (chosen id) f.listed) refl
+way_chose world f Prompting at some place id = open_ignored f _ _ (ap is_open at) (λ other. not_choosing f at other)
+way_chose world f Reading at some place id = Elsewhere (ap is_open at)
+way_chose world f Listing at some place id = Elsewhere (ap is_open at)
+way_chose world f Mismatch at some place id = Elsewhere (ap is_open at)
+way_chose world f Asserting at some place id = Elsewhere (ap is_open at)
+way_chose world f Ended at some place id = Elsewhere (ap is_open at)
+
+-- going on chooses nothing
+going_chooses_none : (f : Facts) → ChoosesNone f inputs.GoOn
+going_chooses_none f place id is = absurd (cc)
+
+way_goes_asserts : (f : Facts) (provider : Option ProviderOptions) (config : Option Configuration) (agreed : Agreement) → f.stage ≡ Prompting
+    → Way f inputs.GoOn (asserts f provider config agreed)
+way_goes_asserts f None config agreed at = Unmoved (ap is_open at) refl (λ world. refl) (λ other. going_chooses_none f)
+way_goes_asserts f (Some provider) None agreed at = Unmoved (ap is_open at) refl (λ world. refl) (λ other. going_chooses_none f)
+way_goes_asserts f (Some provider) (Some config) agreed at = Elsewhere refl
+
+way_goes_on : (f : Facts) (waits : Bool) (picked : Option Candidate) → f.stage ≡ Prompting → Way f inputs.GoOn (goes_on f waits picked)
+way_goes_on f true picked at = Unmoved (ap is_open at) refl (λ world. refl) (λ other. going_chooses_none f)
+way_goes_on f false None at = Unmoved (ap is_open at) refl (λ world. refl) (λ other. going_chooses_none f)
+way_goes_on f false (Some candidate) at =
+    way_goes_asserts f (provider_at 0 f.options) f.config (agreed_to f candidate Prompted (not candidate.connected)) at
+
+way_went_on : (f : Facts) (stage : Stage) → f.stage ≡ stage → Way f inputs.GoOn (went_on f stage)
+way_went_on f Prompting at = way_goes_on f f.waits f.picked at
+way_went_on f Choosing at = open_ignored f _ _ (ap is_open at) (λ other. going_chooses_none f)
+way_went_on f Reading at = Elsewhere (ap is_open at)
+way_went_on f Listing at = Elsewhere (ap is_open at)
+way_went_on f Mismatch at = Elsewhere (ap is_open at)
+way_went_on f Asserting at = Elsewhere (ap is_open at)
+way_went_on f Ended at = Elsewhere (ap is_open at)
+
+way_cancelled : (f : Facts) (stage : Stage) → f.stage ≡ stage → Way f inputs.Cancel (cancelled stage)
+way_cancelled f Reading at = Elsewhere (ap is_open at)
+way_cancelled f Listing at = Elsewhere (ap is_open at)
+way_cancelled f Mismatch at = Elsewhere refl
+way_cancelled f Choosing at = Elsewhere refl
+way_cancelled f Prompting at = Elsewhere refl
+way_cancelled f Asserting at = Elsewhere (ap is_open at)
+way_cancelled f Ended at = Elsewhere (ap is_open at)
+
+-- an input that no event brings yet is ignored
+way_none : (f : Facts) (input : Input) (why : Why) → ChoosesNone f input → (open_now : Bool) → is_open f.stage ≡ open_now → Way f input (ignored why)
+way_none f input why none true at = open_ignored f input why at (λ other. none)
+way_none f input why none false at = Elsewhere at
+
+pub way_at : (world : World) (f : Facts) (input : Input) → (f.stage ≡ Choosing → is_some f.config ≡ true) → Way f input (input_row world f input)
+way_at world f (inputs.Reply place kind raw) some = way_reply world f f.stage refl place kind raw
+way_at world f (inputs.Choose place id) some = way_chose world f f.stage refl some place id
+way_at world f inputs.GoOn some = way_went_on f f.stage refl
+way_at world f inputs.Cancel some = way_cancelled f f.stage refl
+way_at world f inputs.Abort some = Elsewhere refl
+way_at world f inputs.SignIn some = way_none f inputs.SignIn _ (λ place id is. absurd (cc)) (is_open f.stage) refl
+way_at world f inputs.Shut some = way_none f inputs.Shut _ (λ place id is. absurd (cc)) (is_open f.stage) refl
+way_at world f inputs.Resume some = way_none f inputs.Resume _ (λ place id is. absurd (cc)) (is_open f.stage) refl

@@ -1,0 +1,38 @@
+//! Laws of every run of events, of every trace that a session stands for, and of the trace of every script.
+ghost use Rattle.fed_laws.specs.Laws.{OfRuns, OfSessions, OfScripts, AsksOnce, HasCause, ReachesItsPage, IsAnswered, IsAskedFor};
+
+/// No call asks for two tokens.
+pub fn asks_once()
+    ensures runs { OfRuns AsksOnce }
+    ensures sessions { OfSessions AsksOnce }
+    ensures scripts { OfScripts AsksOnce }
+{}
+
+/// Where a call asks for a token, the user had agreed: by choosing an account that was connected, or by going on at the prompt of the one that was
+/// offered, or chosen. The request names that account and the call's own page, client, nonce and text.
+pub fn assertion_has_cause()
+    ensures runs { OfRuns HasCause }
+    ensures sessions { OfSessions HasCause }
+    ensures scripts { OfScripts HasCause }
+{}
+
+/// A token that a page gets is in the reply to the request of a call of its own, and the page was neither loaded nor closed since that call.
+pub fn token_reaches_its_page()
+    ensures runs { OfRuns ReachesItsPage }
+    ensures sessions { OfSessions ReachesItsPage }
+    ensures scripts { OfScripts ReachesItsPage }
+{}
+
+/// Where the reply to a call's request holds a token, its page gets the token, unless the call had a result or the page was loaded or closed before.
+pub fn token_is_given()
+    ensures runs { OfRuns IsAnswered }
+    ensures sessions { OfSessions IsAnswered }
+    ensures scripts { OfScripts IsAnswered }
+{}
+
+/// Where the user has agreed in one of the ways of `assertion_has_cause`, the call asks for the token.
+pub fn cause_is_followed()
+    ensures runs { OfRuns IsAskedFor }
+    ensures sessions { OfSessions IsAskedFor }
+    ensures scripts { OfScripts IsAskedFor }
+{}

@@ -1,0 +1,2 @@
+-- URLs of the web.
+pub mod SameText

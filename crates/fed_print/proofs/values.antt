@@ -1,0 +1,3 @@
+-- Texts and numbers as JSON values.
+pub mod Ascii
+pub mod Float

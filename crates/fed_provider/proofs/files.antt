@@ -1,0 +1,4 @@
+-- What is read in a provider's files.
+pub mod SiteText
+pub mod OnlyText
+pub mod LastEndpoint

@@ -1,0 +1,3 @@
+-- What the definitions promise, one file for each law.
+pub mod OneConfiguration
+pub mod EndpointsAreOwn

@@ -1,0 +1,4 @@
+-- The head of a reply and its fields.
+pub mod Fields
+pub mod Values
+pub mod Front

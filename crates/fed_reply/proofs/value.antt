@@ -1,0 +1,3 @@
+-- The JSON value of a body.
+pub mod Trim
+pub mod Json

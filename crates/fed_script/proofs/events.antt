@@ -1,0 +1,2 @@
+-- What a line of an event is read as.
+pub mod Event

@@ -1,0 +1,141 @@
+-- What is so of each event that a line names.
+use Rattle.std.proofs.Common.{◌≡◌, ℕ, Bool, true, false, cond, List, Option, Some, None, refl}
+use Rattle.std.proofs.lemmas.Result.{IfOk-at_ok}
+use Rattle.std.specs.Prelude.{option_and_then, Result, Ok, Err, IfOk, IfSome, bytes_eq, codes}
+use Rattle.serde_json.specs.Data.{Data}
+use Rattle.serde_json.specs.Find.{as_str}
+use Rattle.fed_origin.specs.declared.status.LoginStatus.TheVariants.{LoggedIn, LoggedOut}
+use Rattle.fed_origin.specs.Words.{status_of_word}
+use Rattle.fed_script.specs.declared.cause.LineCause.{LineCause}
+use Rattle.fed_script.specs.declared.cause.MemberName.TheVariants as names
+use Rattle.fed_script.specs.declared.event.Event.{Event}
+use Rattle.fed_script.specs.Member.{◌>>=◌, or_cause, json_of, member_of, required, optional, as_word, as_whole, as_u32, url_of}
+use Rattle.fed_script.specs.Raw.{optional_bytes, required_bytes}
+use Rattle.fed_script.specs.Status.{setstatus_of}
+use Rattle.fed_script.specs.Have.{login_of, cookie_of, said, have_of}
+use Rattle.fed_script.specs.Single.{at_of, closepage_of, abort_of, go_on_of, cancel_of}
+use Rattle.fed_script.specs.Load.{load_of}
+use Rattle.fed_script.specs.Get.{get_members, get_of}
+use Rattle.fed_script.specs.Reply.{reply_kind, reply_of}
+use Rattle.fed_script.specs.Choose.{choose_of}
+use Rattle.fed_script.specs.Line.{kind_of, event_of_kind, event_named}
+use Rattle.fed_script.specs.Used.{IsKnown, SaysKnown, HasOneProvider, HasKnownStatus}
+
+-- what is so of each answer of the next step, where this one's answer is so
+after : {A B : Type 0} (Q : A → Type 0) (P : B → Type 0) (r : Result A LineCause) (f : A → Result B LineCause) → IfOk r Q → ((x : A) → Q x → IfOk (f x) P) → IfOk (r >>= f) P
+after Q P (Ok x) f so each = each x so
+after Q P (Err cause) f so each = tt
+
+-- the same of any answer of this one
+always : {A B : Type 0} (P : B → Type 0) (r : Result A LineCause) (f : A → Result B LineCause) → ((x : A) → IfOk (f x) P) → IfOk (r >>= f) P
+always P (Ok x) f each = each x
+always P (Err cause) f each = tt
+
+there : {A : Type 0} (P : A → Type 0) (cause : LineCause) (o : Option A) → IfSome o P → IfOk (or_cause cause o) P
+there P cause None so = tt
+there P cause (Some x) so = so
+
+then : {A B : Type 0} (P : B → Type 0) (f : A → Option B) (o : Option A) → ((x : A) → IfSome (f x) P) → IfSome (option_and_then f o) P
+then P f None each = tt
+then P f (Some x) each = each x
+
+one_of_two : (a b : Bool) → IfSome (cond a (Some LoggedIn) (cond b (Some LoggedOut) None)) IsKnown
+one_of_two true b = λ e. cc
+one_of_two false true = λ e. cc
+one_of_two false false = tt
+
+-- a status that a line names is known
+known : (d : Data) → IfOk (required (as_word status_of_word) names.Status d) IsKnown
+known d =
+    there IsKnown _ _ (then IsKnown (as_word status_of_word) (member_of names.Status d)
+    (λ value. then IsKnown status_of_word (as_str value) (λ word. one_of_two _ _)))
+
+-- what `read_event` says of an event
+abbrev Good : Event → Type 0
+Good event = HasOneProvider event × HasKnownStatus event
+
+login_known : (d : Data) → IfOk (login_of d) SaysKnown
+login_known d =
+    always SaysKnown (required as_str names.Origin d) _
+    (λ text. after IsKnown SaysKnown (required (as_word status_of_word) names.Status d) _ (known d)
+    (λ status so. always SaysKnown (url_of text) _ (λ url. so)))
+
+cookie_known : (d : Data) → IfOk (cookie_of d) SaysKnown
+cookie_known d = always SaysKnown (required as_str names.Url d) _ (λ text. always SaysKnown (required_bytes d) _ (λ field. always SaysKnown (url_of text) _ (λ url. tt)))
+
+said_known : (d : Data) (cause : LineCause) (a b : Bool) → IfOk (cond a (login_of d) (cond b (cookie_of d) (Err cause))) SaysKnown
+said_known d cause true b = login_known d
+said_known d cause false true = cookie_known d
+said_known d cause false false = tt
+
+have_good : (d : Data) → IfOk (have_of d) Good
+have_good d =
+    always Good (required as_str names.What d) _
+    (λ what. after SaysKnown Good (said what d) _
+    (said_known d _ (bytes_eq what (codes "login")) (bytes_eq what (codes "cookie"))) (λ have so. (tt, so)))
+
+at_good : (d : Data) → IfOk (at_of d) Good
+at_good d = always Good (required as_whole names.Time d) _ (λ time. (tt, tt))
+
+closepage_good : (d : Data) → IfOk (closepage_of d) Good
+closepage_good d = always Good (required as_u32 names.Page d) _ (λ page. (tt, tt))
+
+abort_good : (d : Data) → IfOk (abort_of d) Good
+abort_good d = always Good (required as_u32 names.Call d) _ (λ call. (tt, tt))
+
+go_on_good : (d : Data) → IfOk (go_on_of d) Good
+go_on_good d = always Good (required as_u32 names.Call d) _ (λ call. (tt, tt))
+
+cancel_good : (d : Data) → IfOk (cancel_of d) Good
+cancel_good d = always Good (required as_u32 names.Call d) _ (λ call. (tt, tt))
+
+load_good : (d : Data) → IfOk (load_of d) Good
+load_good d =
+    always Good (required as_u32 names.Page d) _ (λ page. always Good (required as_str names.Url d) _
+    (λ text. always Good (optional_bytes d) _ (λ raw. always Good (url_of text) _ (λ url. (tt, tt)))))
+
+get_good : (d : Data) → IfOk (get_of d) Good
+get_good d = always Good (get_members d) _ (λ members. always Good (url_of members.provider.config) _ (λ config. (refl, tt)))
+
+reply_good : (d : Data) → IfOk (reply_of d) Good
+reply_good d =
+    always Good (required as_u32 names.Call d) _ (λ call. always Good (optional as_u32 names.Provider (member_of names.Provider d)) _
+    (λ provider. always Good (required (as_word reply_kind) names.To d) _ (λ kind. always Good (required_bytes d) _ (λ raw. (tt, tt)))))
+
+choose_good : (d : Data) → IfOk (choose_of d) Good
+choose_good d =
+    always Good (required as_u32 names.Call d) _ (λ call. always Good (optional as_u32 names.Provider (member_of names.Provider d)) _
+    (λ provider. always Good (required as_str names.Account d) _ (λ account. (tt, tt))))
+
+setstatus_good : (d : Data) → IfOk (setstatus_of d) Good
+setstatus_good d =
+    always Good (required as_u32 names.Page d) _
+    (λ page. after IsKnown Good (required (as_word status_of_word) names.Status d) _ (known d) (λ status so. (tt, so)))
+
+one_good : (d : Data) (cause : LineCause) (a b c e f g h i j k l : Bool)
+    → IfOk (cond a (have_of d) (cond b (at_of d) (cond c (load_of d) (cond e (closepage_of d) (cond f (get_of d) (cond g (abort_of d) (cond h (go_on_of d) (cond i (cancel_of d) (cond j (reply_of d) (cond k (choose_of d) (cond l (setstatus_of d) (Err cause)))))))))))) Good
+one_good d cause true b c e f g h i j k l = have_good d
+one_good d cause false true c e f g h i j k l = at_good d
+one_good d cause false false true e f g h i j k l = load_good d
+one_good d cause false false false true f g h i j k l = closepage_good d
+one_good d cause false false false false true g h i j k l = get_good d
+one_good d cause false false false false false true h i j k l = abort_good d
+one_good d cause false false false false false false true i j k l = go_on_good d
+one_good d cause false false false false false false false true j k l = cancel_good d
+one_good d cause false false false false false false false false true k l = reply_good d
+one_good d cause false false false false false false false false false true l = choose_good d
+one_good d cause false false false false false false false false false false true = setstatus_good d
+one_good d cause false false false false false false false false false false false = tt
+
+kind_good : (kind : List ℕ) (d : Data) → IfOk (event_of_kind kind d) Good
+kind_good kind d =
+    one_good d _ (bytes_eq kind (codes "have")) (bytes_eq kind (codes "at")) (bytes_eq kind (codes "load")) (bytes_eq kind (codes "closepage"))
+    (bytes_eq kind (codes "get")) (bytes_eq kind (codes "abort")) (bytes_eq kind (codes "continue")) (bytes_eq kind (codes "cancel"))
+    (bytes_eq kind (codes "reply")) (bytes_eq kind (codes "choose")) (bytes_eq kind (codes "setstatus"))
+
+named_good : (line : List ℕ) → IfOk (event_named line) Good
+named_good line = always Good (json_of line) _ (λ d. always Good (kind_of d) _ (λ kind. kind_good kind d))
+
+-- an event that a line names has one provider where it is a get, and no unknown status
+pub named-good : (line : List ℕ) (event : Event) → event_named line ≡ Ok event → HasOneProvider event × HasKnownStatus event
+named-good line event is = IfOk-at_ok Good is (named_good line)

@@ -1,0 +1,4 @@
+-- Two scripts in one input.
+pub mod Half
+pub mod Further
+pub mod Within

@@ -1,0 +1,4 @@
+-- Lines of bytes, and the header.
+pub mod Line
+pub mod Header
+pub mod Walk

@@ -1,0 +1,3 @@
+-- A script that is read, and where reading stops.
+pub mod Read
+pub mod Stop

@@ -1,0 +1,5 @@
+-- What private clauses say, by the trace.
+pub mod Outcome
+pub mod Sets
+pub mod Sight
+pub mod Statuses

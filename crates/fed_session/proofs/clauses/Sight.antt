@@ -1,0 +1,25 @@
+-- The Cookie field by what a session keeps.
+use Rattle.std.proofs.Common.{◌≡◌, refl, ap, ◌∙◌}
+use Rattle.url.specs.Parts.{Parts}
+use Rattle.fed_jar.specs.Send.{jar_text}
+use Rattle.fed_consent.specs.declared.table.ask.Ask.{Ask}
+use Rattle.fed_jar.specs.Writes as jar
+use Rattle.fed_consent.specs.declared.table.ask.Ask.TheVariants as asks
+use Rattle.fed_trace.specs.Row.{cookies_with}
+use Rattle.fed_session.specs.Session.{State, Stands}
+use Rattle.fed_session.specs.StepParts.{cookies_by}
+use Rattle.fed_trace.specs.Trace.{Trace, now_at, writes}
+
+-- what a jar gives is what was written
+jar_same : (s : State) (T : Trace) (to : Parts) → Stands s T → jar_text s.rules to s.time s.cookies ≡ jar.cookie_text T.header.rules to (now_at T) (writes T)
+unfolding jar_text jar.cookie_text jar.cookies_at
+jar_same s T to h =
+    ap (λ r. jar_text r to s.time s.cookies) h.rules ∙ ap (λ t. jar_text T.header.rules to t s.cookies) h.time ∙ ap (jar_text T.header.rules to (now_at T)) h.cookies
+
+pub cookies_same : (s : State) (T : Trace) (ask : Ask) → Stands s T → cookies_by s.rules s.time s.cookies ask ≡ cookies_with T ask
+cookies_same s T (asks.Accounts to) h = jar_same s T to h
+cookies_same s T (asks.Assertion ask) h = jar_same s T ask.to h
+cookies_same s T (asks.Disconnect to client hint origin) h = jar_same s T to h
+cookies_same s T (asks.WellKnown to) h = refl
+cookies_same s T (asks.Config to) h = refl
+cookies_same s T (asks.Metadata to client origin) h = refl

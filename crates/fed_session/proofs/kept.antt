@@ -1,0 +1,3 @@
+-- What a session keeps of pages and calls.
+pub mod Calls
+pub mod Pages

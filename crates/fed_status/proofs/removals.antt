@@ -1,0 +1,2 @@
+-- What goes of the permissions.
+pub mod PairGoes

@@ -1,0 +1,2 @@
+-- The labels of a text.
+pub mod Label

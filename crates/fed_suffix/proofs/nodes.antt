@@ -1,0 +1,2 @@
+-- The tree of rules, by its nodes.
+pub mod Tree

@@ -1,0 +1,2 @@
+-- Sets of rules.
+pub mod Set

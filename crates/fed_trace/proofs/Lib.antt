@@ -1,0 +1,7 @@
+pub mod keyed
+pub mod effects
+pub mod calls
+pub mod known
+pub mod events
+pub mod happens
+pub mod runs

@@ -1,0 +1,3 @@
+-- The pending calls of pages, and the calls that began.
+pub mod Pending
+pub mod Begins

@@ -1,0 +1,2 @@
+-- What an event does.
+pub mod Aside

@@ -1,0 +1,3 @@
+-- Values that come and go under keys.
+pub mod Keyed
+pub mod Entries

@@ -1,0 +1,3 @@
+-- What is known of a call.
+pub mod Facts
+pub mod Known

@@ -1,0 +1,83 @@
+-- What an input says of a call hangs on no stage, and leaves what the call began with.
+use Rattle.std.proofs.Common.{◌≡◌, Bool, true, false, List, [], ◌∷◌, ℕ, Some, None, Ok, Err, refl}
+use Rattle.std.specs.Prelude.{Option, option_and_then, Result}
+use Rattle.fed_origin.specs.declared.options.ProviderOptions.{ProviderOptions}
+use Rattle.fed_origin.specs.declared.stage.ReplyKind.{ReplyKind}
+use Rattle.fed_origin.specs.declared.stage.ReplyKind.TheVariants as kinds
+use Rattle.fed_origin.specs.declared.stage.Stage.{Stage}
+use Rattle.fed_accounts.specs.declared.account.Account.{Account}
+use Rattle.fed_accounts.specs.declared.step.AccountsStep.{AccountsStep}
+use Rattle.fed_status.specs.Shared.{World}
+use Rattle.fed_consent.specs.Consent.{Candidate, chosen}
+use Rattle.fed_consent.specs.declared.table.input.Input.{Input}
+use Rattle.fed_consent.specs.declared.table.input.Input.TheVariants as inputs
+use Rattle.fed_call.specs.Accounts.{accounts_of}
+use Rattle.fed_call.specs.Facts.{Facts, with_accounts, with_choice, with_input, with_list, with_listing, with_reply, provider_at}
+
+-- a reading of facts that leaves the page, its origin and the options, and does not look at the stage
+record Keeps (f : Facts → Facts) : Type 0 where
+  page : (facts : Facts) → (f facts).page ≡ facts.page
+  origin : (facts : Facts) → (f facts).origin ≡ facts.origin
+  options : (facts : Facts) → (f facts).options ≡ facts.options
+  staged : (facts : Facts) (stage : Stage) → f (record facts { stage = stage }) ≡ record (f facts) { stage = stage }
+
+accounts_keep : (world : World) (provider : ProviderOptions) (accounts : List Account) → Keeps (with_accounts world provider accounts)
+accounts_keep world provider [] = record { page = λ f. refl; origin = λ f. refl; options = λ f. refl; staged = λ f s. refl }
+accounts_keep world provider (only ∷ []) = record { page = λ f. refl; origin = λ f. refl; options = λ f. refl; staged = λ f s. refl }
+accounts_keep world provider (first ∷ second ∷ more) = record { page = λ f. refl; origin = λ f. refl; options = λ f. refl; staged = λ f s. refl }
+
+list_keeps : (world : World) (provider : ProviderOptions) (read : Result (List Account) AccountsStep) → Keeps (with_list world provider read)
+list_keeps world provider (Err step) = record { page = λ f. refl; origin = λ f. refl; options = λ f. refl; staged = λ f s. refl }
+list_keeps world provider (Ok accounts) = accounts_keep world provider accounts
+
+listing_keeps : (world : World) (raw : List ℕ) (provider : Option ProviderOptions) → Keeps (with_listing world raw provider)
+listing_keeps world raw None = record { page = λ f. refl; origin = λ f. refl; options = λ f. refl; staged = λ f s. refl }
+listing_keeps world raw (Some provider) = list_keeps world provider (accounts_of raw provider)
+
+reply_keeps : (world : World) (place : ℕ) (kind : ReplyKind) (raw : List ℕ) → Keeps (with_reply world place kind raw)
+reply_keeps world place kinds.WellKnown raw = record { page = λ f. refl; origin = λ f. refl; options = λ f. refl; staged = λ f s. refl }
+reply_keeps world place kinds.Config raw = record { page = λ f. refl; origin = λ f. refl; options = λ f. refl; staged = λ f s. refl }
+reply_keeps world place kinds.Accounts raw =
+    record {
+      page = λ f. (listing_keeps world raw (provider_at place f.options)).page f;
+      origin = λ f. (listing_keeps world raw (provider_at place f.options)).origin f;
+      options = λ f. (listing_keeps world raw (provider_at place f.options)).options f;
+      staged = λ f s. (listing_keeps world raw (provider_at place f.options)).staged f s;
+    }
+reply_keeps world place kinds.Metadata raw = record { page = λ f. refl; origin = λ f. refl; options = λ f. refl; staged = λ f s. refl }
+reply_keeps world place kinds.Assertion raw = record { page = λ f. refl; origin = λ f. refl; options = λ f. refl; staged = λ f s. refl }
+reply_keeps world place kinds.Disconnect raw = record { page = λ f. refl; origin = λ f. refl; options = λ f. refl; staged = λ f s. refl }
+
+choice_keeps : (candidate : Option Candidate) → Keeps (with_choice candidate)
+choice_keeps None = record { page = λ f. refl; origin = λ f. refl; options = λ f. refl; staged = λ f s. refl }
+choice_keeps (Some candidate) = record { page = λ f. refl; origin = λ f. refl; options = λ f. refl; staged = λ f s. refl }
+
+input_keeps : (world : World) (ignored : Bool) (input : Input) → Keeps (with_input world ignored input)
+input_keeps world true input = record { page = λ f. refl; origin = λ f. refl; options = λ f. refl; staged = λ f s. refl }
+input_keeps world false (inputs.Reply place kind raw) = reply_keeps world place kind raw
+input_keeps world false (inputs.Choose place account) =
+    record {
+      page = λ f. (choice_keeps (option_and_then (chosen account) f.listed)).page f;
+      origin = λ f. (choice_keeps (option_and_then (chosen account) f.listed)).origin f;
+      options = λ f. (choice_keeps (option_and_then (chosen account) f.listed)).options f;
+      staged = λ f s. (choice_keeps (option_and_then (chosen account) f.listed)).staged f s;
+    }
+input_keeps world false inputs.GoOn = record { page = λ f. refl; origin = λ f. refl; options = λ f. refl; staged = λ f s. refl }
+input_keeps world false inputs.Cancel = record { page = λ f. refl; origin = λ f. refl; options = λ f. refl; staged = λ f s. refl }
+input_keeps world false inputs.SignIn = record { page = λ f. refl; origin = λ f. refl; options = λ f. refl; staged = λ f s. refl }
+input_keeps world false inputs.Shut = record { page = λ f. refl; origin = λ f. refl; options = λ f. refl; staged = λ f s. refl }
+input_keeps world false inputs.Resume = record { page = λ f. refl; origin = λ f. refl; options = λ f. refl; staged = λ f s. refl }
+input_keeps world false inputs.Abort = record { page = λ f. refl; origin = λ f. refl; options = λ f. refl; staged = λ f s. refl }
+
+pub same_page : (world : World) (ignored : Bool) (input : Input) (facts : Facts) → (with_input world ignored input facts).page ≡ facts.page
+same_page world ignored input facts = (input_keeps world ignored input).page facts
+
+pub same_origin_of : (world : World) (ignored : Bool) (input : Input) (facts : Facts) → (with_input world ignored input facts).origin ≡ facts.origin
+same_origin_of world ignored input facts = (input_keeps world ignored input).origin facts
+
+pub same_options : (world : World) (ignored : Bool) (input : Input) (facts : Facts) → (with_input world ignored input facts).options ≡ facts.options
+same_options world ignored input facts = (input_keeps world ignored input).options facts
+
+pub with_input-at : (world : World) (ignored : Bool) (input : Input) (facts : Facts) (stage : Stage)
+    → with_input world ignored input (record facts { stage = stage }) ≡ record (with_input world ignored input facts) { stage = stage }
+with_input-at world ignored input facts stage = (input_keeps world ignored input).staged facts stage

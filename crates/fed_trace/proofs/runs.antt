@@ -1,0 +1,3 @@
+-- Runs, and the traces of scripts.
+pub mod Untaken
+pub mod Scripts

@@ -1,0 +1,118 @@
+-- What an event does.
+use Rattle.std.specs.Prelude.{ℕ, Bool, true, false, nat_eq, List, [], ◌∷◌, Option, Some, None, if◌then◌else◌, ⊤}
+use Rattle.std.specs.Option.{option_or}
+use Rattle.url.specs.Parts.{Parts}
+use Rattle.fed_origin.specs.declared.origin.Origin.{Origin}
+use Rattle.fed_origin.specs.declared.stage.Stage.{Stage}
+use Rattle.fed_origin.specs.declared.stage.Stage.TheVariants.{Ended}
+use Rattle.fed_origin.specs.declared.status.LoginStatus.{LoginStatus}
+use Rattle.fed_origin.specs.declared.status.Triple.{Triple}
+use Rattle.fed_jar.specs.Cookie.{StoredCookie}
+use Rattle.fed_consent.specs.declared.table.ask.Ask.{Ask}
+use Rattle.fed_consent.specs.declared.table.dialog.Dialog.{Dialog}
+use Rattle.fed_consent.specs.declared.table.finish.Finish.{Finish}
+use Rattle.fed_consent.specs.declared.table.why.Why.{Why}
+use Rattle.fed_trace.specs.Begun.{Begun}
+use Rattle.fed_trace.specs.Keyed.{Change}
+
+pub data Effect : Type 0 where
+  -- the time is this, in seconds since 1970
+  Time : (time : ℕ) → Effect
+  -- the page stands with this origin
+  Page : (page : ℕ) → (origin : Origin) → Effect
+  -- the page no longer stands
+  Closed : (page : ℕ) → Effect
+  -- the cookie is written
+  Cookie : (cookie : StoredCookie) → Effect
+  -- the provider's origin has this status
+  Login : (origin : Origin) → (status : LoginStatus) → Effect
+  -- the call was taken
+  Begin : (begun : Begun) → Effect
+  -- the call moved
+  Move : (call : ℕ) → (stage : Stage) → Effect
+  -- a request of the call to a provider, with the text of its cookies
+  Sent : (call : ℕ) → (provider : ℕ) → (ask : Ask) → (cookies : List ℕ) → Effect
+  -- a dialog of the call is shown
+  Shown : (call : ℕ) → (dialog : Dialog) → Effect
+  -- the login window of a provider of the call opens at this URL
+  Window : (call : ℕ) → (provider : ℕ) → (url : Parts) → Effect
+  -- the permission is kept from now on, or goes
+  Kept : (triple : Triple) → (stays : Bool) → Effect
+  -- the flag of the origin that prevents silent access is set from now on, or cleared
+  Flag : (origin : Origin) → (stays : Bool) → Effect
+  -- what the call of the page gets
+  Result : (call : ℕ) → (page : ℕ) → (finish : Finish) → Effect
+  -- the event was not taken
+  Ignored : (why : Why) → Effect
+
+-- what an effect says of pages
+abbrev pub page_change : Effect → Option (Change ℕ Origin)
+page_change (Page page origin) = Some (page, Some origin)
+page_change (Closed page) = Some (page, None)
+page_change _ = None
+
+-- what an effect says of login statuses
+abbrev pub login_change : Effect → Option (Change Origin LoginStatus)
+login_change (Login origin status) = Some (origin, Some status)
+login_change _ = None
+
+-- the key stands from now on, or goes
+abbrev pub key_change : {K : Type 0} → K → Bool → Change K ⊤
+key_change key true = (key, Some tt)
+key_change key false = (key, None)
+
+-- what an effect says of kept permissions
+abbrev pub kept_change : Effect → Option (Change Triple ⊤)
+kept_change (Kept triple stays) = Some (key_change triple stays)
+kept_change _ = None
+
+-- what an effect says of the flags that prevent silent access
+abbrev pub flag_change : Effect → Option (Change Origin ⊤)
+flag_change (Flag origin stays) = Some (key_change origin stays)
+flag_change _ = None
+
+-- a call is pending until it has ended
+abbrev pub unless_ended : ℕ → Stage → Option (Change ℕ ℕ)
+unless_ended call Ended = Some (call, None)
+unless_ended call _ = None
+
+-- what an effect says of pending calls, with the pages that they are of
+abbrev pub call_change : Effect → Option (Change ℕ ℕ)
+call_change (Begin begun) = Some (begun.call, Some begun.page)
+call_change (Move call stage) = unless_ended call stage
+call_change _ = None
+
+-- what an effect says of the stages of calls
+abbrev pub stage_change : Effect → Option (Change ℕ Stage)
+stage_change (Move call stage) = Some (call, Some stage)
+stage_change _ = None
+
+-- the time that an effect brings
+abbrev pub time_of : Effect → Option ℕ
+time_of (Time time) = Some time
+time_of _ = None
+
+-- the cookie that an effect writes
+abbrev pub written_by : Effect → Option StoredCookie
+written_by (Cookie cookie) = Some cookie
+written_by _ = None
+
+-- the call that an effect begins
+abbrev pub begun_by : Effect → Option ℕ
+begun_by (Begin begun) = Some begun.call
+begun_by _ = None
+
+-- how the call began, if an effect begins it
+abbrev pub begins : ℕ → Effect → Option Begun
+begins call (Begin begun) = if nat_eq call begun.call then Some begun else None
+begins call _ = None
+
+-- the event was not taken
+abbrev pub is_ignored : Effect → Bool
+is_ignored (Ignored why) = true
+is_ignored _ = false
+
+-- the last that effects say
+abbrev pub last_of : {A : Type 0} → (Effect → Option A) → List Effect → Option A
+last_of said [] = None
+last_of said (e ∷ es) = option_or (last_of said es) (said e)

@@ -1,0 +1,10 @@
+pub mod Begun
+pub mod Effect
+pub mod Keyed
+pub mod Known
+pub mod Laws
+pub mod OfCall
+pub mod OfScript
+pub mod Records
+pub mod Row
+pub mod Trace

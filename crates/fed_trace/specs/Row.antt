@@ -1,0 +1,222 @@
+-- What each event does, by what is looked up: the tables, row by row.
+use Rattle.std.specs.Prelude.{◌≡◌, ℕ, Bool, true, false, nat_eq, ◌==◌, List, [], ◌∷◌, ◌++◌, length, map, codes, Option, Some, None, option_and_then, Result as Answer, Ok, Err, ⊤}
+use Rattle.std.specs.List.{list_any, filter_map, flat_map}
+use Rattle.url.specs.Parts.{Parts}
+use Rattle.fed_origin.specs.declared.options.GetOptions.{GetOptions}
+use Rattle.fed_origin.specs.declared.origin.Origin.{Origin}
+use Rattle.fed_origin.specs.declared.stage.Stage.{Stage}
+use Rattle.fed_origin.specs.declared.stage.Stage.TheVariants.{Ended}
+use Rattle.fed_origin.specs.declared.status.LoginStatus.{LoginStatus}
+use Rattle.fed_origin.specs.Origin.{is_trustworthy}
+use Rattle.fed_origin.specs.WebUrl.{origin_of}
+use Rattle.fed_suffix.specs.Rule.{RuleSet}
+use Rattle.fed_cookie.specs.Fields.{set_cookie_of}
+use Rattle.fed_jar.specs.Cookie.{StoredCookie}
+use Rattle.fed_jar.specs.Store.{cookie_of}
+use Rattle.fed_jar.specs.Writes as jar
+use Rattle.fed_reply.specs.declared.step.ReplyStep.{ReplyStep}
+use Rattle.fed_reply.specs.Fields.{values}
+use Rattle.fed_reply.specs.Parts.{ReplyParts}
+use Rattle.fed_reply.specs.Reply.{HeadOf}
+use Rattle.fed_status.specs.Kept.{triples_of_pair}
+use Rattle.fed_status.specs.Login.{set_login_of}
+use Rattle.fed_status.specs.Shared.{World}
+use Rattle.fed_consent.specs.declared.table.ask.Ask.{Ask}
+use Rattle.fed_consent.specs.declared.table.ask.Ask.TheVariants as asks
+use Rattle.fed_consent.specs.declared.table.effect.Effect.{Effect as CallEffect}
+use Rattle.fed_consent.specs.declared.table.effect.Effect.TheVariants as does
+use Rattle.fed_consent.specs.declared.table.finish.FailStep.TheVariants.{CallPending}
+use Rattle.fed_consent.specs.declared.table.input.Input.{Input}
+use Rattle.fed_consent.specs.declared.table.why.Why.TheVariants.{NoPage, PageInsecure, NoCall}
+use Rattle.fed_trace.specs.Begun.{Begun}
+use Rattle.fed_call.specs.Facts.{Facts, Outcome}
+use Rattle.fed_call.specs.Outcomes.{fails, plain}
+use Rattle.fed_call.specs.Row.{start_row, call_row}
+use Rattle.fed_script.specs.declared.event.Event.{Event}
+use Rattle.fed_script.specs.declared.event.Event.TheVariants as events
+use Rattle.fed_script.specs.declared.event.Event.TheVariants.{At, Load, ClosePage, Get, SetStatus}
+use Rattle.fed_script.specs.declared.event.Have.{Have}
+use Rattle.fed_script.specs.declared.event.Have.TheVariants as haves
+use Rattle.fed_script.specs.declared.event.Header.{Header}
+use Rattle.fed_trace.specs.Effect.{Effect, Time, Page, Closed, Cookie, Login, Begin, Move, Sent, Shown, Window, Kept, Flag, Result, Ignored}
+use Rattle.fed_trace.specs.Known.{world_at, is_begun, input_of, facts_at}
+use Rattle.fed_trace.specs.Trace.{Row, Trace, page_at, pending, pending_of, now_at, writes, begun}
+
+-- ---- what a call does
+
+-- the Cookie field of a request: the first two requests and that for links carry none
+abbrev pub cookies_with : Trace → Ask → List ℕ
+cookies_with T (asks.Accounts to) = jar.cookie_text T.header.rules to (now_at T) (writes T)
+cookies_with T (asks.Disconnect to client hint origin) = jar.cookie_text T.header.rules to (now_at T) (writes T)
+cookies_with T (asks.Assertion ask) = jar.cookie_text T.header.rules ask.to (now_at T) (writes T)
+cookies_with T _ = []
+
+-- what a call of the page does, among what all calls look at, with the cookies of its requests; where a pair loses its permissions,
+-- each of them goes, in their order
+abbrev pub call_effects : World → (Ask → List ℕ) → ℕ → ℕ → CallEffect → List Effect
+call_effects world cookies call page (does.Send provider ask) = Sent call provider ask (cookies ask) ∷ []
+call_effects world cookies call page (does.Dialog dialog) = Shown call dialog ∷ []
+call_effects world cookies call page (does.Window provider url) = Window call provider url ∷ []
+call_effects world cookies call page (does.SetLogin origin status) = Login origin status ∷ []
+call_effects world cookies call page (does.Keep triple) = Kept triple true ∷ []
+call_effects world cookies call page (does.Forget triple) = Kept triple false ∷ []
+call_effects world cookies call page (does.ForgetPair origin provider) =
+    map (λ triple. Kept triple false) (triples_of_pair world.kept origin provider)
+call_effects world cookies call page (does.ClearFlag origin) = Flag origin false ∷ []
+call_effects world cookies call page (does.Finish finish) = Result call page finish ∷ []
+call_effects world cookies call page (does.Ignored why) = Ignored why ∷ []
+
+-- the call moves, or stays
+abbrev pub moves : ℕ → Option Stage → List Effect
+moves call None = []
+moves call (Some stage) = Move call stage ∷ []
+
+-- an outcome of a call of the page
+abbrev pub outcome_effects : World → (Ask → List ℕ) → ℕ → ℕ → Outcome → List Effect
+outcome_effects world cookies call page outcome = flat_map (call_effects world cookies call page) outcome.effects ++ moves call outcome.stage
+
+-- ---- a get
+
+-- some pending call is of the page
+abbrev pub is_busy : ℕ → List (ℕ × ℕ) → Bool
+is_busy page calls = list_any (λ call. call.1 == page) calls
+
+-- the outcome of a get that is taken: a page has at most one that is pending (row C1)
+abbrev pub get_outcome : World → Bool → GetOptions → Outcome
+get_outcome world true options = fails (plain CallPending)
+get_outcome world false options = start_row world options
+
+-- a get of a page that stands, by whether the page is trustworthy
+abbrev pub standing_get : World → (Ask → List ℕ) → Bool → Bool → Begun → List Effect
+standing_get world cookies false busy b = Ignored PageInsecure ∷ []
+standing_get world cookies true busy b = Begin b ∷ outcome_effects world cookies b.call b.page (get_outcome world busy b.options)
+
+-- a get, by the origin of its page, if it stands, and by whether that page has a pending one
+abbrev pub get_effects : World → (Ask → List ℕ) → Option Origin → Bool → ℕ → ℕ → GetOptions → List Effect
+get_effects world cookies None busy page call options = Ignored NoPage ∷ []
+get_effects world cookies (Some origin) busy page call options =
+    standing_get world cookies (is_trustworthy origin) busy (record { call = call; page = page; origin = origin; options = options })
+
+-- ---- an event that names a call
+
+-- the page of a call that began
+abbrev pub page_of : Option Facts → ℕ
+page_of None = 0
+page_of (Some facts) = facts.page
+
+-- an input of a call, by whether it was taken and by what is known of it where it is not over
+abbrev pub input_effects : World → (Ask → List ℕ) → Bool → ℕ → Option Facts → Input → List Effect
+input_effects world cookies false call facts input = Ignored NoCall ∷ []
+input_effects world cookies true call facts input = outcome_effects world cookies call (page_of facts) (call_row world facts input)
+
+-- an event by the call that it names and the input that it brings, if it brings one
+abbrev pub brought_effects : Trace → Option (ℕ × Input) → List Effect
+brought_effects T None = []
+brought_effects T (Some brought) =
+    input_effects (world_at T) (cookies_with T) (is_begun T brought.0) brought.0 (facts_at T brought.0) brought.1
+
+-- ---- loads
+
+-- the calls end without a result, in their order (row C35)
+abbrev pub ends_of : List ℕ → List Effect
+ends_of calls = map (λ call. Move call Ended) calls
+
+-- the cookie that a Set-Cookie value from this URL writes at this time, unless it is ignored
+abbrev pub cookie_from : RuleSet → Parts → ℕ → List ℕ → Option StoredCookie
+cookie_from rules url now field = option_and_then (cookie_of rules url now) (set_cookie_of field)
+
+-- the cookies that Set-Cookie values write, in their order
+abbrev pub cookies_from : RuleSet → Parts → ℕ → List (List ℕ) → List StoredCookie
+cookies_from rules url now fields = filter_map (cookie_from rules url now) fields
+
+-- the values of the fields of this name in a head; an unreadable one has none
+abbrev pub values_in : List ℕ → Answer ReplyParts ReplyStep → List (List ℕ)
+values_in name (Ok head) = values name head.fields
+values_in name (Err step) = []
+
+-- the values of the fields of this name in a load's reply, if it has one
+abbrev pub load_values : List ℕ → Option (List ℕ) → List (List ℕ)
+load_values name None = []
+load_values name (Some raw) = values_in name (HeadOf raw)
+
+-- the Set-Cookie values of a load's reply
+abbrev pub set_cookie_name : List ℕ
+set_cookie_name = codes "set-cookie"
+
+abbrev pub set_cookies : Option (List ℕ) → List (List ℕ)
+set_cookies raw = load_values set_cookie_name raw
+
+-- the statuses that the Set-Login values of a load's reply say, in their order
+abbrev pub set_login_name : List ℕ
+set_login_name = codes "set-login"
+
+abbrev pub set_logins : Option (List ℕ) → List LoginStatus
+set_logins raw = filter_map set_login_of (load_values set_login_name raw)
+
+-- cookies are written
+abbrev pub cookie_effects : List StoredCookie → List Effect
+cookie_effects cookies = map Cookie cookies
+
+-- statuses of an origin are set
+abbrev pub login_effects : Origin → List LoginStatus → List Effect
+login_effects origin statuses = map (Login origin) statuses
+
+-- a load: the page's pending calls end, then the page stands with its URL's origin, then cookies are written and statuses set
+abbrev pub load_effects : List ℕ → ℕ → Parts → List StoredCookie → List LoginStatus → List Effect
+load_effects calls page url cookies statuses =
+    ends_of calls ++ (Page page (origin_of url) ∷ (cookie_effects cookies ++ login_effects (origin_of url) statuses))
+
+-- ---- other events
+
+-- a page is closed: its pending calls end, and it no longer stands
+abbrev pub close_effects : List ℕ → ℕ → Option Origin → List Effect
+close_effects calls page None = Ignored NoPage ∷ []
+close_effects calls page (Some origin) = ends_of calls ++ Closed page ∷ []
+
+-- a page sets the status of its origin, by whether it is trustworthy
+abbrev pub standing_status : Bool → Origin → LoginStatus → List Effect
+standing_status true origin status = Login origin status ∷ []
+standing_status false origin status = Ignored PageInsecure ∷ []
+
+abbrev pub status_effects : Option Origin → LoginStatus → List Effect
+status_effects None status = Ignored NoPage ∷ []
+status_effects (Some origin) status = standing_status (is_trustworthy origin) origin status
+
+-- the cookies and the statuses that a line of the kind `have` says
+abbrev pub have_cookies : RuleSet → ℕ → Have → List StoredCookie
+have_cookies rules now (haves.Cookie url field) = cookies_from rules url now (field ∷ [])
+have_cookies rules now (haves.Login origin status) = []
+
+abbrev pub have_logins : Have → List Effect
+have_logins (haves.Cookie url field) = []
+have_logins (haves.Login origin status) = Login origin status ∷ []
+
+-- the effects of an event after what happened
+abbrev pub effects_of : Trace → Event → List Effect
+effects_of T (events.Have have) = cookie_effects (have_cookies T.header.rules (now_at T) have) ++ have_logins have
+effects_of T (At time) = Time time ∷ []
+effects_of T (Load page url raw) =
+    load_effects (pending_of T page) page url (cookies_from T.header.rules url (now_at T) (set_cookies raw)) (set_logins raw)
+effects_of T (ClosePage page) = close_effects (pending_of T page) page (page_at T page)
+effects_of T (Get page call options) = get_effects (world_at T) (cookies_with T) (page_at T page) (is_busy page (pending T)) page call options
+effects_of T (SetStatus page status) = status_effects (page_at T page) status
+effects_of T event = brought_effects T (input_of event)
+
+-- the row of an event at this line after what happened
+abbrev pub row_of : Trace → ℕ → Event → Row
+row_of T line event = record { line = line; event = event; effects = effects_of T event }
+
+-- the trace with one event more
+abbrev pub with_event : Trace → ℕ → Event → Trace
+with_event T line event = record { header = T.header; rows = row_of T line event ∷ T.rows }
+
+-- the call of a get never began before, and it has one provider
+abbrev pub IsNew : List Row → Event → Type 0
+IsNew rows (Get page call options) = (list_any (nat_eq call) (begun rows) ≡ false) × (length options.providers ≡ 1)
+IsNew rows _ = ⊤
+
+-- each row is that of its event after the rows before it
+abbrev pub IsRun : Header → List Row → Type 0
+IsRun header [] = ⊤
+IsRun header (row ∷ rows) =
+    (row.effects ≡ effects_of (record { header = header; rows = rows }) row.event) × IsNew rows row.event × IsRun header rows

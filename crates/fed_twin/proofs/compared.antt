@@ -1,0 +1,3 @@
+-- What is compared of twins.
+pub mod Requests
+pub mod Compare

@@ -1,0 +1,344 @@
+-- An event sends at most two sign-in requests.
+use Rattle.std.proofs.Common.{◌≡◌, ℕ, ◌≤◌, Bool, true, false, List, [], ◌∷◌, ◌++◌, length, Option, Some, None, Ok, Err, refl, ap, ◌∙◌, append-nil, arith, lit≤}
+use Rattle.std.proofs.lemmas.List.Elements.{filter_map-append}
+use Rattle.std.specs.Prelude.{Result, option_and_then, not}
+use Rattle.std.specs.List.{filter_map, cons_option, flat_map}
+use Rattle.url.specs.Parts.{Parts}
+use Rattle.fed_origin.specs.declared.options.GetOptions.{GetOptions}
+use Rattle.fed_origin.specs.declared.options.Mode.{Mode}
+use Rattle.fed_origin.specs.declared.options.ProviderOptions.{ProviderOptions}
+use Rattle.fed_origin.specs.declared.origin.Origin.{Origin}
+use Rattle.fed_origin.specs.declared.scheme.Scheme.{Scheme}
+use Rattle.fed_origin.specs.declared.scheme.Scheme.TheVariants.{Http, Https}
+use Rattle.fed_origin.specs.declared.stage.ReplyKind.{ReplyKind}
+use Rattle.fed_origin.specs.declared.stage.ReplyKind.TheVariants as kinds
+use Rattle.fed_origin.specs.declared.stage.Stage.{Stage}
+use Rattle.fed_origin.specs.declared.stage.Stage.TheVariants as stages
+use Rattle.fed_origin.specs.declared.status.LoginStatus.{LoginStatus}
+use Rattle.fed_origin.specs.declared.status.LoginStatus.TheVariants.{LoggedIn, LoggedOut}
+use Rattle.fed_origin.specs.Origin.{is_trustworthy}
+use Rattle.fed_origin.specs.WebUrl.{origin_of, scheme_of}
+use Rattle.fed_suffix.specs.Rule.{RuleSet}
+use Rattle.fed_jar.specs.Cookie.{StoredCookie}
+use Rattle.fed_provider.specs.declared.config.Config.{Config}
+use Rattle.fed_provider.specs.declared.metadata.PolicyLinks.{PolicyLinks}
+use Rattle.fed_provider.specs.declared.step.ProviderStep.{ProviderStep}
+use Rattle.fed_provider.specs.Metadata.{MetadataOf}
+use Rattle.fed_provider.specs.WellKnown.{WellKnownUrlOf}
+use Rattle.fed_accounts.specs.declared.account.Account.{Account}
+use Rattle.fed_accounts.specs.declared.step.AccountsStep.{AccountsStep}
+use Rattle.fed_status.specs.Login.{status_of}
+use Rattle.fed_status.specs.Shared.{World}
+use Rattle.fed_consent.specs.declared.table.ask.Ask.{Ask}
+use Rattle.fed_consent.specs.declared.table.effect.Effect.{Effect as CallEffect}
+use Rattle.fed_consent.specs.declared.table.effect.Effect.TheVariants as does
+use Rattle.fed_consent.specs.declared.table.effect.Effect.TheVariants.{SetLogin}
+use Rattle.fed_consent.specs.declared.table.finish.Failure.{Failure}
+use Rattle.fed_consent.specs.declared.table.input.Input.{Input}
+use Rattle.fed_consent.specs.declared.table.input.Input.TheVariants as inputs
+use Rattle.fed_consent.specs.declared.consent.manner.Manner.TheVariants.{Chosen, Prompted}
+use Rattle.fed_consent.specs.Consent.{Agreement, Candidate, chosen}
+use Rattle.fed_call.specs.Accounts.{accounts_of}
+use Rattle.fed_call.specs.AssertingRows.{asserts, assertion_reply, asserting_reply}
+use Rattle.fed_call.specs.DialogRows.{links_shown, metadata_reply, prompting_reply, agreed_to, settles, choice, chose, goes_on, went_on, cancelled}
+use Rattle.fed_call.specs.Facts.{Facts, provider_at, config_read, Outcome}
+use Rattle.fed_call.specs.ReadingRows.{wellknown_of}
+use Rattle.fed_call.specs.Outcomes.{after, accounts_failure}
+use Rattle.fed_call.specs.ListingRows.{is_mismatch, by_mismatch, offers, by_accounts, accounts_reply, listing_reply, site_of}
+use Rattle.fed_call.specs.ReadingRows.{start_at, by_scheme, by_gate, is_gated, first_wellknown, first_config, wellknown_reply, config_reply, reading_reply}
+use Rattle.fed_call.specs.Row.{stage_reply, input_row, call_row}
+use Rattle.fed_script.specs.declared.event.Event.{Event}
+use Rattle.fed_script.specs.declared.event.Event.TheVariants as events
+use Rattle.fed_script.specs.declared.event.Have.{Have}
+use Rattle.fed_script.specs.declared.event.Have.TheVariants as haves
+use Rattle.fed_trace.specs.Begun.{Begun}
+use Rattle.fed_trace.specs.Effect.{Effect, Closed, Cookie, Login, Sent}
+use Rattle.fed_trace.specs.Known.{world_at, is_begun, facts_at}
+use Rattle.fed_trace.specs.Row.{effects_of, call_effects, moves, outcome_effects, get_outcome, standing_get, get_effects, is_busy, page_of, input_effects, ends_of, cookies_with, cookies_from, cookie_effects, have_cookies, have_logins, close_effects, standing_status, status_effects, set_cookies, set_logins}
+use Rattle.fed_trace.specs.Trace.{Trace, page_at, pending, pending_of, now_at}
+use Rattle.fed_trace.proofs.calls.Pending.{ends_silent, load_silent}
+use Rattle.fed_trace.proofs.effects.Silent.{AllSilent, said_silent, silent_map, silent_append, goes_silent}
+use Rattle.fed_twin.specs.Script.{first_sent}
+use Rattle.fed_status.specs.Kept.{triples_of_pair}
+
+-- ---- a call does at most two things
+
+abbrev IsShort : Outcome → Type 0
+IsShort outcome = length outcome.effects ≤ 2
+
+none : 0 ≤ 2
+none = lit≤ tt
+
+one : 1 ≤ 2
+one = lit≤ tt
+
+two : 2 ≤ 2
+two = lit≤ tt
+
+short_gate : (config wellknown : Parts) (gated : Bool) → IsShort (by_gate config wellknown gated)
+short_gate config wellknown true = one
+short_gate config wellknown false = two
+
+short_scheme : (scheme : Scheme) (config : Parts) (wellknown : Result Parts ProviderStep) (gated : Bool)
+    → IsShort (by_scheme scheme config wellknown gated)
+short_scheme Http config wellknown gated = one
+short_scheme Https config (Err step) gated = one
+short_scheme Https config (Ok wellknown) gated = short_gate config wellknown gated
+
+short_start : (world : World) (mode : Mode) (provider : Option ProviderOptions) → IsShort (start_at world mode provider)
+short_start world mode None = none
+short_start world mode (Some provider) =
+    short_scheme (scheme_of provider.config) provider.config (WellKnownUrlOf world.rules provider.config)
+    (is_gated mode (status_of world.login (origin_of provider.config)))
+
+short_get : (world : World) (busy : Bool) (options : GetOptions) → IsShort (get_outcome world busy options)
+short_get world true options = one
+short_get world false options = short_start world options.mode (provider_at 0 options)
+
+short_first_wellknown : (config : Option Config) (read : Result (Unit {0}) ProviderStep) → IsShort (first_wellknown config read)
+short_first_wellknown config (Err step) = one
+short_first_wellknown None (Ok u) = none
+short_first_wellknown (Some config) (Ok u) = one
+
+short_wellknown : (heard : Bool) (config : Option Config) (read : Option (Result (Unit {0}) ProviderStep))
+    → IsShort (wellknown_reply heard config read)
+short_wellknown true config read = one
+short_wellknown false config None = one
+short_wellknown false config (Some read) = short_first_wellknown config read
+
+short_first_config : (heard : Bool) (read : Result Config ProviderStep) → IsShort (first_config heard read)
+short_first_config heard (Err step) = one
+short_first_config false (Ok config) = none
+short_first_config true (Ok config) = one
+
+short_config : (heard : Bool) (config : Option Config) (read : Option (Result Config ProviderStep))
+    → IsShort (config_reply heard config read)
+short_config heard (Some config) read = one
+short_config heard None None = one
+short_config heard None (Some read) = short_first_config heard read
+
+short_reading : (rules : RuleSet) (heard : Bool) (config : Option Config) (provider : Option ProviderOptions) (kind : ReplyKind)
+    (raw : List ℕ)
+    → IsShort (reading_reply rules heard config provider kind raw)
+short_reading rules heard config provider kinds.WellKnown raw = short_wellknown heard config (wellknown_of rules raw provider)
+short_reading rules heard config provider kinds.Config raw = short_config heard config (config_read raw provider)
+short_reading rules heard config provider _ raw = one
+
+short_refused : (effect : CallEffect) (site : List ℕ) (failure : Failure) (shown : Bool)
+    → IsShort (after effect (by_mismatch site failure shown))
+short_refused effect site failure true = two
+short_refused effect site failure false = two
+
+short_offers : (world : World) (facts : Facts) (provider : ProviderOptions) (effect : CallEffect) (accounts : List Account)
+    → IsShort (after effect (offers world facts provider accounts))
+short_offers world facts provider effect [] = one
+short_offers world facts provider effect (only ∷ []) = two
+short_offers world facts provider effect (first ∷ second ∷ more) = two
+
+short_read : (world : World) (facts : Facts) (provider : ProviderOptions) (read : Result (List Account) AccountsStep)
+    → IsShort (by_accounts world facts provider read)
+short_read world facts provider (Err step) =
+    short_refused (SetLogin (origin_of provider.config) LoggedOut) (site_of world facts.origin) (accounts_failure step)
+    (is_mismatch facts.options.mode facts.options.mediation (status_of world.login (origin_of provider.config)))
+short_read world facts provider (Ok accounts) = short_offers world facts provider (SetLogin (origin_of provider.config) LoggedIn) accounts
+
+short_accounts : (world : World) (facts : Facts) (provider : Option ProviderOptions) (raw : List ℕ)
+    → IsShort (accounts_reply world facts provider raw)
+short_accounts world facts None raw = one
+short_accounts world facts (Some provider) raw = short_read world facts provider (accounts_of raw provider)
+
+short_listing : (world : World) (facts : Facts) (provider : Option ProviderOptions) (kind : ReplyKind) (raw : List ℕ)
+    → IsShort (listing_reply world facts provider kind raw)
+short_listing world facts provider kinds.Accounts raw = short_accounts world facts provider raw
+short_listing world facts provider _ raw = one
+
+short_links : (world : World) (facts : Facts) (picked : Option Candidate) (links : PolicyLinks)
+    → IsShort (links_shown world facts picked links)
+short_links world facts None links = none
+short_links world facts (Some candidate) links = one
+
+short_metadata : (world : World) (facts : Facts) (waits : Bool) (provider : Option ProviderOptions) (raw : List ℕ)
+    → IsShort (metadata_reply world facts waits provider raw)
+short_metadata world facts false provider raw = one
+short_metadata world facts true None raw = one
+short_metadata world facts true (Some provider) raw = short_links world facts facts.picked (MetadataOf raw)
+
+short_prompting : (world : World) (facts : Facts) (provider : Option ProviderOptions) (kind : ReplyKind) (raw : List ℕ)
+    → IsShort (prompting_reply world facts provider kind raw)
+short_prompting world facts provider kinds.Metadata raw = short_metadata world facts facts.waits provider raw
+short_prompting world facts provider _ raw = one
+
+short_assertion : (facts : Facts) (provider : Option ProviderOptions) (raw : List ℕ) → IsShort (assertion_reply facts provider raw)
+short_assertion facts None raw = one
+short_assertion facts (Some provider) raw = one
+
+short_asserting : (facts : Facts) (provider : Option ProviderOptions) (kind : ReplyKind) (raw : List ℕ)
+    → IsShort (asserting_reply facts provider kind raw)
+short_asserting facts provider kinds.Assertion raw = short_assertion facts provider raw
+short_asserting facts provider _ raw = one
+
+short_reply : (world : World) (facts : Facts) (stage : Stage) (place : ℕ) (kind : ReplyKind) (raw : List ℕ)
+    → IsShort (stage_reply world facts stage place kind raw)
+short_reply world facts stages.Reading place kind raw =
+    short_reading world.rules facts.heard facts.config (provider_at place facts.options) kind raw
+short_reply world facts stages.Listing place kind raw = short_listing world facts (provider_at place facts.options) kind raw
+short_reply world facts stages.Prompting place kind raw = short_prompting world facts (provider_at place facts.options) kind raw
+short_reply world facts stages.Asserting place kind raw = short_asserting facts (provider_at place facts.options) kind raw
+short_reply world facts _ place kind raw = one
+
+short_asserts : (facts : Facts) (provider : Option ProviderOptions) (config : Option Config) (agreed : Agreement)
+    → IsShort (asserts facts provider config agreed)
+short_asserts facts None config agreed = none
+short_asserts facts (Some provider) None agreed = none
+short_asserts facts (Some provider) (Some config) agreed = one
+
+short_settles : (world : World) (facts : Facts) (provider : ProviderOptions) (candidate : Candidate) (connected : Bool)
+    → IsShort (settles world facts provider candidate connected)
+short_settles world facts provider candidate true =
+    short_asserts facts (Some provider) facts.config (agreed_to facts candidate Chosen false)
+short_settles world facts provider candidate false = one
+
+short_choice : (world : World) (facts : Facts) (provider : Option ProviderOptions) (candidate : Option Candidate)
+    → IsShort (choice world facts provider candidate)
+short_choice world facts None candidate = one
+short_choice world facts (Some provider) None = one
+short_choice world facts (Some provider) (Some candidate) = short_settles world facts provider candidate candidate.connected
+
+short_chose : (world : World) (facts : Facts) (stage : Stage) (place : ℕ) (id : List ℕ) → IsShort (chose world facts stage place id)
+short_chose world facts stages.Choosing place id =
+    short_choice world facts (provider_at place facts.options) (option_and_then (chosen id) facts.listed)
+short_chose world facts _ place id = one
+
+short_goes_on : (facts : Facts) (waits : Bool) (picked : Option Candidate) → IsShort (goes_on facts waits picked)
+short_goes_on facts true picked = one
+short_goes_on facts false None = none
+short_goes_on facts false (Some candidate) =
+    short_asserts facts (provider_at 0 facts.options) facts.config (agreed_to facts candidate Prompted (not candidate.connected))
+
+short_went_on : (facts : Facts) (stage : Stage) → IsShort (went_on facts stage)
+short_went_on facts stages.Prompting = short_goes_on facts facts.waits facts.picked
+short_went_on facts _ = one
+
+short_cancelled : (stage : Stage) → IsShort (cancelled stage)
+short_cancelled stages.Reading = one
+short_cancelled stages.Listing = one
+short_cancelled stages.Mismatch = one
+short_cancelled stages.Choosing = one
+short_cancelled stages.Prompting = one
+short_cancelled stages.Asserting = one
+short_cancelled stages.Ended = one
+
+short_input : (world : World) (facts : Facts) (input : Input) → IsShort (input_row world facts input)
+short_input world facts (inputs.Reply place kind raw) = short_reply world facts facts.stage place kind raw
+short_input world facts (inputs.Choose place id) = short_chose world facts facts.stage place id
+short_input world facts inputs.GoOn = short_went_on facts facts.stage
+short_input world facts inputs.Cancel = short_cancelled facts.stage
+short_input world facts _ = one
+
+short_row : (world : World) (facts : Option Facts) (input : Input) → IsShort (call_row world facts input)
+short_row world None input = one
+short_row world (Some facts) input = short_input world facts input
+
+-- ---- so an event sends at most two
+
+moves_send_none : (call : ℕ) (stage : Option Stage) → filter_map first_sent (moves call stage) ≡ []
+moves_send_none call None = refl
+moves_send_none call (Some stage) = refl
+
+-- what a call does sends at most one for each thing that it does
+few_sent : (world : World) (cookies : Ask → List ℕ) (call page : ℕ) (effects : List CallEffect)
+    → length (filter_map first_sent (flat_map (call_effects world cookies call page) effects)) ≤ length effects
+few_sent world cookies call page effects = all effects
+  where
+    one : {X : Type 0} (o : Option X) (xs : List X) (e : CallEffect) (es : List CallEffect) → length xs ≤ length es → length (cons_option o xs) ≤ length (e ∷ es)
+    one None xs e es le = omega (arith, le)
+    one (Some x) xs e es le = omega (arith, le)
+
+    more : (n : ℕ) (e : CallEffect) (es : List CallEffect) → n ≤ length es → n ≤ length (e ∷ es)
+    more n e es le = omega (arith, le)
+
+    all : (effects : List CallEffect) → length (filter_map first_sent (flat_map (call_effects world cookies call page) effects)) ≤ length effects
+    all [] = lit≤ tt
+    all (does.Send provider ask ∷ es) =
+        one (first_sent (Sent call provider ask (cookies ask))) (filter_map first_sent (flat_map (call_effects world cookies call page) es)) (does.Send provider ask) es (all es)
+    all (does.Finish finish ∷ es) = more _ (does.Finish finish) es (all es)
+    all (does.Ignored why ∷ es) = more _ (does.Ignored why) es (all es)
+    all (does.Dialog dialog ∷ es) = more _ (does.Dialog dialog) es (all es)
+    all (does.Window place url ∷ es) = more _ (does.Window place url) es (all es)
+    all (does.SetLogin origin status ∷ es) = more _ (does.SetLogin origin status) es (all es)
+    all (does.Keep triple ∷ es) = more _ (does.Keep triple) es (all es)
+    all (does.Forget triple ∷ es) = more _ (does.Forget triple) es (all es)
+    all (does.ForgetPair p q ∷ es) =
+        rw (goes_silent first_sent (λ t. refl) (triples_of_pair world.kept p q) (flat_map (call_effects world cookies call page) es))
+        (more _ (does.ForgetPair p q) es (all es))
+    all (does.ClearFlag origin ∷ es) = more _ (does.ClearFlag origin) es (all es)
+
+few_of_outcome : (world : World) (cookies : Ask → List ℕ) (call page : ℕ) (outcome : Outcome) → IsShort outcome
+    → length (filter_map first_sent (outcome_effects world cookies call page outcome)) ≤ 2
+few_of_outcome world cookies call page outcome short =
+    let done = flat_map (call_effects world cookies call page) outcome.effects in
+    let few = few_sent world cookies call page outcome.effects in
+    let is : filter_map first_sent (outcome_effects world cookies call page outcome) ≡ filter_map first_sent done ++ [] =
+    filter_map-append first_sent done (moves call outcome.stage)
+    ∙ ap (λ xs. filter_map first_sent done ++ xs) (moves_send_none call outcome.stage) in
+    rw (is, append-nil) (omega (arith, few, short))
+
+few_of_silent : (effects : List Effect) → AllSilent first_sent effects → length (filter_map first_sent effects) ≤ 2
+few_of_silent effects silent = rw (said_silent first_sent effects silent) none
+
+few_of_standing : (world : World) (cookies : Ask → List ℕ) (trusted busy : Bool) (b : Begun)
+    → length (filter_map first_sent (standing_get world cookies trusted busy b)) ≤ 2
+few_of_standing world cookies false busy b = none
+few_of_standing world cookies true busy b =
+    few_of_outcome world cookies b.call b.page (get_outcome world busy b.options) (short_get world busy b.options)
+
+few_of_get : (world : World) (cookies : Ask → List ℕ) (origin : Option Origin) (busy : Bool) (page call : ℕ) (options : GetOptions)
+    → length (filter_map first_sent (get_effects world cookies origin busy page call options)) ≤ 2
+few_of_get world cookies None busy page call options = none
+few_of_get world cookies (Some origin) busy page call options =
+    few_of_standing world cookies (is_trustworthy origin) busy (record { call = call; page = page; origin = origin; options = options })
+
+few_of_input : (world : World) (cookies : Ask → List ℕ) (taken : Bool) (call : ℕ) (facts : Option Facts) (input : Input)
+    → length (filter_map first_sent (input_effects world cookies taken call facts input)) ≤ 2
+few_of_input world cookies false call facts input = none
+few_of_input world cookies true call facts input =
+    few_of_outcome world cookies call (page_of facts) (call_row world facts input) (short_row world facts input)
+
+silent_have : (cookies : List StoredCookie) (have : Have) → AllSilent first_sent (cookie_effects cookies ++ have_logins have)
+silent_have cookies (haves.Cookie url field) =
+    silent_append first_sent (cookie_effects cookies) [] (silent_map first_sent Cookie (λ c. refl) cookies) tt
+silent_have cookies (haves.Login origin status) =
+    silent_append first_sent (cookie_effects cookies) (Login origin status ∷ [])
+    (silent_map first_sent Cookie (λ c. refl) cookies) (refl, tt)
+
+silent_close : (calls : List ℕ) (page : ℕ) (origin : Option Origin) → AllSilent first_sent (close_effects calls page origin)
+silent_close calls page None = (refl, tt)
+silent_close calls page (Some origin) =
+    silent_append first_sent (ends_of calls) (Closed page ∷ []) (ends_silent first_sent (λ c. refl) calls) (refl, tt)
+
+silent_standing : (trusted : Bool) (origin : Origin) (status : LoginStatus) → AllSilent first_sent (standing_status trusted origin status)
+silent_standing true origin status = (refl, tt)
+silent_standing false origin status = (refl, tt)
+
+silent_status : (origin : Option Origin) (status : LoginStatus) → AllSilent first_sent (status_effects origin status)
+silent_status None status = (refl, tt)
+silent_status (Some origin) status = silent_standing (is_trustworthy origin) origin status
+
+pub few_requests : (T : Trace) (event : Event) → length (filter_map first_sent (effects_of T event)) ≤ 2
+few_requests T (events.Have have) = few_of_silent _ (silent_have (have_cookies T.header.rules (now_at T) have) have)
+few_requests T (events.At time) = none
+few_requests T (events.Load page url raw) =
+    few_of_silent _
+    (load_silent first_sent (λ c. refl) (λ p o. refl) (λ c. refl) (λ o s. refl) (pending_of T page) page url
+    (cookies_from T.header.rules url (now_at T) (set_cookies raw)) (set_logins raw))
+few_requests T (events.ClosePage page) = few_of_silent _ (silent_close (pending_of T page) page (page_at T page))
+few_requests T (events.Get page call options) =
+    few_of_get (world_at T) (cookies_with T) (page_at T page) (is_busy page (pending T)) page call options
+few_requests T (events.Abort call) = few_of_input (world_at T) (cookies_with T) (is_begun T call) call (facts_at T call) inputs.Abort
+few_requests T (events.GoOn call) = few_of_input (world_at T) (cookies_with T) (is_begun T call) call (facts_at T call) inputs.GoOn
+few_requests T (events.Cancel call) = few_of_input (world_at T) (cookies_with T) (is_begun T call) call (facts_at T call) inputs.Cancel
+few_requests T (events.Reply call place kind raw) =
+    few_of_input (world_at T) (cookies_with T) (is_begun T call) call (facts_at T call) (inputs.Reply place kind raw)
+few_requests T (events.Choose call place id) =
+    few_of_input (world_at T) (cookies_with T) (is_begun T call) call (facts_at T call) (inputs.Choose place id)
+few_requests T (events.SetStatus page status) = few_of_silent _ (silent_status (page_at T page) status)

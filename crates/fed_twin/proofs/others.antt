@@ -1,0 +1,3 @@
+-- Two jars, and one token.
+pub mod Jars
+pub mod Tokens

@@ -1,0 +1,312 @@
+-- Nothing is looked up of a token.
+use Rattle.std.proofs.Common.{◌≡◌, ℕ, Bool, true, false, nat_eq, cond, List, [], ◌∷◌, ◌++◌, Option, Some, None, Result as Answer, Ok, Err, append_assoc, refl, sym, ap, ap₂, subst, ◌∙◌}
+use Rattle.std.specs.Prelude.{option_map, unwrap_or, ⊤}
+use Rattle.std.specs.Option.{option_or}
+use Rattle.std.specs.List.{filter_map, list_any}
+use Rattle.url.specs.Parts.{Parts}
+use Rattle.fed_origin.specs.declared.options.ProviderOptions.{ProviderOptions}
+use Rattle.fed_origin.specs.declared.stage.ReplyKind.TheVariants as kinds
+use Rattle.fed_origin.specs.declared.stage.Stage.{Stage}
+use Rattle.fed_origin.specs.declared.stage.Stage.TheVariants.{Reading, Listing, Mismatch, Choosing, Prompting, Asserting, Ended}
+use Rattle.fed_origin.specs.Origin.{same_origin, origin_text}
+use Rattle.fed_jar.specs.Writes as jar
+use Rattle.fed_token.specs.declared.step.TokenStep.{TokenStep}
+use Rattle.fed_token.specs.Read.{AssertionOf}
+use Rattle.fed_status.specs.Login.{Logins}
+use Rattle.fed_status.specs.Shared.{World}
+use Rattle.fed_consent.specs.declared.table.ask.Ask.{Ask}
+use Rattle.fed_consent.specs.declared.table.ask.Ask.TheVariants as asks
+use Rattle.fed_consent.specs.declared.table.input.Input.{Input}
+use Rattle.fed_consent.specs.declared.table.input.Input.TheVariants as inputs
+use Rattle.fed_call.specs.AssertingRows.{token_given, assertion_reply}
+use Rattle.fed_call.specs.Outcomes.{finishes}
+use Rattle.fed_call.specs.Facts.{Facts, provider_at}
+use Rattle.fed_call.specs.Row.{stage_reply}
+use Rattle.fed_script.specs.declared.event.Event.{Event}
+use Rattle.fed_script.specs.declared.event.Event.TheVariants as events
+use Rattle.fed_script.specs.declared.event.Have.TheVariants as haves
+use Rattle.fed_script.specs.declared.event.Numbered.{Numbered}
+use Rattle.fed_trace.specs.Effect.{Effect, last_of, page_change, login_change, kept_change, flag_change, call_change, stage_change, time_of, written_by, begun_by, begins, is_ignored}
+use Rattle.fed_trace.specs.Keyed.{entries_after, last_said}
+use Rattle.fed_trace.specs.Known.{world_at, is_begun, input_to, known_first, with_said, known_in, facts_by, facts_at}
+use Rattle.fed_trace.specs.Row.{effects_of, row_of, with_event, cookies_with, outcome_effects, get_effects, input_effects, is_busy, cookies_from, cookie_effects, load_effects, close_effects, status_effects, set_cookies, set_logins}
+use Rattle.fed_trace.specs.Trace.{Row, Trace, page_at, logins, kept, flags, standing, pending, calls_of, now_at, writes, begun, stage_at, last_in}
+use Rattle.fed_trace.specs.OfScript.{start, with_events}
+use Rattle.fed_twin.specs.Tokens.{AreTokens, reply_at, ButToken, Equal, Tokens, OneToken}
+use Rattle.std.specs.Map.{keys_of}
+use Rattle.fed_origin.specs.Status.{same_triple}
+use Rattle.fed_origin.specs.declared.status.Triple.{Triple}
+use Rattle.fed_origin.specs.declared.origin.Origin.{Origin}
+
+-- all that is looked up is the same
+record SameAll (T U : Trace) : Type 0 where
+  header : T.header ≡ U.header
+  time : last_in time_of T.rows ≡ last_in time_of U.rows
+  page : (q : ℕ) → page_at T q ≡ page_at U q
+  stage : (q : ℕ) → stage_at T q ≡ stage_at U q
+  login : logins T ≡ logins U
+  kept : standing same_triple kept_change T.rows ≡ standing same_triple kept_change U.rows
+  flags : standing same_origin flag_change T.rows ≡ standing same_origin flag_change U.rows
+  calls : pending T ≡ pending U
+  taken : begun T.rows ≡ begun U.rows
+  written : writes T ≡ writes U
+  known : (q : ℕ) → known_in T.header T.rows q ≡ known_in U.header U.rows q
+
+same_self : (T : Trace) → SameAll T T
+same_self T =
+    record {
+      header = refl;
+      time = refl;
+      page = λ q. refl;
+      stage = λ q. refl;
+      login = refl;
+      kept = refl;
+      flags = refl;
+      calls = refl;
+      taken = refl;
+      written = refl;
+      known = λ q. refl;
+    }
+
+-- all that is read of effects for it
+record SameReads (es es' : List Effect) : Type 0 where
+  time : last_of time_of es ≡ last_of time_of es'
+  page : (q : ℕ) → last_said nat_eq page_change q es ≡ last_said nat_eq page_change q es'
+  stage : (q : ℕ) → last_said nat_eq stage_change q es ≡ last_said nat_eq stage_change q es'
+  login : (l : Logins) → entries_after same_origin login_change es l ≡ entries_after same_origin login_change es' l
+  kept : (l : List (Triple × ⊤)) → entries_after same_triple kept_change es l ≡ entries_after same_triple kept_change es' l
+  flags : (l : List (Origin × ⊤)) → entries_after same_origin flag_change es l ≡ entries_after same_origin flag_change es' l
+  calls : (l : List (ℕ × ℕ)) → entries_after nat_eq call_change es l ≡ entries_after nat_eq call_change es' l
+  taken : filter_map begun_by es ≡ filter_map begun_by es'
+  written : filter_map written_by es ≡ filter_map written_by es'
+  begins_it : (q : ℕ) → last_of (begins q) es ≡ last_of (begins q) es'
+  ignored : list_any is_ignored es ≡ list_any is_ignored es'
+
+reads_same : (call : ℕ) {es es' : List Effect} → ButToken call es es' → SameReads es es'
+reads_same call (Equal es) =
+    record {
+      time = refl;
+      page = λ q. refl;
+      stage = λ q. refl;
+      login = λ l. refl;
+      kept = λ l. refl;
+      flags = λ l. refl;
+      calls = λ l. refl;
+      taken = refl;
+      written = refl;
+      begins_it = λ q. refl;
+      ignored = refl;
+    }
+reads_same call (Tokens page provider auto token token') =
+    record {
+      time = refl;
+      page = λ q. refl;
+      stage = λ q. refl;
+      login = λ l. refl;
+      kept = λ l. refl;
+      flags = λ l. refl;
+      calls = λ l. refl;
+      taken = refl;
+      written = refl;
+      begins_it = λ q. refl;
+      ignored = refl;
+    }
+
+world_same : (T U : Trace) → SameAll T U → world_at T ≡ world_at U
+world_same T U h =
+    ap₂ (λ r l. let w : World = record { rules = r; login = l; kept = kept T; flags = flags T } in w) (ap (λ x. x.rules) h.header) h.login
+    ∙ ap₂ (λ k f. let w : World = record { rules = U.header.rules; login = logins U; kept = k; flags = f } in w) (ap keys_of h.kept) (ap keys_of h.flags)
+
+-- a row more, of events that say the same to calls that go on
+grow_all : (T U : Trace) → SameAll T U → (line line' : ℕ) (e e' : Event) → SameReads (effects_of T e) (effects_of U e')
+    → ((q : ℕ) (ign : Bool) (f : Facts) → with_said (world_at T) ign (input_to q e) f ≡ with_said (world_at T) ign
+    (input_to q e') f)
+    → SameAll (with_event T line e) (with_event U line' e')
+grow_all T U h line line' e e' reads said =
+    record {
+      header = h.header;
+      time = ap₂ option_or reads.time h.time;
+      page = λ q. ap₂ unwrap_or (reads.page q) (h.page q);
+      stage = λ q. ap₂ unwrap_or (reads.stage q) (h.stage q);
+      login = ap (entries_after same_origin login_change (effects_of T e)) h.login ∙ reads.login (logins U);
+      kept = ap (entries_after same_triple kept_change (effects_of T e)) h.kept ∙ reads.kept (standing same_triple kept_change U.rows);
+      flags = ap (entries_after same_origin flag_change (effects_of T e)) h.flags ∙ reads.flags (standing same_origin flag_change U.rows);
+      calls = ap (entries_after nat_eq call_change (effects_of T e)) h.calls ∙ reads.calls (pending U);
+      taken = ap₂ (λ xs ys. xs ++ ys) h.taken reads.taken;
+      written = ap₂ (λ xs ys. xs ++ ys) h.written reads.written;
+      known = λ q.
+          ap₂ (λ b k. option_or (option_map known_first b) k) (reads.begins_it q)
+          (same_map (known_in T.header T.rows q) (said q (list_any is_ignored (effects_of T e)))
+          ∙ ap₂ (λ w b. option_map (with_said w b (input_to q e')) (known_in T.header T.rows q)) (world_same T U h) reads.ignored
+          ∙ ap (option_map (with_said (world_at U) (list_any is_ignored (effects_of U e')) (input_to q e'))) (h.known q));
+    }
+  where
+    same_map : {f g : Facts → Facts} (o : Option Facts) → ((x : Facts) → f x ≡ g x) → option_map f o ≡ option_map g o
+    same_map None k = refl
+    same_map (Some x) k = ap Some (k x)
+
+-- ---- the effects of an event are a function of what is looked up
+
+text_same : (T U : Trace) → SameAll T U → (to : Parts)
+    → jar.cookie_text T.header.rules to (now_at T) (writes T) ≡ jar.cookie_text U.header.rules to (now_at U) (writes U)
+text_same T U h to =
+    ap (λ r. jar.cookie_text r to (now_at T) (writes T)) (ap (λ x. x.rules) h.header)
+    ∙ ap₂ (λ n w. jar.cookie_text U.header.rules to n w) (ap₂ unwrap_or h.time (ap (λ x. x.now) h.header)) h.written
+
+cookies_same : (T U : Trace) → SameAll T U → (ask : Ask) → cookies_with T ask ≡ cookies_with U ask
+cookies_same T U h (asks.Accounts to) = text_same T U h to
+cookies_same T U h (asks.Disconnect to client hint origin) = text_same T U h to
+cookies_same T U h (asks.Assertion ask) = text_same T U h ask.to
+cookies_same T U h (asks.WellKnown to) = refl
+cookies_same T U h (asks.Config to) = refl
+cookies_same T U h (asks.Metadata to client origin) = refl
+
+all_cookies_same : (T U : Trace) → SameAll T U → cookies_with T ≡ cookies_with U
+all_cookies_same T U h = λ i ask. cookies_same T U h ask i
+
+facts_same : (T U : Trace) → SameAll T U → (q : ℕ) → facts_at T q ≡ facts_at U q
+facts_same T U h q = ap₂ facts_by (h.stage q) (h.known q)
+
+input_same : (T U : Trace) → SameAll T U → (call : ℕ) (i : Input)
+    → input_effects (world_at T) (cookies_with T) (is_begun T call) call (facts_at T call) i
+    ≡ input_effects (world_at U) (cookies_with U) (is_begun U call) call (facts_at U call) i
+input_same T U h call i =
+    ap₂ (λ w ck. input_effects w ck (is_begun T call) call (facts_at T call) i) (world_same T U h) (all_cookies_same T U h)
+    ∙ ap₂ (λ b f. input_effects (world_at U) (cookies_with U) b call f i) (ap (list_any (nat_eq call)) h.taken) (facts_same T U h call)
+
+found_same : (T U : Trace) → SameAll T U → (url : Parts) (fields : List (List ℕ))
+    → cookies_from T.header.rules url (now_at T) fields ≡ cookies_from U.header.rules url (now_at U) fields
+found_same T U h url fields =
+    ap₂ (λ r n. cookies_from r url n fields) (ap (λ x. x.rules) h.header) (ap₂ unwrap_or h.time (ap (λ x. x.now) h.header))
+
+effects_same : (T U : Trace) → SameAll T U → (e : Event) → effects_of T e ≡ effects_of U e
+effects_same T U h (events.Have (haves.Cookie url field)) = ap (λ cs. cookie_effects cs ++ []) (found_same T U h url (field ∷ []))
+effects_same T U h (events.Have (haves.Login origin status)) = refl
+effects_same T U h (events.At time) = refl
+effects_same T U h (events.Load page url raw) =
+    ap₂ (λ x cs. load_effects (calls_of page x) page url cs (set_logins raw)) h.calls (found_same T U h url (set_cookies raw))
+effects_same T U h (events.ClosePage page) = ap₂ (λ x o. close_effects (calls_of page x) page o) h.calls (h.page page)
+effects_same T U h (events.SetStatus page status) = ap (λ o. status_effects o status) (h.page page)
+effects_same T U h (events.Get page call options) =
+    ap₂ (λ w ck. get_effects w ck (page_at T page) (is_busy page (pending T)) page call options) (world_same T U h)
+    (all_cookies_same T U h)
+    ∙ ap₂ (λ o x. get_effects (world_at U) (cookies_with U) o (is_busy page x) page call options) (h.page page) h.calls
+effects_same T U h (events.Abort call) = input_same T U h call inputs.Abort
+effects_same T U h (events.GoOn call) = input_same T U h call inputs.GoOn
+effects_same T U h (events.Cancel call) = input_same T U h call inputs.Cancel
+effects_same T U h (events.Reply call provider kind raw) = input_same T U h call (inputs.Reply provider kind raw)
+effects_same T U h (events.Choose call provider account) = input_same T U h call (inputs.Choose provider account)
+
+-- ---- the row that may differ
+
+given_same : (w : World) (call page : ℕ) (auto : Bool) (a b : Answer (List ℕ) TokenStep) → AreTokens a b → (ck : Ask → List ℕ)
+    → ButToken call (outcome_effects w ck call page (finishes (token_given auto a)))
+    (outcome_effects w ck call page (finishes (token_given auto b)))
+given_same w call page auto (Ok t) (Ok t') h ck = Tokens page 0 auto t t'
+given_same w call page auto (Err s) (Err s') h ck =
+    subst (λ x. ButToken call (outcome_effects w ck call page (finishes (token_given auto (Err s))))
+    (outcome_effects w ck call page (finishes (token_given auto (Err x))))) h (Equal _)
+given_same w call page auto (Ok t) (Err s) h ck = absurd h
+given_same w call page auto (Err s) (Ok t) h ck = absurd h
+
+reply_same : (w : World) (ck : Ask → List ℕ) (call page : ℕ) (f : Facts) (stage : Stage) (place : ℕ) (raw raw' : List ℕ)
+    → ((o : List ℕ) → AreTokens (AssertionOf raw o) (AssertionOf raw' o))
+    → ButToken call (outcome_effects w ck call page (stage_reply w f stage place kinds.Assertion raw))
+    (outcome_effects w ck call page (stage_reply w f stage place kinds.Assertion raw'))
+reply_same w ck call page f Reading place raw raw' h = Equal _
+reply_same w ck call page f Listing place raw raw' h = Equal _
+reply_same w ck call page f Mismatch place raw raw' h = Equal _
+reply_same w ck call page f Choosing place raw raw' h = Equal _
+reply_same w ck call page f Prompting place raw raw' h = Equal _
+reply_same w ck call page f Ended place raw raw' h = Equal _
+reply_same w ck call page f Asserting place raw raw' h = go (provider_at place f.options)
+  where
+    go : (q : Option ProviderOptions)
+        → ButToken call (outcome_effects w ck call page (assertion_reply f q raw))
+        (outcome_effects w ck call page (assertion_reply f q raw'))
+    go None = Equal _
+    go (Some q) =
+        given_same w call page f.auto (AssertionOf raw (origin_text f.origin)) (AssertionOf raw' (origin_text f.origin))
+        (h (origin_text f.origin)) ck
+
+token_row : (T : Trace) (call place : ℕ) (raw raw' : List ℕ) → ((o : List ℕ) → AreTokens (AssertionOf raw o) (AssertionOf raw' o))
+    → ButToken call (effects_of T (events.Reply call place kinds.Assertion raw))
+    (effects_of T (events.Reply call place kinds.Assertion raw'))
+token_row T call place raw raw' h = go (is_begun T call) (facts_at T call)
+  where
+    go : (begun : Bool) (facts : Option Facts)
+        → ButToken call (input_effects (world_at T) (cookies_with T) begun call facts (inputs.Reply place kinds.Assertion raw))
+        (input_effects (world_at T) (cookies_with T) begun call facts (inputs.Reply place kinds.Assertion raw'))
+    go false facts = Equal _
+    go true None = Equal _
+    go true (Some f) = reply_same (world_at T) (cookies_with T) call f.page f f.stage place raw raw' h
+
+-- an assertion reply says nothing to a call that goes on
+says_nothing : (T : Trace) (call place q : ℕ) (raw raw' : List ℕ) (ign : Bool) (f : Facts)
+    → with_said (world_at T) ign (input_to q (events.Reply call place kinds.Assertion raw)) f
+    ≡ with_said (world_at T) ign (input_to q (events.Reply call place kinds.Assertion raw')) f
+says_nothing T call place q raw raw' ign f = go (nat_eq q call) ign
+  where
+    go : (own ign : Bool) → with_said (world_at T) ign (cond own (Some (inputs.Reply place kinds.Assertion raw)) None) f
+        ≡ with_said (world_at T) ign (cond own (Some (inputs.Reply place kinds.Assertion raw')) None) f
+    go false ign = refl
+    go true false = refl
+    go true true = refl
+
+-- ---- the walk
+
+-- the rows that events add
+pub rows_of : Trace → List Numbered → List Row
+rows_of T [] = []
+rows_of T (n ∷ ns) = rows_of (with_event T n.line n.event) ns ++ row_of T n.line n.event ∷ []
+
+pub rows_are : (T : Trace) (ns : List Numbered) → (with_events T ns).rows ≡ rows_of T ns ++ T.rows
+unfolding rows_of
+rows_are T [] = refl
+rows_are T (n ∷ ns) =
+    rows_are (with_event T n.line n.event) ns
+    ∙ sym (append_assoc (rows_of (with_event T n.line n.event) ns) (row_of T n.line n.event ∷ []) T.rows)
+
+events_joined : (T : Trace) (xs ys : List Numbered) → with_events T (xs ++ ys) ≡ with_events (with_events T xs) ys
+events_joined T [] ys = refl
+events_joined T (x ∷ xs) ys = events_joined (with_event T x.line x.event) xs ys
+
+-- events add the same rows where all that is looked up is the same
+same_rows : (T U : Trace) → SameAll T U → (ns : List Numbered) → rows_of T ns ≡ rows_of U ns
+unfolding rows_of
+same_rows T U h [] = refl
+same_rows T U h (n ∷ ns) =
+    let reads : SameReads (effects_of T n.event) (effects_of U n.event) = subst (SameReads (effects_of T n.event))
+    (effects_same T U h n.event) (reads_same 0 (Equal (effects_of T n.event))) in
+    ap₂ (λ later es. later ++ (record { line = n.line; event = n.event; effects = es }) ∷ [])
+    (same_rows (with_event T n.line n.event) (with_event U n.line n.event)
+    (grow_all T U h n.line n.line n.event n.event reads (λ q ign f. refl)) ns)
+    (effects_same T U h n.event)
+
+pub one_token_lem : OneToken
+one_token_lem a b call twin =
+    let T : Trace = with_events (start a.header) twin.before in
+    let e : Event = events.Reply call twin.provider kinds.Assertion twin.raw in
+    let e' : Event = events.Reply call twin.provider kinds.Assertion twin.raw' in
+    let T1 : Trace = with_event T twin.line e in
+    let T2 : Trace = with_event T twin.line e' in
+    let but = token_row T call twin.provider twin.raw twin.raw' twin.reads in
+    let same = grow_all T T (same_self T) twin.line twin.line e e'
+    (reads_same call but) (λ q ign f. says_nothing T call twin.provider q twin.raw twin.raw' ign f) in
+    record {
+      later = rows_of T1 twin.after;
+      earlier = T.rows;
+      row = row_of T twin.line e;
+      row' = row_of T twin.line e';
+      first = ap (λ ns. (with_events (start a.header) ns).rows) twin.first
+          ∙ ap (λ x. x.rows) (events_joined (start a.header) twin.before (reply_at twin.line call twin.provider twin.raw ∷ twin.after))
+          ∙ rows_are T1 twin.after;
+      second = ap (λ ns. (with_events (start b.header) ns).rows) twin.second
+          ∙ ap (λ h. (with_events (start h) (twin.before ++ reply_at twin.line call twin.provider twin.raw' ∷ twin.after)).rows)
+          (sym twin.header)
+          ∙ ap (λ x. x.rows) (events_joined (start a.header) twin.before
+          (reply_at twin.line call twin.provider twin.raw' ∷ twin.after))
+          ∙ rows_are T2 twin.after ∙ ap (λ l. l ++ T2.rows) (sym (same_rows T1 T2 same twin.after));
+      line = refl;
+      effects = but;
+    }

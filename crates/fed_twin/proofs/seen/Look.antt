@@ -1,0 +1,504 @@
+-- Where providers can tell the same of what happened, the look-backs are the same, as far as they hang on it.
+use Rattle.std.proofs.Common.{◌≡◌, ℕ, Bool, true, false, nat_eq, cond, List, [], ◌∷◌, ◌++◌, Option, Some, None, filter, refl, sym, ap, ◌∙◌}
+use Rattle.std.specs.Prelude.{option_and_then, option_map, unwrap_or, bytes_eq}
+use Rattle.std.proofs.lemmas.Slice.Eq.{bytes_eq-Decides}
+use Rattle.std.specs.Map.{lookup}
+use Rattle.std.specs.List.{filter_map, cons_option, list_any}
+use Rattle.indexmap.specs.IndexMap.{insert_entry}
+use Rattle.url.specs.Parts.{Parts}
+use Rattle.fed_origin.specs.declared.origin.Origin.{Origin}
+use Rattle.fed_origin.specs.declared.stage.Stage.{Stage}
+use Rattle.fed_origin.specs.declared.stage.Stage.TheVariants as stages
+use Rattle.fed_origin.specs.declared.status.LoginStatus.{LoginStatus}
+use Rattle.fed_origin.specs.declared.status.LoginStatus.TheVariants.{Unknown}
+use Rattle.fed_origin.specs.Origin.{is_trustworthy, same_origin}
+use Rattle.fed_origin.specs.WebUrl.{host_of}
+use Rattle.fed_suffix.specs.Registrable.{party}
+use Rattle.fed_jar.specs.Cookie.{StoredCookie}
+use Rattle.fed_jar.specs.Store.{is_of_party}
+use Rattle.fed_jar.specs.Writes as jar
+use Rattle.fed_status.specs.Login.{Logins, status_of}
+use Rattle.fed_status.proofs.lists.Same.{same_origin_is}
+use Rattle.fed_consent.specs.declared.table.ask.Ask.{Ask}
+use Rattle.fed_consent.specs.declared.table.ask.Ask.TheVariants as asks
+use Rattle.fed_trace.specs.Effect.{Effect, page_change, login_change, call_change, time_of, written_by, begun_by}
+use Rattle.fed_trace.specs.Effect as does
+use Rattle.fed_trace.specs.Keyed.{Change, changed, entries_after, says}
+use Rattle.fed_trace.specs.Known.{is_begun}
+use Rattle.fed_trace.specs.Trace.{Row, Trace, page_at, logins, pending, now_at, writes, standing, all_said, last_in}
+use Rattle.fed_twin.specs.Script.{first_sent, first_requests}
+use Rattle.fed_twin.specs.Providers.{Providers, is_provider}
+use Rattle.fed_twin.specs.Seen.{Seen, Time, Page, Closed, Cookie, Login, Begin, Ended, Sent, told_origin, seen, seen_move, seen_sent, view}
+use Rattle.fed_jar.proofs.parties.Parties.{text_is_of_party_writes}
+use Rattle.fed_twin.proofs.seen.Seen.{last_at, last_in-seen, last_value-seen, standing-seen, all_said-seen}
+
+-- ---- readings of what is seen
+
+-- a reading that says nothing of what is seen of a kind
+no_move : {A : Type 0} (f : Seen → Option A) → ((call : ℕ) → f (Ended call) ≡ None) → (call : ℕ) (stage : Stage)
+    → None ≡ option_and_then f (seen_move call stage)
+no_move f h call stages.Reading = refl
+no_move f h call stages.Listing = refl
+no_move f h call stages.Mismatch = refl
+no_move f h call stages.Choosing = refl
+no_move f h call stages.Prompting = refl
+no_move f h call stages.Asserting = refl
+no_move f h call stages.Ended = sym (h call)
+
+no_sent : {A : Type 0} (f : Seen → Option A)
+    → ((call provider : ℕ) (ask : Ask) (cookies : List ℕ) → f (Sent call provider ask cookies) ≡ None)
+    → (call provider : ℕ) (ask : Ask) (cookies : List ℕ) → None ≡ option_and_then f (seen_sent call provider ask cookies)
+no_sent f h call provider (asks.WellKnown to) cookies = sym (h call provider (asks.WellKnown to) cookies)
+no_sent f h call provider (asks.Config to) cookies = sym (h call provider (asks.Config to) cookies)
+no_sent f h call provider (asks.Accounts to) cookies = sym (h call provider (asks.Accounts to) cookies)
+no_sent f h call provider (asks.Metadata to client origin) cookies = refl
+no_sent f h call provider (asks.Assertion ask) cookies = refl
+no_sent f h call provider (asks.Disconnect to client hint origin) cookies = refl
+
+no_test : {A : Type 0} (f : Seen → Option A) (x : Seen) → f x ≡ None → (b : Bool)
+    → None ≡ option_and_then f (cond b (Some x) None)
+no_test f x h true = sym h
+no_test f x h false = refl
+
+-- ---- the time
+
+time_seen : Seen → Option ℕ
+time_seen (Time time) = Some time
+time_seen _ = None
+
+time_is : (p : Providers) (e : Effect) → time_of e ≡ option_and_then time_seen (seen p e)
+unfolding time_seen
+time_is p (does.Time time) = refl
+time_is p (does.Page page origin) = refl
+time_is p (does.Closed page) = refl
+time_is p (does.Cookie cookie) = no_test time_seen (Cookie cookie) refl (is_provider p cookie.domain)
+time_is p (does.Login origin status) = no_test time_seen (Login origin status) refl (is_provider p origin.host)
+time_is p (does.Begin b) = refl
+time_is p (does.Move call stage) = no_move time_seen (λ c. refl) call stage
+time_is p (does.Sent call provider ask cookies) = no_sent time_seen (λ c q a k. refl) call provider ask cookies
+time_is p (does.Shown call dialog) = refl
+time_is p (does.Window call provider url) = refl
+time_is p (does.Kept triple stays) = refl
+time_is p (does.Flag origin stays) = refl
+time_is p (does.Result call page finish) = refl
+time_is p (does.Ignored why) = refl
+
+pub now_same : (p : Providers) (T U : Trace) → T.header.now ≡ U.header.now → view p T.rows ≡ view p U.rows → now_at T ≡ now_at U
+now_same p T U header same =
+    ap (λ o. unwrap_or o T.header.now) (last_in-seen (seen p) time_of time_seen (time_is p) T.rows ∙ ap
+    (last_at time_seen) same ∙ sym (last_in-seen (seen p) time_of time_seen (time_is p) U.rows))
+    ∙ ap (unwrap_or (last_in time_of U.rows)) header
+
+-- ---- pages
+
+-- what is told of a page's origin
+pub record Told : Type 0 where
+  pub trusted : Bool
+  pub origin : Option Origin
+
+abbrev pub told : Providers → Origin → Told
+told p origin = record { trusted = is_trustworthy origin; origin = told_origin p origin }
+
+page_seen : ℕ → Seen → Option (Option Told)
+page_seen q (Page page trusted origin) = cond (nat_eq q page) (Some (Some (record { trusted = trusted; origin = origin }))) None
+page_seen q (Closed page) = cond (nat_eq q page) (Some None) None
+page_seen q _ = None
+
+page_is : (p : Providers) (q : ℕ) (e : Effect)
+    → option_map (option_map (told p)) (says nat_eq q (page_change e)) ≡ option_and_then (page_seen q) (seen p e)
+unfolding page_seen
+page_is p q (does.Time time) = refl
+page_is p q (does.Page page origin) = go (nat_eq q page)
+  where
+    go : (b : Bool) → option_map (option_map (told p)) (cond b (Some (Some origin)) None) ≡ cond b (Some (Some (told p origin))) None
+    go true = refl
+    go false = refl
+page_is p q (does.Closed page) = go (nat_eq q page)
+  where
+    go : (b : Bool) → option_map (option_map (told p)) (cond b (Some None) None) ≡ cond b (Some None) None
+    go true = refl
+    go false = refl
+page_is p q (does.Cookie cookie) = no_test (page_seen q) (Cookie cookie) refl (is_provider p cookie.domain)
+page_is p q (does.Login origin status) = no_test (page_seen q) (Login origin status) refl (is_provider p origin.host)
+page_is p q (does.Begin b) = refl
+page_is p q (does.Move call stage) = no_move (page_seen q) (λ c. refl) call stage
+page_is p q (does.Sent call provider ask cookies) = no_sent (page_seen q) (λ c r a k. refl) call provider ask cookies
+page_is p q (does.Shown call dialog) = refl
+page_is p q (does.Window call provider url) = refl
+page_is p q (does.Kept triple stays) = refl
+page_is p q (does.Flag origin stays) = refl
+page_is p q (does.Result call page finish) = refl
+page_is p q (does.Ignored why) = refl
+
+pub page_same : (p : Providers) (T U : Trace) (q : ℕ) → view p T.rows ≡ view p U.rows
+    → option_map (told p) (page_at T q) ≡ option_map (told p) (page_at U q)
+page_same p T U q same =
+    last_value-seen (seen p) nat_eq page_change q (told p) (page_seen q) (page_is p q) T.rows
+    ∙ ap (λ v. unwrap_or (last_at (page_seen q) v) None) same
+    ∙ sym (last_value-seen (seen p) nat_eq page_change q (told p) (page_seen q) (page_is p q) U.rows)
+
+-- ---- pending calls
+
+call_seen : Seen → Option (Change ℕ ℕ)
+call_seen (Begin call page) = Some (call, Some page)
+call_seen (Ended call) = Some (call, None)
+call_seen _ = None
+
+call_moves : (call : ℕ) (stage : Stage) → does.unless_ended call stage ≡ option_and_then call_seen (seen_move call stage)
+unfolding call_seen
+call_moves call stages.Reading = refl
+call_moves call stages.Listing = refl
+call_moves call stages.Mismatch = refl
+call_moves call stages.Choosing = refl
+call_moves call stages.Prompting = refl
+call_moves call stages.Asserting = refl
+call_moves call stages.Ended = refl
+
+call_is : (p : Providers) (e : Effect) → call_change e ≡ option_and_then call_seen (seen p e)
+unfolding call_seen
+call_is p (does.Time time) = refl
+call_is p (does.Page page origin) = refl
+call_is p (does.Closed page) = refl
+call_is p (does.Cookie cookie) = no_test call_seen (Cookie cookie) refl (is_provider p cookie.domain)
+call_is p (does.Login origin status) = no_test call_seen (Login origin status) refl (is_provider p origin.host)
+call_is p (does.Begin b) = refl
+call_is p (does.Move call stage) = call_moves call stage
+call_is p (does.Sent call provider ask cookies) = no_sent call_seen (λ c r a k. refl) call provider ask cookies
+call_is p (does.Shown call dialog) = refl
+call_is p (does.Window call provider url) = refl
+call_is p (does.Kept triple stays) = refl
+call_is p (does.Flag origin stays) = refl
+call_is p (does.Result call page finish) = refl
+call_is p (does.Ignored why) = refl
+
+pub pending_same : (p : Providers) (T U : Trace) → view p T.rows ≡ view p U.rows → pending T ≡ pending U
+pending_same p T U same =
+    standing-seen (seen p) nat_eq call_change call_seen (call_is p) T.rows ∙ ap (λ v. entries_after nat_eq call_seen v []) same
+    ∙ sym (standing-seen (seen p) nat_eq call_change call_seen (call_is p) U.rows)
+
+-- ---- calls that began
+
+begun_seen : Seen → Option ℕ
+begun_seen (Begin call page) = Some call
+begun_seen _ = None
+
+begun_is : (p : Providers) (e : Effect) → begun_by e ≡ option_and_then begun_seen (seen p e)
+unfolding begun_seen
+begun_is p (does.Time time) = refl
+begun_is p (does.Page page origin) = refl
+begun_is p (does.Closed page) = refl
+begun_is p (does.Cookie cookie) = no_test begun_seen (Cookie cookie) refl (is_provider p cookie.domain)
+begun_is p (does.Login origin status) = no_test begun_seen (Login origin status) refl (is_provider p origin.host)
+begun_is p (does.Begin b) = refl
+begun_is p (does.Move call stage) = no_move begun_seen (λ c. refl) call stage
+begun_is p (does.Sent call provider ask cookies) = no_sent begun_seen (λ c r a k. refl) call provider ask cookies
+begun_is p (does.Shown call dialog) = refl
+begun_is p (does.Window call provider url) = refl
+begun_is p (does.Kept triple stays) = refl
+begun_is p (does.Flag origin stays) = refl
+begun_is p (does.Result call page finish) = refl
+begun_is p (does.Ignored why) = refl
+
+pub is_begun_same : (p : Providers) (T U : Trace) (call : ℕ) → view p T.rows ≡ view p U.rows → is_begun T call ≡ is_begun U call
+is_begun_same p T U call same =
+    ap (list_any (nat_eq call))
+    (all_said-seen (seen p) begun_by begun_seen (begun_is p) T.rows ∙ ap (filter_map begun_seen) same ∙ sym
+    (all_said-seen (seen p) begun_by begun_seen (begun_is p) U.rows))
+
+-- ---- what is sent
+
+first_seen : Seen → Option (List ℕ)
+first_seen (Sent call provider ask cookies) = first_sent (does.Sent call provider ask cookies)
+first_seen _ = None
+
+first_asks : (call provider : ℕ) (ask : Ask) (cookies : List ℕ)
+    → first_sent (does.Sent call provider ask cookies) ≡ option_and_then first_seen (seen_sent call provider ask cookies)
+unfolding first_seen
+first_asks call provider (asks.WellKnown to) cookies = refl
+first_asks call provider (asks.Config to) cookies = refl
+first_asks call provider (asks.Accounts to) cookies = refl
+first_asks call provider (asks.Metadata to client origin) cookies = refl
+first_asks call provider (asks.Assertion ask) cookies = refl
+first_asks call provider (asks.Disconnect to client hint origin) cookies = refl
+
+first_is : (p : Providers) (e : Effect) → first_sent e ≡ option_and_then first_seen (seen p e)
+unfolding first_seen
+first_is p (does.Time time) = refl
+first_is p (does.Page page origin) = refl
+first_is p (does.Closed page) = refl
+first_is p (does.Cookie cookie) = no_test first_seen (Cookie cookie) refl (is_provider p cookie.domain)
+first_is p (does.Login origin status) = no_test first_seen (Login origin status) refl (is_provider p origin.host)
+first_is p (does.Begin b) = refl
+first_is p (does.Move call stage) = no_move first_seen (λ c. refl) call stage
+first_is p (does.Sent call provider ask cookies) = first_asks call provider ask cookies
+first_is p (does.Shown call dialog) = refl
+first_is p (does.Window call provider url) = refl
+first_is p (does.Kept triple stays) = refl
+first_is p (does.Flag origin stays) = refl
+first_is p (does.Result call page finish) = refl
+first_is p (does.Ignored why) = refl
+
+pub sign_in_same : (p : Providers) (T U : Trace) → view p T.rows ≡ view p U.rows → first_requests T.rows ≡ first_requests U.rows
+sign_in_same p T U same =
+    all_said-seen (seen p) first_sent first_seen (first_is p) T.rows ∙ ap (filter_map first_seen) same
+    ∙ sym (all_said-seen (seen p) first_sent first_seen (first_is p) U.rows)
+
+-- ---- cookies
+
+-- the cookie is of the party of a provider
+abbrev theirs : Providers → StoredCookie → Bool
+theirs p cookie = is_provider p cookie.domain
+
+cookie_seen : Seen → Option StoredCookie
+cookie_seen (Cookie cookie) = Some cookie
+cookie_seen _ = None
+
+-- the cookie that an effect writes, if it is of the party of a provider
+abbrev their_cookie : Providers → Effect → Option StoredCookie
+their_cookie p (does.Cookie cookie) = cond (is_provider p cookie.domain) (Some cookie) None
+their_cookie p _ = None
+
+cookie_is : (p : Providers) (e : Effect) → their_cookie p e ≡ option_and_then cookie_seen (seen p e)
+unfolding cookie_seen
+cookie_is p (does.Time time) = refl
+cookie_is p (does.Page page origin) = refl
+cookie_is p (does.Closed page) = refl
+cookie_is p (does.Cookie cookie) = go (is_provider p cookie.domain)
+  where
+    go : (b : Bool) → cond b (Some cookie) None ≡ option_and_then cookie_seen (cond b (Some (Cookie cookie)) None)
+    go true = refl
+    go false = refl
+cookie_is p (does.Login origin status) = no_test cookie_seen (Login origin status) refl (is_provider p origin.host)
+cookie_is p (does.Begin b) = refl
+cookie_is p (does.Move call stage) = no_move cookie_seen (λ c. refl) call stage
+cookie_is p (does.Sent call provider ask cookies) = no_sent cookie_seen (λ c r a k. refl) call provider ask cookies
+cookie_is p (does.Shown call dialog) = refl
+cookie_is p (does.Window call provider url) = refl
+cookie_is p (does.Kept triple stays) = refl
+cookie_is p (does.Flag origin stays) = refl
+cookie_is p (does.Result call page finish) = refl
+cookie_is p (does.Ignored why) = refl
+
+filter_cons : (q : StoredCookie → Bool) (c : StoredCookie) (xs : List StoredCookie) (b : Bool)
+    → cond b (c ∷ xs) xs ≡ cons_option (cond b (Some c) None) xs
+filter_cons q c xs true = refl
+filter_cons q c xs false = refl
+
+their_writes : (p : Providers) (es : List Effect) → filter (theirs p) (filter_map written_by es) ≡ filter_map (their_cookie p) es
+their_writes p [] = refl
+their_writes p (does.Cookie cookie ∷ es) =
+    ap (λ l. cond (is_provider p cookie.domain) (cookie ∷ l) l) (their_writes p es)
+    ∙ filter_cons (theirs p) cookie (filter_map (their_cookie p) es) (is_provider p cookie.domain)
+their_writes p (does.Time time ∷ es) = their_writes p es
+their_writes p (does.Page page origin ∷ es) = their_writes p es
+their_writes p (does.Closed page ∷ es) = their_writes p es
+their_writes p (does.Login origin status ∷ es) = their_writes p es
+their_writes p (does.Begin b ∷ es) = their_writes p es
+their_writes p (does.Move call stage ∷ es) = their_writes p es
+their_writes p (does.Sent call provider ask cookies ∷ es) = their_writes p es
+their_writes p (does.Shown call dialog ∷ es) = their_writes p es
+their_writes p (does.Window call provider url ∷ es) = their_writes p es
+their_writes p (does.Kept triple stays ∷ es) = their_writes p es
+their_writes p (does.Flag origin stays ∷ es) = their_writes p es
+their_writes p (does.Result call page finish ∷ es) = their_writes p es
+their_writes p (does.Ignored why ∷ es) = their_writes p es
+
+filter-append : (q : StoredCookie → Bool) (xs ys : List StoredCookie) → filter q (xs ++ ys) ≡ filter q xs ++ filter q ys
+filter-append q [] ys = refl
+filter-append q (x ∷ xs) ys = ap (λ l. cond (q x) (x ∷ l) l) (filter-append q xs ys) ∙ go (q x)
+  where
+    go : (b : Bool)
+        → cond b (x ∷ (filter q xs ++ filter q ys)) (filter q xs ++ filter q ys)
+        ≡ cond b (x ∷ filter q xs) (filter q xs) ++ filter q ys
+    go true = refl
+    go false = refl
+
+all_their_writes : (p : Providers) (rows : List Row) → filter (theirs p) (all_said written_by rows) ≡ all_said (their_cookie p) rows
+all_their_writes p [] = refl
+all_their_writes p (row ∷ rows) =
+    filter-append (theirs p) (all_said written_by rows) (filter_map written_by row.effects)
+    ∙ ap (λ xs. xs ++ filter (theirs p) (filter_map written_by row.effects)) (all_their_writes p rows)
+    ∙ ap (λ xs. all_said (their_cookie p) rows ++ xs) (their_writes p row.effects)
+
+writes_same : (p : Providers) (T U : Trace) → view p T.rows ≡ view p U.rows
+    → filter (theirs p) (writes T) ≡ filter (theirs p) (writes U)
+writes_same p T U same =
+    all_their_writes p T.rows ∙ all_said-seen (seen p) (their_cookie p) cookie_seen (cookie_is p) T.rows
+    ∙ ap (filter_map cookie_seen) same
+    ∙ sym (all_said-seen (seen p) (their_cookie p) cookie_seen (cookie_is p) U.rows) ∙ sym (all_their_writes p U.rows)
+
+-- a filter of a filter, where what passes the one passes the other
+filter_within : (f q : StoredCookie → Bool) → ((c : StoredCookie) → f c ≡ true → q c ≡ true) → (cs : List StoredCookie)
+    → filter f (filter q cs) ≡ filter f cs
+filter_within f q h [] = refl
+filter_within f q h (c ∷ cs) = pick (q c) refl (filter_within f q h cs)
+  where
+    fails : (b : Bool) → q c ≡ false → f c ≡ b → f c ≡ false
+    fails false out e = e
+    fails true out e = absurd (let r : true ≡ false = sym (h c e) ∙ out in cc)
+
+    pick : (b : Bool) → q c ≡ b → filter f (filter q cs) ≡ filter f cs
+        → filter f (cond b (c ∷ filter q cs) (filter q cs)) ≡ filter f (c ∷ cs)
+    pick true e rest = ap (λ l. cond (f c) (c ∷ l) l) rest
+    pick false e rest = rest ∙ sym (ap (λ b. cond b (c ∷ filter f cs) (filter f cs)) (fails (f c) e refl))
+
+-- hosts of one party
+pub same_party : (p : Providers) (a b : List ℕ) → party p.rules a ≡ party p.rules b → is_provider p a ≡ is_provider p b
+unfolding is_provider
+same_party p a b h = ap (λ name. list_any (bytes_eq name) p.parties) h
+
+pub text_same : (p : Providers) (T U : Trace) (url : Parts) (now : ℕ) → is_provider p (host_of url) ≡ true
+    → view p T.rows ≡ view p U.rows
+    → jar.cookie_text p.rules url now (writes T) ≡ jar.cookie_text p.rules url now (writes U)
+text_same p T U url now provider same =
+    let f = is_of_party p.rules (party p.rules (host_of url)) in
+    let within : (c : StoredCookie) → f c ≡ true → theirs p c ≡ true =
+    λ c h. same_party p c.domain (host_of url) ((bytes_eq-Decides (party p.rules c.domain) (party p.rules (host_of url))).0 h)
+    ∙ provider in
+    text_is_of_party_writes p.rules url now (writes T) (writes U)
+    (sym (filter_within f (theirs p) within (writes T)) ∙ ap (filter f) (writes_same p T U same) ∙ filter_within f (theirs p) within
+    (writes U))
+
+-- ---- login statuses
+
+-- the origin is of the party of a provider
+abbrev of_provider : Providers → Origin × LoginStatus → Bool
+of_provider p login = is_provider p login.0.host
+
+login_seen : Seen → Option (Change Origin LoginStatus)
+login_seen (Login origin status) = Some (origin, Some status)
+login_seen _ = None
+
+abbrev their_login : Providers → Effect → Option (Change Origin LoginStatus)
+their_login p (does.Login origin status) = cond (is_provider p origin.host) (Some (origin, Some status)) None
+their_login p _ = None
+
+login_is : (p : Providers) (e : Effect) → their_login p e ≡ option_and_then login_seen (seen p e)
+unfolding login_seen
+login_is p (does.Time time) = refl
+login_is p (does.Page page origin) = refl
+login_is p (does.Closed page) = refl
+login_is p (does.Cookie cookie) = no_test login_seen (Cookie cookie) refl (is_provider p cookie.domain)
+login_is p (does.Login origin status) = go (is_provider p origin.host)
+  where
+    go : (b : Bool) → cond b (Some (origin, Some status)) None ≡ option_and_then login_seen (cond b (Some (Login origin status)) None)
+    go true = refl
+    go false = refl
+login_is p (does.Begin b) = refl
+login_is p (does.Move call stage) = no_move login_seen (λ c. refl) call stage
+login_is p (does.Sent call provider ask cookies) = no_sent login_seen (λ c r a k. refl) call provider ask cookies
+login_is p (does.Shown call dialog) = refl
+login_is p (does.Window call provider url) = refl
+login_is p (does.Kept triple stays) = refl
+login_is p (does.Flag origin stays) = refl
+login_is p (does.Result call page finish) = refl
+login_is p (does.Ignored why) = refl
+
+-- the statuses of the origins of providers, after one is set
+set_among : (p : Providers) (o : Origin) (s : LoginStatus) (es : Logins)
+    → filter (of_provider p) (insert_entry same_origin es o s)
+    ≡ cond (is_provider p o.host) (insert_entry same_origin (filter (of_provider p) es) o s) (filter (of_provider p) es)
+set_among p o s [] = go (is_provider p o.host)
+  where
+    go : (b : Bool) → cond {A = Logins} b ((o, s) ∷ []) [] ≡ cond {A = Logins} b ((o, s) ∷ []) []
+    go b = refl
+set_among p o s (e ∷ es) = pick (same_origin o e.0) refl (set_among p o s es)
+  where
+    rest : Logins
+    rest = filter (of_provider p) es
+
+    apart : (b c : Bool) → same_origin o e.0 ≡ false
+        → cond b (e ∷ cond c (insert_entry same_origin rest o s) rest) (cond c (insert_entry same_origin rest o s) rest)
+        ≡ cond c (insert_entry same_origin (cond b (e ∷ rest) rest) o s) (cond b (e ∷ rest) rest)
+    apart true true ne = sym (ap (λ t. cond t ((e.0, s) ∷ rest) (e ∷ insert_entry same_origin rest o s)) ne)
+    apart true false ne = refl
+    apart false true ne = refl
+    apart false false ne = refl
+
+    there : (b : Bool) → same_origin o e.0 ≡ true
+        → cond b ((e.0, s) ∷ rest) rest ≡ cond b (insert_entry same_origin (cond b (e ∷ rest) rest) o s) (cond b (e ∷ rest) rest)
+    there true is = sym (ap (λ t. cond t ((e.0, s) ∷ rest) (e ∷ insert_entry same_origin rest o s)) is)
+    there false is = refl
+
+    pick : (t : Bool) → same_origin o e.0 ≡ t
+        → filter (of_provider p) (insert_entry same_origin es o s)
+        ≡ cond (is_provider p o.host) (insert_entry same_origin rest o s) rest
+        → filter (of_provider p) (cond t ((e.0, s) ∷ es) (e ∷ insert_entry same_origin es o s))
+        ≡ cond (is_provider p o.host) (insert_entry same_origin (filter (of_provider p) (e ∷ es)) o s)
+        (filter (of_provider p) (e ∷ es))
+    pick true is ih =
+        let one : is_provider p e.0.host ≡ is_provider p o.host = ap (λ x. is_provider p x.host) (sym (same_origin_is o e.0 is)) in
+        there (is_provider p e.0.host) is
+        ∙ ap (λ b. cond b (insert_entry same_origin (filter (of_provider p) (e ∷ es)) o s) (filter (of_provider p) (e ∷ es))) one
+    pick false is ih =
+        ap (λ l. cond (is_provider p e.0.host) (e ∷ l) l) ih ∙ apart (is_provider p e.0.host) (is_provider p o.host) is
+
+their_entries : (p : Providers) (effects : List Effect) (es : Logins)
+    → filter (of_provider p) (entries_after same_origin login_change effects es)
+    ≡ entries_after same_origin (their_login p) effects (filter (of_provider p) es)
+their_entries p [] es = refl
+their_entries p (does.Login origin status ∷ effects) es =
+    their_entries p effects (insert_entry same_origin es origin status)
+    ∙ ap (entries_after same_origin (their_login p) effects) (set_among p origin status es)
+    ∙ go (is_provider p origin.host)
+  where
+    among : Logins
+    among = filter (of_provider p) es
+
+    go : (b : Bool) → entries_after same_origin (their_login p) effects (cond b (insert_entry same_origin among origin status) among)
+        ≡ entries_after same_origin (their_login p) effects (changed same_origin (cond b (Some (origin, Some status)) None) among)
+    go true = refl
+    go false = refl
+their_entries p (does.Time time ∷ effects) es = their_entries p effects es
+their_entries p (does.Page page origin ∷ effects) es = their_entries p effects es
+their_entries p (does.Closed page ∷ effects) es = their_entries p effects es
+their_entries p (does.Cookie cookie ∷ effects) es = their_entries p effects es
+their_entries p (does.Begin b ∷ effects) es = their_entries p effects es
+their_entries p (does.Move call stage ∷ effects) es = their_entries p effects es
+their_entries p (does.Sent call provider ask cookies ∷ effects) es = their_entries p effects es
+their_entries p (does.Shown call dialog ∷ effects) es = their_entries p effects es
+their_entries p (does.Window call provider url ∷ effects) es = their_entries p effects es
+their_entries p (does.Kept triple stays ∷ effects) es = their_entries p effects es
+their_entries p (does.Flag origin stays ∷ effects) es = their_entries p effects es
+their_entries p (does.Result call page finish ∷ effects) es = their_entries p effects es
+their_entries p (does.Ignored why ∷ effects) es = their_entries p effects es
+
+their_logins : (p : Providers) (rows : List Row)
+    → filter (of_provider p) (standing same_origin login_change rows) ≡ standing same_origin (their_login p) rows
+their_logins p [] = refl
+their_logins p (row ∷ rows) =
+    their_entries p row.effects (standing same_origin login_change rows)
+    ∙ ap (entries_after same_origin (their_login p) row.effects) (their_logins p rows)
+
+logins_same : (p : Providers) (T U : Trace) → view p T.rows ≡ view p U.rows
+    → filter (of_provider p) (logins T) ≡ filter (of_provider p) (logins U)
+logins_same p T U same =
+    their_logins p T.rows ∙ standing-seen (seen p) same_origin (their_login p) login_seen (login_is p) T.rows
+    ∙ ap (λ v. entries_after same_origin login_seen v []) same
+    ∙ sym (standing-seen (seen p) same_origin (their_login p) login_seen (login_is p) U.rows) ∙ sym (their_logins p U.rows)
+
+-- the status of the origin of a provider is among them
+found_among : (p : Providers) (o : Origin) (es : Logins) → is_provider p o.host ≡ true
+    → lookup (same_origin o) (filter (of_provider p) es) ≡ lookup (same_origin o) es
+found_among p o [] known = refl
+found_among p o (e ∷ es) known = pick (same_origin o e.0) refl (found_among p o es known)
+  where
+    rest : Logins
+    rest = filter (of_provider p) es
+
+    skip : (b : Bool) → same_origin o e.0 ≡ false → lookup (same_origin o) (cond b (e ∷ rest) rest) ≡ lookup (same_origin o) rest
+    skip true ne = ap (λ t. cond t (Some e.1) (lookup (same_origin o) rest)) ne
+    skip false ne = refl
+
+    pick : (t : Bool) → same_origin o e.0 ≡ t → lookup (same_origin o) rest ≡ lookup (same_origin o) es
+        → lookup (same_origin o) (filter (of_provider p) (e ∷ es)) ≡ cond t (Some e.1) (lookup (same_origin o) es)
+    pick true is ih =
+        let one : is_provider p e.0.host ≡ true = ap (λ x. is_provider p x.host) (sym (same_origin_is o e.0 is)) ∙ known in
+        ap (λ b. lookup (same_origin o) (cond b (e ∷ rest) rest)) one ∙ ap (λ t. cond t (Some e.1) (lookup (same_origin o) rest)) is
+    pick false is ih = skip (is_provider p e.0.host) is ∙ ih
+
+pub status_same : (p : Providers) (T U : Trace) (o : Origin) → is_provider p o.host ≡ true → view p T.rows ≡ view p U.rows
+    → status_of (logins T) o ≡ status_of (logins U) o
+status_same p T U o known same =
+    ap (λ s. unwrap_or s Unknown)
+    (sym (found_among p o (logins T) known) ∙ ap (lookup (same_origin o)) (logins_same p T U same) ∙ found_among p o (logins U) known)

@@ -1,0 +1,6 @@
+-- Two worlds after a kept event, and after all of them.
+pub mod Flip
+pub mod Grow
+pub mod Pages
+pub mod Steps
+pub mod Worlds

@@ -1,0 +1,247 @@
+-- Events that name no call keep the worlds the same.
+use Rattle.std.proofs.Common.{◌≡◌, ℕ, Bool, true, false, nat_eq, ◌⊎◌, inl, inr, List, [], ◌∷◌, ◌++◌, map, Option, Some, None, refl, sym, ap, ap₂, subst, ◌∙◌}
+use Rattle.std.proofs.lemmas.List.Elements.{filter_map-append}
+use Rattle.std.specs.Prelude.{option_map, option_and_then, if◌then◌else◌}
+use Rattle.std.specs.List.{filter_map, cons_option}
+use Rattle.url.specs.Parts.{Parts}
+use Rattle.fed_origin.specs.declared.origin.Origin.{Origin}
+use Rattle.fed_origin.specs.declared.stage.Stage.TheVariants.{Ended}
+use Rattle.fed_origin.specs.declared.status.LoginStatus.{LoginStatus}
+use Rattle.fed_origin.specs.Origin.{is_trustworthy}
+use Rattle.fed_origin.specs.WebUrl.{host_of, origin_of}
+use Rattle.fed_cookie.specs.Fields.{set_cookie_of}
+use Rattle.fed_cookie.specs.SetCookie.{SetCookie}
+use Rattle.fed_jar.specs.Cookie.{StoredCookie}
+use Rattle.fed_jar.specs.Store as store
+use Rattle.fed_jar.proofs.parties.Parties.{stored_party}
+use Rattle.fed_call.specs.Facts.{Facts}
+use Rattle.fed_script.specs.declared.event.Event.TheVariants as events
+use Rattle.fed_script.specs.declared.event.Have.{Have}
+use Rattle.fed_trace.specs.Effect.{Page, Closed, Cookie, stage_change}
+use Rattle.fed_trace.specs.Keyed.{last_said}
+use Rattle.fed_trace.specs.Known.{facts_at}
+use Rattle.fed_trace.specs.Row.{with_event, ends_of, load_effects, close_effects, cookie_from, cookies_from, cookie_effects, login_effects, have_cookies, have_logins, set_cookies, set_logins, status_effects, standing_status}
+use Rattle.fed_trace.specs.Trace.{Trace, page_at, pending_of, calls_of, now_at}
+use Rattle.fed_twin.specs.Providers.{Providers, is_provider}
+use Rattle.fed_twin.specs.Seen.{told_origin, seen}
+use Rattle.fed_twin.specs.Seen as views
+use Rattle.fed_twin.specs.Same.{SameCall, SameWorlds}
+use Rattle.fed_twin.specs.Twin.{AreFar}
+use Rattle.fed_twin.proofs.calls.Facts.{facts_left, facts_load, facts_close, facts_ignored, said_ends}
+use Rattle.fed_twin.proofs.worlds.Grow.{grow}
+use Rattle.fed_twin.proofs.seen.Look.{told, now_same, page_same, pending_same, same_party}
+
+-- a call that both leave is the same
+pub call_left : (p : Providers) (T U : Trace) → SameWorlds p T U → (q : ℕ) (f f' : Option Facts) → f ≡ facts_at T q
+    → f' ≡ facts_at U q → SameCall p f f'
+call_left p T U h q f f' e e' = subst (λ x. SameCall p x f') (sym e) (subst (SameCall p (facts_at T q)) (sym e') (h.calls q))
+
+-- a call that ends in both is the same
+pub call_over : (p : Providers) (f f' : Option Facts) → f ≡ None → f' ≡ None → SameCall p f f'
+call_over p f f' e e' = subst (λ x. SameCall p x f') (sym e) (subst (SameCall p None) (sym e') tt)
+
+pendings : (p : Providers) (T U : Trace) → SameWorlds p T U → (page : ℕ) → pending_of T page ≡ pending_of U page
+pendings p T U h page = ap (calls_of page) (pending_same p T U h.seen)
+
+-- ---- events of no page
+
+pub step_have : (p : Providers) (T U : Trace) → SameWorlds p T U → (line line' : ℕ) (have : Have)
+    → SameWorlds p (with_event T line (events.Have have)) (with_event U line' (events.Have have))
+step_have p T U h line line' have =
+    grow p T U h line line' (events.Have have) (events.Have have)
+    (ap (λ cs. filter_map (seen p) (cookie_effects cs ++ have_logins have))
+    (ap (λ r. have_cookies r (now_at T) have)
+    (h.rules ∙ sym h.rules') ∙ ap (λ n. have_cookies U.header.rules n have) (now_same p T U h.now h.seen)))
+    (λ q. call_left p T U h q _ _ (facts_left T line (events.Have have) q refl (λ page. refl) refl) (facts_left U line'
+    (events.Have have) q refl (λ page. refl) refl))
+
+pub step_at : (p : Providers) (T U : Trace) → SameWorlds p T U → (line line' time : ℕ)
+    → SameWorlds p (with_event T line (events.At time)) (with_event U line' (events.At time))
+step_at p T U h line line' time =
+    grow p T U h line line' (events.At time) (events.At time) refl
+    (λ q. call_left p T U h q _ _ (facts_left T line (events.At time) q refl (λ page. refl) refl) (facts_left U line'
+    (events.At time) q refl (λ page. refl) refl))
+
+-- ---- a page sets the status of its origin
+
+status_seen : (p : Providers) (o u : Option Origin) → option_map (told p) o ≡ option_map (told p) u → (status : LoginStatus)
+    → filter_map (seen p) (status_effects o status) ≡ filter_map (seen p) (status_effects u status)
+status_seen p None None e status = refl
+status_seen p None (Some u) e status = absurd (cc)
+status_seen p (Some o) None e status = absurd (cc)
+status_seen p (Some o) (Some u) e status = go (is_trustworthy o) (is_trustworthy u) (ap (λ t. t.trusted) same)
+  where
+    same : told p o ≡ told p u
+    same = cc
+
+    named : told_origin p o ≡ told_origin p u
+    named = ap (λ t. t.origin) same
+
+    shown : (a b : Bool) → (if a then Some o else None) ≡ (if b then Some u else None)
+        → cons_option (if a then Some (views.Login o status) else None) []
+        ≡ cons_option (if b then Some (views.Login u status) else None) []
+    shown true true k = let one : o ≡ u = cc in ap (λ x. views.Login x status ∷ []) one
+    shown true false k = absurd (cc)
+    shown false true k = absurd (cc)
+    shown false false k = refl
+
+    go : (a b : Bool) → a ≡ b → filter_map (seen p) (standing_status a o status) ≡ filter_map (seen p) (standing_status b u status)
+    go true true k = shown (is_provider p o.host) (is_provider p u.host) named
+    go true false k = absurd (cc)
+    go false true k = absurd (cc)
+    go false false k = refl
+
+pub step_status : (p : Providers) (T U : Trace) → SameWorlds p T U → (line line' page : ℕ) (status : LoginStatus)
+    → SameWorlds p (with_event T line (events.SetStatus page status)) (with_event U line' (events.SetStatus page status))
+step_status p T U h line line' page status =
+    grow p T U h line line' (events.SetStatus page status) (events.SetStatus page status)
+    (status_seen p (page_at T page) (page_at U page) (page_same p T U page h.seen) status)
+    (λ q. call_left p T U h q _ _ (facts_left T line (events.SetStatus page status) q refl (λ page. refl) refl)
+    (facts_left U line' (events.SetStatus page status) q refl (λ page. refl) refl))
+
+-- ---- pages that close
+
+-- calls that end with their page in both worlds
+ended_same : (p : Providers) (T U : Trace) → SameWorlds p T U → (q : ℕ) (calls calls' : List ℕ) → calls ≡ calls'
+    → (f f' : Option Facts)
+    → ((last_said nat_eq stage_change q (ends_of calls) ≡ None → f ≡ facts_at T q) ×
+    (last_said nat_eq stage_change q (ends_of calls) ≡ Some (Some Ended) → f ≡ None))
+    → ((last_said nat_eq stage_change q (ends_of calls') ≡ None → f' ≡ facts_at U q) ×
+    (last_said nat_eq stage_change q (ends_of calls') ≡ Some (Some Ended) → f' ≡ None))
+    → SameCall p f f'
+ended_same p T U h q calls calls' e f f' is is' = go (said_ends q calls)
+  where
+    go : (last_said nat_eq stage_change q (ends_of calls) ≡ None) ⊎
+        (last_said nat_eq stage_change q (ends_of calls) ≡ Some (Some Ended)) → SameCall p f f'
+    go (inl k) = call_left p T U h q f f' (is.0 k) (is'.0 (ap (λ cs. last_said nat_eq stage_change q (ends_of cs)) (sym e) ∙ k))
+    go (inr k) = call_over p f f' (is.1 k) (is'.1 (ap (λ cs. last_said nat_eq stage_change q (ends_of cs)) (sym e) ∙ k))
+
+pub step_close : (p : Providers) (T U : Trace) → SameWorlds p T U → (line line' page : ℕ)
+    → SameWorlds p (with_event T line (events.ClosePage page)) (with_event U line' (events.ClosePage page))
+step_close p T U h line line' page = go (page_at T page) (page_at U page) refl refl (page_same p T U page h.seen)
+  where
+    go : (o u : Option Origin) → page_at T page ≡ o → page_at U page ≡ u
+        → option_map (told p) (page_at T page) ≡ option_map (told p) (page_at U page)
+        → SameWorlds p (with_event T line (events.ClosePage page)) (with_event U line' (events.ClosePage page))
+    go None None is is' e =
+        let none = ap (close_effects (pending_of T page) page) is in
+        let none' = ap (close_effects (pending_of U page) page) is' in
+        grow p T U h line line' (events.ClosePage page) (events.ClosePage page)
+        (ap (filter_map (seen p)) none ∙ sym (ap (filter_map (seen p)) none'))
+        (λ q. call_left p T U h q _ _ (facts_ignored T line (events.ClosePage page) q _ none (λ f. refl)) (facts_ignored U line'
+        (events.ClosePage page) q _ none' (λ f. refl)))
+    go (Some o) (Some u) is is' e =
+        grow p T U h line line' (events.ClosePage page) (events.ClosePage page)
+        (ap (λ x. filter_map (seen p) (close_effects (pending_of T page) page x)) is
+        ∙ ap (λ cs. filter_map (seen p) (ends_of cs ++ Closed page ∷ [])) (pendings p T U h page)
+        ∙ sym (ap (λ x. filter_map (seen p) (close_effects (pending_of U page) page x)) is'))
+        (λ q. ended_same p T U h q (pending_of T page) (pending_of U page) (pendings p T U h page) _ _ (facts_close T line page q o is)
+        (facts_close U line' page q u is'))
+    go None (Some u) is is' e =
+        absurd (let no : None ≡ Some (told p u) = sym (ap (option_map (told p)) is) ∙ e ∙ ap (option_map (told p)) is' in cc)
+    go (Some o) None is is' e =
+        absurd (let no : Some (told p o) ≡ None = sym (ap (option_map (told p)) is) ∙ e ∙ ap (option_map (told p)) is' in cc)
+
+-- ---- loads
+
+load_calls : (p : Providers) (T U : Trace) → SameWorlds p T U
+    → (line line' page : ℕ) (url url' : Parts) (raw raw' : Option (List ℕ)) (q : ℕ)
+    → SameCall p (facts_at (with_event T line (events.Load page url raw)) q)
+    (facts_at (with_event U line' (events.Load page url' raw')) q)
+load_calls p T U h line line' page url url' raw raw' q =
+    ended_same p T U h q (pending_of T page) (pending_of U page) (pendings p T U h page) _ _ (facts_load T line page url raw q)
+    (facts_load U line' page url' raw' q)
+
+pub step_load : (p : Providers) (T U : Trace) → SameWorlds p T U → (line line' page : ℕ) (url : Parts) (raw : Option (List ℕ))
+    → SameWorlds p (with_event T line (events.Load page url raw)) (with_event U line' (events.Load page url raw))
+step_load p T U h line line' page url raw =
+    grow p T U h line line' (events.Load page url raw) (events.Load page url raw)
+    (ap (λ cs. filter_map (seen p)
+    (load_effects cs page url (cookies_from T.header.rules url (now_at T) (set_cookies raw))
+    (set_logins raw))) (pendings p T U h page)
+    ∙ ap (λ r. filter_map (seen p)
+    (load_effects (pending_of U page) page url (cookies_from r url (now_at T) (set_cookies raw)) (set_logins raw))) (h.rules
+    ∙ sym h.rules')
+    ∙ ap (λ n. filter_map (seen p)
+    (load_effects (pending_of U page) page url (cookies_from U.header.rules url n (set_cookies raw))
+    (set_logins raw))) (now_same p T U h.now h.seen))
+    (load_calls p T U h line line' page url url raw raw)
+
+-- a load of no provider's party: only the page is seen, and that it is trustworthy
+
+-- a cookie that is stored is of no provider's party
+stored_far : (p : Providers) (url : Parts) (now : ℕ) (raw : SetCookie) (scope : Option Bool)
+    → store.scope_of p.rules url raw ≡ scope → is_provider p (host_of url) ≡ false
+    → (cookie : StoredCookie) → option_map (store.cookie_from url now raw) scope ≡ Some cookie
+    → is_provider p cookie.domain ≡ false
+unfolding store.cookie_from
+stored_far p url now raw None e far cookie is = absurd (cc)
+stored_far p url now raw (Some only) e far cookie is =
+    let one : store.cookie_from url now raw only ≡ cookie = cc in
+    subst (λ c. is_provider p c.domain ≡ false) one (same_party p _ (host_of url) (stored_party p.rules url raw only e) ∙ far)
+
+far_cookie : (p : Providers) (url : Parts) (now : ℕ) (field : List ℕ) → is_provider p (host_of url) ≡ false
+    → (cookie : Option StoredCookie)
+    → cookie_from p.rules url now field ≡ cookie → filter_map (seen p) (map Cookie (cons_option cookie [])) ≡ []
+far_cookie p url now field far None is = refl
+far_cookie p url now field far (Some cookie) is =
+    ap (λ b. cons_option (if b then Some (views.Cookie cookie) else None) []) (go (set_cookie_of field) refl)
+  where
+    go : (raw : Option SetCookie) → set_cookie_of field ≡ raw → is_provider p cookie.domain ≡ false
+    go None e = absurd (let no : None ≡ Some cookie = sym (ap (option_and_then (store.cookie_of p.rules url now)) e) ∙ is in cc)
+    go (Some raw) e =
+        stored_far p url now raw (store.scope_of p.rules url raw) refl far cookie
+        (sym (ap (option_and_then (store.cookie_of p.rules url now)) e) ∙ is)
+
+far_cookies : (p : Providers) (url : Parts) (now : ℕ) (fields : List (List ℕ)) → is_provider p (host_of url) ≡ false
+    → filter_map (seen p) (cookie_effects (cookies_from p.rules url now fields)) ≡ []
+far_cookies p url now [] far = refl
+far_cookies p url now (field ∷ fields) far = go (cookie_from p.rules url now field) refl (far_cookies p url now fields far)
+  where
+    go : (cookie : Option StoredCookie) → cookie_from p.rules url now field ≡ cookie
+        → filter_map (seen p) (cookie_effects (cookies_from p.rules url now fields)) ≡ []
+        → filter_map (seen p) (cookie_effects (cons_option cookie (cookies_from p.rules url now fields))) ≡ []
+    go None is rest = rest
+    go (Some cookie) is rest =
+        let here : cons_option (if is_provider p cookie.domain then Some (views.Cookie cookie) else None) []
+        ≡ [] = far_cookie p url now field far (Some cookie) is in
+        ap (cons_option (if is_provider p cookie.domain then Some (views.Cookie cookie) else None)) rest ∙ here
+
+far_logins : (p : Providers) (origin : Origin) (statuses : List LoginStatus) → is_provider p origin.host ≡ false
+    → filter_map (seen p) (login_effects origin statuses) ≡ []
+far_logins p origin [] far = refl
+far_logins p origin (status ∷ statuses) far =
+    ap (λ b. cons_option (if b then Some (views.Login origin status) else None)
+    (filter_map (seen p) (login_effects origin statuses))) far ∙ far_logins p origin statuses far
+
+far_load : (p : Providers) (calls : List ℕ) (page : ℕ) (url : Parts) (now : ℕ) (fields : List (List ℕ))
+    (statuses : List LoginStatus) → is_provider p (host_of url) ≡ false
+    → filter_map (seen p) (load_effects calls page url (cookies_from p.rules url now fields) statuses)
+    ≡ filter_map (seen p) (ends_of calls) ++ views.Page page (is_trustworthy (origin_of url)) None ∷ []
+far_load p calls page url now fields statuses far =
+    let cookies = cookies_from p.rules url now fields in
+    let rest : filter_map (seen p) (cookie_effects cookies ++ login_effects (origin_of url) statuses) ≡ [] =
+    filter_map-append (seen p) (cookie_effects cookies) (login_effects (origin_of url) statuses)
+    ∙ ap (λ xs. xs ++ filter_map (seen p) (login_effects (origin_of url) statuses)) (far_cookies p url now fields far)
+    ∙ far_logins p (origin_of url) statuses far in
+    filter_map-append (seen p) (ends_of calls)
+    (Page page (origin_of url) ∷ (cookie_effects cookies ++ login_effects (origin_of url) statuses))
+    ∙ ap (λ xs. filter_map (seen p) (ends_of calls) ++ views.Page page (is_trustworthy (origin_of url))
+    (told_origin p (origin_of url)) ∷ xs) rest
+    ∙ ap (λ b. filter_map (seen p) (ends_of calls) ++ views.Page page (is_trustworthy (origin_of url))
+    (if b then Some (origin_of url) else None) ∷ []) far
+
+pub step_far_load : (p : Providers) (T U : Trace) → SameWorlds p T U
+    → (line line' page : ℕ) (url url' : Parts) (raw raw' : Option (List ℕ)) → AreFar p url url'
+    → SameWorlds p (with_event T line (events.Load page url raw)) (with_event U line' (events.Load page url' raw'))
+step_far_load p T U h line line' page url url' raw raw' far =
+    grow p T U h line line' (events.Load page url raw) (events.Load page url' raw')
+    (ap (λ r. filter_map (seen p)
+    (load_effects (pending_of T page) page url (cookies_from r url (now_at T) (set_cookies raw)) (set_logins raw))) h.rules
+    ∙ far_load p (pending_of T page) page url (now_at T) (set_cookies raw) (set_logins raw) far.far
+    ∙ ap₂ (λ cs b. filter_map (seen p) (ends_of cs) ++ views.Page page b None ∷ []) (pendings p T U h page) far.trust
+    ∙ sym (far_load p (pending_of U page) page url' (now_at U) (set_cookies raw') (set_logins raw') far.far')
+    ∙ ap (λ r. filter_map (seen p)
+    (load_effects (pending_of U page) page url' (cookies_from r url' (now_at U) (set_cookies raw'))
+    (set_logins raw'))) (sym h.rules'))
+    (load_calls p T U h line line' page url url' raw raw')

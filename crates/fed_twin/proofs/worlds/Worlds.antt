@@ -1,0 +1,299 @@
+-- Two traces that grow together stay the same, as far as providers can tell, until either asks for a token.
+use Rattle.std.proofs.Common.{◌≡◌, ℕ, zero, suc, Bool, true, false, cond, ◌||◌, ◌⊎◌, inl, inr, List, [], ◌∷◌, ◌++◌, map, zip, length, Option, refl, sym, ap, subst, arith}
+use Rattle.std.proofs.lemmas.Slice.Eq.{bytes_eq-Decides}
+use Rattle.std.specs.Prelude.{bytes_eq, if◌then◌else◌}
+use Rattle.std.specs.List.{list_any, AllByRecursion, AllZip}
+use Rattle.url.specs.Parts.{Parts}
+use Rattle.fed_origin.specs.declared.options.ProviderOptions.{ProviderOptions}
+use Rattle.fed_origin.specs.declared.stage.ReplyKind.{ReplyKind}
+use Rattle.fed_origin.specs.declared.stage.ReplyKind.TheVariants as kinds
+use Rattle.fed_origin.specs.WebUrl.{host_of}
+use Rattle.fed_suffix.specs.Registrable.{party}
+use Rattle.fed_consent.specs.declared.table.input.Input.TheVariants as inputs
+use Rattle.fed_script.specs.declared.event.Event.{Event}
+use Rattle.fed_script.specs.declared.event.Event.TheVariants as events
+use Rattle.fed_script.specs.declared.event.Numbered.{Numbered}
+use Rattle.fed_script.specs.Script.{Script, AreRead}
+use Rattle.fed_script.specs.Used.{UsedState, unused, used_after, HasOneProvider}
+use Rattle.fed_trace.specs.Row.{effects_of, with_event}
+use Rattle.fed_trace.specs.Trace.{Trace}
+use Rattle.fed_trace.specs.OfScript.{start, with_events}
+use Rattle.fed_twin.specs.Script.{is_kept, kept_events, up_to, trace_to, names, AreQuiet}
+use Rattle.fed_twin.specs.Providers.{Providers, is_provider}
+use Rattle.fed_twin.specs.Same.{SameProvider, SameOptions, SameWorlds}
+use Rattle.fed_twin.specs.Pairs.{Alike, Haves, Times, Loads, FarLoads, Closes, Statuses, Gets, Aborts, Goings, Cancels, Choices, WellKnowns, Configs, AccountLists, Assertions, Disconnects, Pairs, Start, Both, Left, Right}
+use Rattle.fed_twin.specs.Twin.{kind_of, SharesProvider, SharesBytes, SharesMembers, SharesLoad, AreFar, configs_in, configs, providers_of}
+use Rattle.fed_twin.specs.Laws.{TwoWorlds}
+use Rattle.fed_twin.proofs.worlds.Flip.{flip_worlds}
+use Rattle.fed_twin.proofs.seen.Look.{sign_in_same}
+use Rattle.fed_twin.proofs.worlds.Pages.{step_have, step_at, step_status, step_close, step_load, step_far_load}
+use Rattle.fed_twin.proofs.worlds.Steps.{step_get, step_input, step_metadata, row_wellknown, row_config, row_accounts, row_assertion, row_disconnect, row_choose, row_go_on, row_cancel, row_abort, is_reply, is_choose, is_go_on, is_cancel, is_abort}
+
+-- ---- one row more
+
+step_alike : (p : Providers) (T U : Trace) → SameWorlds p T U → (line line' : ℕ) {event event' : Event} → Alike p event event'
+    → list_any names (effects_of T event) ≡ false → list_any names (effects_of U event') ≡ false
+    → SameWorlds p (with_event T line event) (with_event U line' event')
+step_alike p T U h line line' (Haves have) q q' = step_have p T U h line line' have
+step_alike p T U h line line' (Times time) q q' = step_at p T U h line line' time
+step_alike p T U h line line' (Loads page url raw) q q' = step_load p T U h line line' page url raw
+step_alike p T U h line line' (FarLoads page url url' raw raw' far) q q' = step_far_load p T U h line line' page url url' raw raw' far
+step_alike p T U h line line' (Closes page) q q' = step_close p T U h line line' page
+step_alike p T U h line line' (Statuses page status) q q' = step_status p T U h line line' page status
+step_alike p T U h line line' (Gets page call options options' same one) q q' =
+    step_get p T U h line line' page call options options' same one
+step_alike p T U h line line' (Aborts call) q q' =
+    step_input p T U h line line' _ _ call inputs.Abort inputs.Abort (is_abort call) (is_abort call) (row_abort p T U h) q q'
+step_alike p T U h line line' (Goings call) q q' =
+    step_input p T U h line line' _ _ call inputs.GoOn inputs.GoOn (is_go_on call) (is_go_on call) (row_go_on p T U h) q q'
+step_alike p T U h line line' (Cancels call) q q' =
+    step_input p T U h line line' _ _ call inputs.Cancel inputs.Cancel (is_cancel call) (is_cancel call) (row_cancel p T U h) q q'
+step_alike p T U h line line' (Choices call place id) q q' =
+    step_input p T U h line line' _ _ call (inputs.Choose place id) (inputs.Choose place id) (is_choose call place id)
+    (is_choose call place id) (row_choose p T U h place id) q q'
+step_alike p T U h line line' (WellKnowns call place raw) q q' =
+    step_input p T U h line line' _ _ call (inputs.Reply place kinds.WellKnown raw) (inputs.Reply place kinds.WellKnown raw)
+    (is_reply call place kinds.WellKnown raw) (is_reply call place kinds.WellKnown raw) (row_wellknown p T U h place raw) q q'
+step_alike p T U h line line' (Configs call place raw) q q' =
+    step_input p T U h line line' _ _ call (inputs.Reply place kinds.Config raw) (inputs.Reply place kinds.Config raw)
+    (is_reply call place kinds.Config raw) (is_reply call place kinds.Config raw) (row_config p T U h place raw) q q'
+step_alike p T U h line line' (AccountLists call place raw) q q' =
+    step_input p T U h line line' _ _ call (inputs.Reply place kinds.Accounts raw) (inputs.Reply place kinds.Accounts raw)
+    (is_reply call place kinds.Accounts raw) (is_reply call place kinds.Accounts raw) (row_accounts p T U h place raw) q q'
+step_alike p T U h line line' (Assertions call place raw raw') q q' =
+    step_input p T U h line line' _ _ call (inputs.Reply place kinds.Assertion raw) (inputs.Reply place kinds.Assertion raw')
+    (is_reply call place kinds.Assertion raw) (is_reply call place kinds.Assertion raw') (row_assertion p T U h place raw raw') q q'
+step_alike p T U h line line' (Disconnects call place raw raw') q q' =
+    step_input p T U h line line' _ _ call (inputs.Reply place kinds.Disconnect raw) (inputs.Reply place kinds.Disconnect raw')
+    (is_reply call place kinds.Disconnect raw) (is_reply call place kinds.Disconnect raw') (row_disconnect p T U h place raw raw') q q'
+
+-- an event that is not compared, in one world alone
+step_alone : (p : Providers) (T U : Trace) → SameWorlds p T U → (line : ℕ) (event : Event) → is_kept event ≡ false
+    → SameWorlds p (with_event T line event) U
+step_alone p T U h line (events.Reply call place kinds.Metadata raw) out = step_metadata p T U h line call place raw
+step_alone p T U h line (events.Reply call place kinds.WellKnown raw) out = absurd (cc)
+step_alone p T U h line (events.Reply call place kinds.Config raw) out = absurd (cc)
+step_alone p T U h line (events.Reply call place kinds.Accounts raw) out = absurd (cc)
+step_alone p T U h line (events.Reply call place kinds.Assertion raw) out = absurd (cc)
+step_alone p T U h line (events.Reply call place kinds.Disconnect raw) out = absurd (cc)
+step_alone p T U h line (events.Have have) out = absurd (cc)
+step_alone p T U h line (events.At time) out = absurd (cc)
+step_alone p T U h line (events.Load page url raw) out = absurd (cc)
+step_alone p T U h line (events.ClosePage page) out = absurd (cc)
+step_alone p T U h line (events.Get page call options) out = absurd (cc)
+step_alone p T U h line (events.Abort call) out = absurd (cc)
+step_alone p T U h line (events.GoOn call) out = absurd (cc)
+step_alone p T U h line (events.Cancel call) out = absurd (cc)
+step_alone p T U h line (events.Choose call place id) out = absurd (cc)
+step_alone p T U h line (events.SetStatus page status) out = absurd (cc)
+
+-- the induction
+pub stay_same : (p : Providers) {T U : Trace} → Pairs p (Alike p) T U → AreQuiet T.rows → AreQuiet U.rows → SameWorlds p T U
+stay_same p (Start a b rules rules' now) q q' = record { rules = rules; rules' = rules'; now = now; seen = refl; calls = λ call. tt }
+stay_same p (Both T U line line' event event' alike pairs) q q' = step_alike p T U (stay_same p pairs q.1 q'.1) line line' alike q.0 q'.0
+stay_same p (Left T U line event out pairs) q q' = step_alone p T U (stay_same p pairs q.1 q') line event out
+stay_same p (Right T U line event out pairs) q q' =
+    flip_worlds p (with_event U line event) T (step_alone p U T (flip_worlds p T U (stay_same p pairs q q'.1)) line event out)
+
+-- ---- scripts that go together make such traces
+
+-- only events that are not compared are left of the second script
+rest_alone : (p : Providers) (R : Event → Event → Type 0) (ys : List Numbered) → AllZip R [] (kept_events ys)
+    → (k : ℕ) (T U : Trace) → Pairs p R T U → Pairs p R T (with_events U (up_to (suc k) ys))
+rest_alone p R [] h k T U pairs = pairs
+rest_alone p R (y ∷ ys) h k T U pairs = go (is_kept y.event) refl h (λ h' U' pairs'. rest_alone p R ys h' k T U' pairs')
+  where
+    go : (b : Bool) → is_kept y.event ≡ b → AllZip R [] (cond b (y.event ∷ kept_events ys) (kept_events ys))
+        → (AllZip R [] (kept_events ys) → (U' : Trace) → Pairs p R T U' → Pairs p R T (with_events U' (up_to (suc k) ys)))
+        → Pairs p R T (with_events (with_event U y.line y.event) (up_to (if b then k else suc k) ys))
+    go true is h' more = absurd h'
+    go false is h' more = more h' (with_event U y.line y.event) (Right T U y.line y.event is pairs)
+
+pub go_together : (p : Providers) (R : Event → Event → Type 0) (xs ys : List Numbered) → AllZip R (kept_events xs) (kept_events ys)
+    → (k : ℕ) (T U : Trace) → Pairs p R T U
+    → Pairs p R (with_events T (up_to k xs)) (with_events U (up_to k ys))
+go_together p R xs ys h zero T U pairs = pairs
+go_together p R [] ys h (suc k) T U pairs = rest_alone p R ys h k T U pairs
+go_together p R (x ∷ xs) ys h (suc k) T U pairs =
+    go (is_kept x.event) refl h (λ ys' h' n T' U' pairs'. go_together p R xs ys' h' n T' U' pairs')
+  where
+    Rest : Type 0
+    Rest = (ys' : List Numbered) → AllZip R (kept_events xs) (kept_events ys') → (n : ℕ) (T' U' : Trace) → Pairs p R T' U'
+        → Pairs p R (with_events T' (up_to n xs)) (with_events U' (up_to n ys'))
+
+    -- up to the next event of the second script that is compared
+    next : (is : is_kept x.event ≡ true) (zs : List Numbered) → AllZip R (x.event ∷ kept_events xs) (kept_events zs) → (V : Trace)
+        → Pairs p R T V → Rest
+        → Pairs p R (with_events (with_event T x.line x.event) (up_to k xs)) (with_events V (up_to (suc k) zs))
+    next is [] h' V pairs' rest = absurd h'
+    next is (z ∷ zs) h' V pairs' rest = at (is_kept z.event) refl h' (λ h'' V' pairs''. next is zs h'' V' pairs'' rest)
+      where
+        at : (b : Bool) → is_kept z.event ≡ b
+            → AllZip R (x.event ∷ kept_events xs) (cond b (z.event ∷ kept_events zs) (kept_events zs))
+            → (AllZip R (x.event ∷ kept_events xs) (kept_events zs) → (V' : Trace) → Pairs p R T V'
+            → Pairs p R (with_events (with_event T x.line x.event) (up_to k xs)) (with_events V' (up_to (suc k) zs)))
+            → Pairs p R (with_events (with_event T x.line x.event) (up_to k xs))
+            (with_events (with_event V z.line z.event) (up_to (if b then k else suc k) zs))
+        at true known both more =
+            rest zs both.1 k (with_event T x.line x.event) (with_event V z.line z.event)
+            (Both T V x.line z.line x.event z.event both.0 pairs')
+        at false out both more = more both (with_event V z.line z.event) (Right T V z.line z.event out pairs')
+
+    go : (b : Bool) → is_kept x.event ≡ b → AllZip R (cond b (x.event ∷ kept_events xs) (kept_events xs)) (kept_events ys) → Rest
+        → Pairs p R (with_events (with_event T x.line x.event) (up_to (if b then k else suc k) xs)) (with_events U (up_to (suc k) ys))
+    go true is h' rest = next is ys h' U pairs rest
+    go false is h' rest = rest ys h' (suc k) (with_event T x.line x.event) U (Left T U x.line x.event is pairs)
+
+-- ---- twins go together
+
+-- the URL is among those whose parties the worlds speak of
+abbrev In : Script → Parts → List Parts → Type 0
+In a url urls = list_any (bytes_eq (party a.header.rules (host_of url))) (map (λ u. party a.header.rules (host_of u)) urls) ≡ true
+
+either : (x y : Bool) → y ≡ true → x || y ≡ true
+either true y h = refl
+either false y h = h
+
+all_in : (a : Script) (urls : List Parts) → AllByRecursion (λ u. In a u urls) urls
+all_in a [] = tt
+all_in a (u ∷ urls) =
+    let name = party a.header.rules (host_of u) in (
+      ap (λ b. b || list_any (bytes_eq name) (map (λ v. party a.header.rules (host_of v)) urls)) ((bytes_eq-Decides name name).1 refl),
+      later urls (all_in a urls),
+    )
+  where
+    later : (vs : List Parts) → AllByRecursion (λ v. In a v urls) vs → AllByRecursion (λ v. In a v (u ∷ urls)) vs
+    later [] h = tt
+    later (v ∷ vs) h = (either _ _ h.0, later vs h.1)
+
+-- of all that is so of joined lists, the first
+first_part : {A : Type 0} (P : A → Type 0) (xs ys : List A) → AllByRecursion P (xs ++ ys) → AllByRecursion P xs
+first_part P [] ys h = tt
+first_part P (x ∷ xs) ys h = (h.0, first_part P xs ys h.1)
+
+second_part : {A : Type 0} (P : A → Type 0) (xs ys : List A) → AllByRecursion P (xs ++ ys) → AllByRecursion P ys
+second_part P [] ys h = h
+second_part P (x ∷ xs) ys h = second_part P xs ys h.1
+
+-- what is so of each configuration URL of a script is so of those of each event
+each_event : (P : Parts → Type 0) (ns : List Numbered) → AllByRecursion P (configs ns)
+    → AllByRecursion (λ n. AllByRecursion P (configs_in n.event)) ns
+each_event P [] h = tt
+each_event P (n ∷ ns) h =
+    (first_part P (configs_in n.event) (configs ns) h, each_event P ns (second_part P (configs_in n.event) (configs ns) h))
+
+-- what the events of the first script have
+record IsGood (p : Providers) (event : Event) : Type 0 where
+  kept : is_kept event ≡ true
+  one : HasOneProvider event
+  known : AllByRecursion (λ url. is_provider p (host_of url) ≡ true) (configs_in event)
+
+good_kept : (p : Providers) (ns : List Numbered) → AllByRecursion (λ n. HasOneProvider n.event) ns
+    → AllByRecursion (λ n. AllByRecursion (λ url. is_provider p (host_of url) ≡ true) (configs_in n.event)) ns
+    → AllByRecursion (IsGood p) (kept_events ns)
+good_kept p [] one known = tt
+good_kept p (n ∷ ns) one known = go (is_kept n.event) refl (good_kept p ns one.1 known.1)
+  where
+    go : (b : Bool) → is_kept n.event ≡ b → AllByRecursion (IsGood p) (kept_events ns)
+        → AllByRecursion (IsGood p) (cond b (n.event ∷ kept_events ns) (kept_events ns))
+    go true is rest = (record { kept = is; one = one.0; known = known.0 }, rest)
+    go false is rest = rest
+
+-- providers that share what is not free, and are known
+same_providers : (p : Providers) (qs rs : List ProviderOptions) → AllZip SharesProvider qs rs
+    → AllByRecursion (λ url. is_provider p (host_of url) ≡ true) (map (λ q. q.config) qs) → AllZip (SameProvider p) qs rs
+same_providers p [] [] h known = tt
+same_providers p [] (r ∷ rs) h known = absurd h
+same_providers p (q ∷ qs) [] h known = absurd h
+same_providers p (q ∷ qs) (r ∷ rs) h known = (record { shares = h.0; known = known.0 }, same_providers p qs rs h.1 known.1)
+
+alike_reply : (p : Providers) (call place : ℕ) (kind : ReplyKind) (raw raw' : List ℕ) → SharesBytes kind raw raw'
+    → is_kept (events.Reply call place kind raw) ≡ true
+    → Alike p (events.Reply call place kind raw) (events.Reply call place kind raw')
+alike_reply p call place kinds.WellKnown raw raw' h kept =
+    subst (λ r. Alike p (events.Reply call place kinds.WellKnown raw) (events.Reply call place kinds.WellKnown r)) h
+    (WellKnowns call place raw)
+alike_reply p call place kinds.Config raw raw' h kept =
+    subst (λ r. Alike p (events.Reply call place kinds.Config raw) (events.Reply call place kinds.Config r)) h (Configs call place raw)
+alike_reply p call place kinds.Accounts raw raw' h kept =
+    subst (λ r. Alike p (events.Reply call place kinds.Accounts raw) (events.Reply call place kinds.Accounts r)) h
+    (AccountLists call place raw)
+alike_reply p call place kinds.Metadata raw raw' h kept = absurd (cc)
+alike_reply p call place kinds.Assertion raw raw' h kept = Assertions call place raw raw'
+alike_reply p call place kinds.Disconnect raw raw' h kept = Disconnects call place raw raw'
+
+alike_load : (p : Providers) (page page' : ℕ) (url url' : Parts) (raw raw' : Option (List ℕ)) → page ≡ page'
+    → (((url ≡ url') × (raw ≡ raw')) ⊎ AreFar p url url')
+    → Alike p (events.Load page url raw) (events.Load page' url' raw')
+alike_load p page page' url url' raw raw' e (inl h) =
+    subst (λ x. Alike p (events.Load page url raw) (events.Load x url' raw')) e
+    (subst (λ x. Alike p (events.Load page url raw) (events.Load page x raw')) h.0
+    (subst (λ x. Alike p (events.Load page url raw) (events.Load page url x)) h.1 (Loads page url raw)))
+alike_load p page page' url url' raw raw' e (inr far) =
+    subst (λ x. Alike p (events.Load page url raw) (events.Load x url' raw')) e (FarLoads page url url' raw raw' far)
+
+alike_events : (p : Providers) (e e' : Event) → kind_of e ≡ kind_of e' → SharesMembers e e' → SharesLoad p e e' → IsGood p e
+    → Alike p e e'
+alike_events p (events.Have have) (events.Have have') kind h load good =
+    subst (λ x. Alike p (events.Have have) (events.Have x)) h (Haves have)
+alike_events p (events.At time) (events.At time') kind h load good = subst (λ x. Alike p (events.At time) (events.At x)) h (Times time)
+alike_events p (events.Load page url raw) (events.Load page' url' raw') kind h load good =
+    alike_load p page page' url url' raw raw' load.0 load.1
+alike_events p (events.ClosePage page) (events.ClosePage page') kind h load good =
+    subst (λ x. Alike p (events.ClosePage page) (events.ClosePage x)) h (Closes page)
+alike_events p (events.Get page call options) (events.Get page' call' options') kind h load good =
+    let same : SameOptions p options options' =
+    record { mediation = h.2.mediation; mode = h.2.mode; providers = same_providers p options.providers options'.providers h.2.providers good.known } in
+    subst (λ x. Alike p (events.Get page call options) (events.Get x call' options')) h.0
+    (subst (λ x. Alike p (events.Get page call options) (events.Get page x options')) h.1 (Gets page call options options' same good.one))
+alike_events p (events.Abort call) (events.Abort call') kind h load good =
+    subst (λ x. Alike p (events.Abort call) (events.Abort x)) h (Aborts call)
+alike_events p (events.GoOn call) (events.GoOn call') kind h load good =
+    subst (λ x. Alike p (events.GoOn call) (events.GoOn x)) h (Goings call)
+alike_events p (events.Cancel call) (events.Cancel call') kind h load good =
+    subst (λ x. Alike p (events.Cancel call) (events.Cancel x)) h (Cancels call)
+alike_events p (events.Reply call place kind raw) (events.Reply call' place' kind' raw') same h load good =
+    subst (λ x. Alike p (events.Reply call place kind raw) (events.Reply x place' kind' raw')) h.0
+    (subst (λ x. Alike p (events.Reply call place kind raw) (events.Reply call x kind' raw')) h.1
+    (subst (λ x. Alike p (events.Reply call place kind raw) (events.Reply call place x raw')) h.2
+    (alike_reply p call place kind raw raw' h.3 good.kept)))
+alike_events p (events.Choose call place id) (events.Choose call' place' id') kind h load good =
+    subst (λ x. Alike p (events.Choose call place id) (events.Choose x place' id')) h.0
+    (subst (λ x. Alike p (events.Choose call place id) (events.Choose call x id')) h.1
+    (subst (λ x. Alike p (events.Choose call place id) (events.Choose call place x)) h.2 (Choices call place id)))
+alike_events p (events.SetStatus page status) (events.SetStatus page' status') kind h load good =
+    subst (λ x. Alike p (events.SetStatus page status) (events.SetStatus x status')) h.0
+    (subst (λ x. Alike p (events.SetStatus page status) (events.SetStatus page x)) h.1 (Statuses page status))
+alike_events p e e' kind h load good = absurd (cc)
+
+all_alike : (p : Providers) (es fs : List Event) → length es ≡ length fs
+    → AllByRecursion (λ x. kind_of x.0 ≡ kind_of x.1) (zip es fs)
+    → AllByRecursion (λ x. SharesMembers x.0 x.1) (zip es fs) → AllByRecursion (λ x. SharesLoad p x.0 x.1) (zip es fs)
+    → AllByRecursion (IsGood p) es
+    → AllZip (Alike p) es fs
+all_alike p [] [] n kind member load good = tt
+all_alike p [] (f ∷ fs) n kind member load good = absurd (omega (arith, n))
+all_alike p (e ∷ es) [] n kind member load good = absurd (omega (arith, n))
+all_alike p (e ∷ es) (f ∷ fs) n kind member load good =
+    (alike_events p e f kind.0 member.0 load.0 good.0, all_alike p es fs (omega (arith, n)) kind.1 member.1 load.1 good.1)
+
+configs_known : (a b : Script) → AllByRecursion (λ url. is_provider (providers_of a b) (host_of url) ≡ true) (configs a.events)
+unfolding is_provider
+configs_known a b =
+    first_part (λ url. In a url (configs a.events ++ configs b.events)) (configs a.events) (configs b.events)
+    (all_in a (configs a.events ++ configs b.events))
+
+-- each get of a readable script has one provider
+one_each : (used : UsedState) (ns : List Numbered) → AreRead used ns → AllByRecursion (λ n. HasOneProvider n.event) ns
+one_each used [] read = tt
+one_each used (n ∷ ns) read = (read.0.provider, one_each (used_after n.event used) ns read.1)
+
+pub two_worlds_lem : TwoWorlds
+two_worlds_lem a b read read' twin k quiet quiet' =
+    let p = providers_of a b in
+    let alike = all_alike p (kept_events a.events) (kept_events b.events) twin.count twin.kind twin.member twin.load
+    (good_kept p a.events (one_each (unused a.header.now) a.events read)
+    (each_event (λ url. is_provider p (host_of url) ≡ true) a.events (configs_known a b))) in
+    let pairs = go_together p (Alike p) a.events b.events alike k (start a.header) (start b.header)
+    (Start a.header b.header refl (sym twin.rules) twin.now) in
+    sign_in_same p (trace_to a k) (trace_to b k) (stay_same p pairs quiet quiet').seen

@@ -1,0 +1,2 @@
+-- Two halves that run alike.
+pub mod Alike

@@ -1,0 +1,3 @@
+-- A run, and how it ends.
+pub mod Ends
+pub mod Run
