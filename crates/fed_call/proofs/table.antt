@@ -1,2 +1,3 @@
 -- The rows of a stage, and the table.
 pub mod Row
+pub mod First

@@ -8,56 +8,58 @@ use Rattle.fed_origin.specs.declared.stage.ReplyKind.TheVariants as kinds
 use Rattle.fed_provider.specs.declared.metadata.PolicyLinks.{PolicyLinks}
 use Rattle.fed_provider.specs.Metadata.{MetadataOf}
 use Rattle.fed_status.specs.Shared.{World}
-use Rattle.fed_consent.specs.declared.table.finish.FailStep.TheVariants as steps
+use Rattle.fed_consent.specs.declared.table.failure.FailStep.TheVariants as steps
 use Rattle.fed_consent.specs.declared.table.why.Why.TheVariants.{NotWaited, NotOffered, NoAccount}
 use Rattle.fed_consent.specs.Consent.{Agreement, Candidate, agreement, chosen}
 use Rattle.fed_consent.specs.declared.consent.manner.Manner.{Manner}
 use Rattle.fed_consent.specs.declared.consent.manner.Manner.TheVariants.{Chosen, Prompted}
 use Rattle.fed_call.specs.AssertingRows.{asserts}
-use Rattle.fed_call.specs.Facts.{Facts, Outcome, provider_at}
-use Rattle.fed_call.specs.Outcomes.{fails, ignored, stays, moves, plain}
+use Rattle.fed_call.specs.Facts.{Facts, provider_at}
+use Rattle.fed_consent.specs.Outcomes.{Outcome, fails, ignored, stays, stays_with, only_place}
+use Rattle.fed_consent.specs.Failures.{plain}
 use Rattle.fed_call.specs.ListingRows.{prompt_dialog, prompts}
 
 -- ---- metadata
 
--- the account is shown with these links
-abbrev pub links_shown : World → Facts → Option Candidate → PolicyLinks → Outcome
-links_shown world facts None links = stays
-links_shown world facts (Some candidate) links = moves stages.Prompting (prompt_dialog world facts candidate links)
+-- the account of the provider at this place is shown with these links, and the call stays
+abbrev pub links_shown : World → Facts → ℕ → Option Candidate → PolicyLinks → Outcome
+links_shown world facts place None links = stays
+links_shown world facts place (Some candidate) links = stays_with (prompt_dialog world facts place candidate links)
 
 -- a metadata reply, by whether the prompt waits for it, if the call has its provider (row C26, else C36)
-abbrev pub metadata_reply : World → Facts → Bool → Option ProviderOptions → List ℕ → Outcome
-metadata_reply world facts false provider raw = ignored NotWaited
-metadata_reply world facts true None raw = ignored NotWaited
-metadata_reply world facts true (Some provider) raw = links_shown world facts facts.picked (MetadataOf raw)
+abbrev pub metadata_reply : World → Facts → Bool → ℕ → Option ProviderOptions → List ℕ → Outcome
+metadata_reply world facts false place provider raw = ignored NotWaited
+metadata_reply world facts true place None raw = ignored NotWaited
+metadata_reply world facts true place (Some provider) raw = links_shown world facts place facts.picked (MetadataOf raw)
 
--- a reply for the provider, at a prompt
-abbrev pub prompting_reply : World → Facts → Option ProviderOptions → ReplyKind → List ℕ → Outcome
-prompting_reply world facts provider kinds.Metadata raw = metadata_reply world facts facts.waits provider raw
-prompting_reply world facts provider _ raw = ignored NotWaited
+-- a reply for the provider at this place, at a prompt
+abbrev pub prompting_reply : World → Facts → ℕ → Option ProviderOptions → ReplyKind → List ℕ → Outcome
+prompting_reply world facts place provider kinds.Metadata raw = metadata_reply world facts facts.waits place provider raw
+prompting_reply world facts place provider _ raw = ignored NotWaited
 
 -- ---- the user's words
 
--- what the user agreed to of an account
-abbrev pub agreed_to : Facts → Candidate → Manner → Bool → Agreement
-agreed_to facts candidate manner disclosure =
-    agreement (record { call = facts.call; provider = 0; candidate = candidate }) manner disclosure
+-- what the user agreed to of an account of the provider at this place
+abbrev pub agreed_to : Facts → ℕ → Candidate → Manner → Bool → Agreement
+agreed_to facts place candidate manner disclosure =
+    agreement (record { call = facts.call; provider = place; candidate = candidate }) manner disclosure
 
 -- an account was chosen: the token is asked for where it is connected, and else there is a prompt (rows C22, C23, C24)
-abbrev pub settles : World → Facts → ProviderOptions → Candidate → Bool → Outcome
-settles world facts provider candidate true = asserts facts (Some provider) facts.config (agreed_to facts candidate Chosen false)
-settles world facts provider candidate false = prompts world facts provider candidate
+abbrev pub settles : World → Facts → ℕ → ProviderOptions → Candidate → Bool → Outcome
+settles world facts place provider candidate true =
+    asserts facts place (Some provider) facts.config (agreed_to facts place candidate Chosen false)
+settles world facts place provider candidate false = prompts world facts place provider candidate
 
 -- a choice, by the provider and by the account that it names, if there are such (else row C25)
-abbrev pub choice : World → Facts → Option ProviderOptions → Option Candidate → Outcome
-choice world facts None candidate = ignored NoAccount
-choice world facts (Some provider) None = ignored NoAccount
-choice world facts (Some provider) (Some candidate) = settles world facts provider candidate candidate.connected
+abbrev pub choice : World → Facts → ℕ → Option ProviderOptions → Option Candidate → Outcome
+choice world facts place None candidate = ignored NoAccount
+choice world facts place (Some provider) None = ignored NoAccount
+choice world facts place (Some provider) (Some candidate) = settles world facts place provider candidate candidate.connected
 
 -- an account with this id of the provider at this place was chosen, by the stage (else row C36)
 abbrev pub chose : World → Facts → Stage → ℕ → List ℕ → Outcome
 chose world facts stages.Choosing place id =
-    choice world facts (provider_at place facts.options) (option_and_then (chosen id) facts.listed)
+    choice world facts place (provider_at place facts.options) (option_and_then (chosen id) facts.listed)
 chose world facts _ place id = ignored NotOffered
 
 -- the user went on with the prompt, by whether it waits (row C27, else C36)
@@ -65,7 +67,8 @@ abbrev pub goes_on : Facts → Bool → Option Candidate → Outcome
 goes_on facts true picked = ignored NotOffered
 goes_on facts false None = stays
 goes_on facts false (Some candidate) =
-    asserts facts (provider_at 0 facts.options) facts.config (agreed_to facts candidate Prompted (not candidate.connected))
+    asserts facts only_place (provider_at only_place facts.options) facts.config
+    (agreed_to facts only_place candidate Prompted (not candidate.connected))
 
 -- the user went on, by the stage (else row C36)
 abbrev pub went_on : Facts → Stage → Outcome

@@ -1,5 +1,5 @@
 -- What is known of a call that began and is not over, and what an event leaves of it.
-use Rattle.std.specs.Prelude.{ℕ, Bool, true, false, List, [], ◌∷◌, map, slice_get, Option, Some, None, unwrap_or, option_map, option_and_then, Result, Ok, Err}
+use Rattle.std.specs.Prelude.{ℕ, Bool, true, false, List, [], ◌∷◌, map, slice_get, Option, Some, None, unwrap_or, option_and_then, Result, Ok, Err}
 use Rattle.std.specs.List.{list_any}
 use Rattle.std.specs.Result.{result_ok}
 use Rattle.url.specs.Parts.{Parts}
@@ -11,8 +11,7 @@ use Rattle.fed_origin.specs.declared.stage.Stage.TheVariants.{Reading, Listing, 
 use Rattle.fed_origin.specs.declared.stage.ReplyKind.{ReplyKind}
 use Rattle.fed_origin.specs.declared.stage.ReplyKind.TheVariants as kinds
 use Rattle.fed_provider.specs.declared.config.Config.{Config}
-use Rattle.fed_provider.specs.declared.step.ProviderStep.{ProviderStep}
-use Rattle.fed_provider.specs.Config.{ConfigOf}
+use Rattle.fed_provider.specs.FirstReplies.{config_read}
 use Rattle.fed_accounts.specs.declared.account.Account.{Account}
 use Rattle.fed_accounts.specs.declared.step.AccountsStep.{AccountsStep}
 use Rattle.fed_status.specs.Shared.{World}
@@ -21,6 +20,7 @@ use Rattle.fed_consent.specs.declared.table.effect.Effect.TheVariants.{Ignored}
 use Rattle.fed_consent.specs.declared.table.input.Input.{Input}
 use Rattle.fed_consent.specs.declared.table.input.Input.TheVariants.{Reply, Choose}
 use Rattle.fed_consent.specs.Consent.{Listed, Candidate, chosen}
+use Rattle.fed_consent.specs.Outcomes.{Outcome}
 use Rattle.fed_call.specs.Accounts.{accounts_of, listed_of, candidate_of, needs_metadata}
 
 pub record Facts : Type 0 where
@@ -43,11 +43,6 @@ pub record Facts : Type 0 where
   pub waits : Bool
   -- it was settled on without the user
   pub auto : Bool
-
--- what a call does at an event, and the stage that it moves to; none where it stays
-pub record Outcome : Type 0 where
-  pub effects : List Effect
-  pub stage : Option Stage
 
 -- the call at this stage; a call that is over has no facts
 abbrev pub at_stage : Stage → Facts → Option Facts
@@ -96,10 +91,6 @@ is_ignored _ = false
 -- the provider at this place in the call's list, if there is one
 abbrev pub provider_at : ℕ → GetOptions → Option ProviderOptions
 provider_at place options = slice_get options.providers place
-
--- what the reply `raw` of a provider holds: the configuration, or the step at which it is refused
-abbrev pub config_read : List ℕ → Option ProviderOptions → Option (Result Config ProviderStep)
-config_read raw provider = option_map (λ p. ConfigOf raw p.config) provider
 
 -- the client metadata endpoint, if there is one
 abbrev pub metadata_endpoint : Option Config → Option Parts

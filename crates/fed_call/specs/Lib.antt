@@ -4,7 +4,6 @@ pub mod Begun
 pub mod DialogRows
 pub mod Facts
 pub mod ListingRows
-pub mod Outcomes
 pub mod ReadingRows
 pub mod Row
 pub mod State

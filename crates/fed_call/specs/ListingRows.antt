@@ -25,12 +25,13 @@ use Rattle.fed_consent.specs.declared.table.dialog.Dialog.TheVariants as dialogs
 use Rattle.fed_consent.specs.declared.table.dialog.Shown.{Shown}
 use Rattle.fed_consent.specs.declared.table.effect.Effect.{Effect}
 use Rattle.fed_consent.specs.declared.table.effect.Effect.TheVariants.{Send, Dialog, SetLogin}
-use Rattle.fed_consent.specs.declared.table.finish.Failure.{Failure}
+use Rattle.fed_consent.specs.declared.table.failure.Failure.{Failure}
 use Rattle.fed_consent.specs.declared.table.why.Why.TheVariants.{NotWaited}
 use Rattle.fed_consent.specs.Consent.{Listed, Candidate}
 use Rattle.fed_call.specs.Accounts.{accounts_of, listed_of, candidate_of}
-use Rattle.fed_call.specs.Facts.{Facts, Outcome, metadata_endpoint}
-use Rattle.fed_call.specs.Outcomes.{fails, ignored, stays, moves, after, accounts_failure}
+use Rattle.fed_call.specs.Facts.{Facts, metadata_endpoint}
+use Rattle.fed_consent.specs.Outcomes.{Outcome, fails, ignored, stays, moves, after}
+use Rattle.fed_consent.specs.Failures.{accounts_failure}
 
 -- ---- dialogs
 
@@ -38,11 +39,11 @@ use Rattle.fed_call.specs.Outcomes.{fails, ignored, stays, moves, after, account
 abbrev pub site_of : World → Origin → List ℕ
 site_of world page = party world.rules page.host
 
--- an account as a dialog shows it
-abbrev pub shown : Account → Bool → Shown
-shown account connected =
+-- an account of the provider at this place as a dialog shows it
+abbrev pub shown : ℕ → Account → Bool → Shown
+shown place account connected =
     record {
-      provider = 0;
+      provider = place;
       id = account.id;
       name = account.name;
       email = account.email;
@@ -52,19 +53,19 @@ shown account connected =
     }
 
 -- the accounts as a dialog shows them, in their order
-abbrev pub all_shown : Listed → List Shown
-all_shown listed = map (λ entry. shown entry.0 entry.1) (zip listed.accounts listed.connected)
+abbrev pub all_shown : ℕ → Listed → List Shown
+all_shown place listed = map (λ entry. shown place entry.0 entry.1) (zip listed.accounts listed.connected)
 
 -- the accounts are shown, to choose one of
-abbrev pub choice_dialog : World → Facts → Listed → Effect
-choice_dialog world facts listed =
-    Dialog (dialogs.Choose (all_shown listed) facts.options.context (site_of world facts.origin))
+abbrev pub choice_dialog : World → Facts → ℕ → Listed → Effect
+choice_dialog world facts place listed =
+    Dialog (dialogs.Choose (all_shown place listed) facts.options.context (site_of world facts.origin))
 
 -- an account is shown, to go on with, and the links of the client, serialized
-abbrev pub prompt_dialog : World → Facts → Candidate → PolicyLinks → Effect
-prompt_dialog world facts candidate links =
+abbrev pub prompt_dialog : World → Facts → ℕ → Candidate → PolicyLinks → Effect
+prompt_dialog world facts place candidate links =
     Dialog
-    (dialogs.Prompt (shown candidate.account candidate.connected) facts.options.context (site_of world facts.origin)
+    (dialogs.Prompt (shown place candidate.account candidate.connected) facts.options.context (site_of world facts.origin)
     (option_map serialize links.privacy) (option_map serialize links.terms))
 
 abbrev pub no_links : PolicyLinks
@@ -84,55 +85,55 @@ is_mismatch Passive Required LoggedOut = false
 is_mismatch Passive Required Unknown = false
 
 -- the user hears of it (row C15), or the page (row C16)
-abbrev pub by_mismatch : List ℕ → Failure → Bool → Outcome
-by_mismatch site failure true = moves stages.Mismatch (Dialog (dialogs.Mismatch 0 site failure))
-by_mismatch site failure false = fails failure
+abbrev pub by_mismatch : ℕ → List ℕ → Failure → Bool → Outcome
+by_mismatch place site failure true = moves stages.Mismatch (Dialog (dialogs.Mismatch place site failure))
+by_mismatch place site failure false = fails failure
 
--- the accounts of the provider's origin are refused, or none fits the hints: the user is logged out there
-abbrev pub refused : World → Facts → Origin → Failure → Outcome
-refused world facts provider failure =
+-- the accounts of the provider at this place and of this origin are refused, or none fits the hints: the user is logged out there
+abbrev pub refused : World → Facts → ℕ → Origin → Failure → Outcome
+refused world facts place provider failure =
     after (SetLogin provider LoggedOut)
-    (by_mismatch (site_of world facts.origin) failure
+    (by_mismatch place (site_of world facts.origin) failure
     (is_mismatch facts.options.mode facts.options.mediation (status_of world.login provider)))
 
--- ---- accounts that are good
+-- ---- accounts of the provider at a place that are good
 
 -- What comes first of a prompt, by whether the account is connected and by the metadata endpoint: it is shown, or the links of
 -- the client are asked for.
-abbrev pub prompt_effect : World → Facts → ProviderOptions → Candidate → Bool → Option Parts → Effect
-prompt_effect world facts provider candidate true endpoint = prompt_dialog world facts candidate no_links
-prompt_effect world facts provider candidate false None = prompt_dialog world facts candidate no_links
-prompt_effect world facts provider candidate false (Some to) = Send 0 (Metadata to provider.client facts.origin)
+abbrev pub prompt_effect : World → Facts → ℕ → ProviderOptions → Candidate → Bool → Option Parts → Effect
+prompt_effect world facts place provider candidate true endpoint = prompt_dialog world facts place candidate no_links
+prompt_effect world facts place provider candidate false None = prompt_dialog world facts place candidate no_links
+prompt_effect world facts place provider candidate false (Some to) = Send place (Metadata to provider.client facts.origin)
 
 -- the user is to go on with this account
-abbrev pub prompts : World → Facts → ProviderOptions → Candidate → Outcome
-prompts world facts provider candidate =
-    moves stages.Prompting (prompt_effect world facts provider candidate candidate.connected (metadata_endpoint facts.config))
+abbrev pub prompts : World → Facts → ℕ → ProviderOptions → Candidate → Outcome
+prompts world facts place provider candidate =
+    moves stages.Prompting (prompt_effect world facts place provider candidate candidate.connected (metadata_endpoint facts.config))
 
 -- several accounts (row C19), or one (rows C20, C21); there is never none
-abbrev pub offers : World → Facts → ProviderOptions → List Account → Outcome
-offers world facts provider [] = stays
-offers world facts provider (only ∷ []) =
-    prompts world facts provider (candidate_of world facts.origin provider only)
-offers world facts provider (first ∷ second ∷ more) =
-    moves stages.Choosing (choice_dialog world facts (listed_of world facts.origin provider (first ∷ second ∷ more)))
+abbrev pub offers : World → Facts → ℕ → ProviderOptions → List Account → Outcome
+offers world facts place provider [] = stays
+offers world facts place provider (only ∷ []) =
+    prompts world facts place provider (candidate_of world facts.origin provider only)
+offers world facts place provider (first ∷ second ∷ more) =
+    moves stages.Choosing (choice_dialog world facts place (listed_of world facts.origin provider (first ∷ second ∷ more)))
 
 -- good accounts: the user is logged in at the provider
-abbrev pub accepted : World → Facts → ProviderOptions → List Account → Outcome
-accepted world facts provider accounts =
-    after (SetLogin (origin_of provider.config) LoggedIn) (offers world facts provider accounts)
+abbrev pub accepted : World → Facts → ℕ → ProviderOptions → List Account → Outcome
+accepted world facts place provider accounts =
+    after (SetLogin (origin_of provider.config) LoggedIn) (offers world facts place provider accounts)
 
 -- the first accounts reply, by what was read
-abbrev pub by_accounts : World → Facts → ProviderOptions → Result (List Account) AccountsStep → Outcome
-by_accounts world facts provider (Err step) = refused world facts (origin_of provider.config) (accounts_failure step)
-by_accounts world facts provider (Ok accounts) = accepted world facts provider accounts
+abbrev pub by_accounts : World → Facts → ℕ → ProviderOptions → Result (List Account) AccountsStep → Outcome
+by_accounts world facts place provider (Err step) = refused world facts place (origin_of provider.config) (accounts_failure step)
+by_accounts world facts place provider (Ok accounts) = accepted world facts place provider accounts
 
 -- an accounts reply, if the call has its provider (else row C36)
-abbrev pub accounts_reply : World → Facts → Option ProviderOptions → List ℕ → Outcome
-accounts_reply world facts None raw = ignored NotWaited
-accounts_reply world facts (Some provider) raw = by_accounts world facts provider (accounts_of raw provider)
+abbrev pub accounts_reply : World → Facts → ℕ → Option ProviderOptions → List ℕ → Outcome
+accounts_reply world facts place None raw = ignored NotWaited
+accounts_reply world facts place (Some provider) raw = by_accounts world facts place provider (accounts_of raw provider)
 
--- a reply for the provider
-abbrev pub listing_reply : World → Facts → Option ProviderOptions → ReplyKind → List ℕ → Outcome
-listing_reply world facts provider kinds.Accounts raw = accounts_reply world facts provider raw
-listing_reply world facts provider _ raw = ignored NotWaited
+-- a reply for the provider at this place
+abbrev pub listing_reply : World → Facts → ℕ → Option ProviderOptions → ReplyKind → List ℕ → Outcome
+listing_reply world facts place provider kinds.Accounts raw = accounts_reply world facts place provider raw
+listing_reply world facts place provider _ raw = ignored NotWaited

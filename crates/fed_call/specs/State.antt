@@ -3,6 +3,8 @@ use Rattle.std.specs.Prelude.{true, Option, Some, None}
 use Rattle.fed_origin.specs.declared.stage.Stage.{Stage}
 use Rattle.fed_origin.specs.declared.stage.Stage.TheVariants as stages
 use Rattle.fed_provider.specs.declared.config.Config.{Config}
+use Rattle.fed_provider.specs.declared.first_replies.Heard.{Heard}
+use Rattle.fed_provider.specs.declared.first_replies.Heard.TheVariants as heards
 use Rattle.fed_call.specs.declared.asserting.Asserting.{Asserting}
 use Rattle.fed_call.specs.declared.reading.Reading.{Reading}
 use Rattle.fed_call.specs.declared.listing.Listing.{Listing}
@@ -23,7 +25,14 @@ abbrev pub configured : Begun → Config → Stage → Facts
 configured begun config stage = record (begun_facts begun) { stage = stage; heard = true; config = Some config }
 
 abbrev pub reading_facts : Reading → Facts
-reading_facts state = record (begun_facts state.begun) { heard = state.heard; config = state.config }
+reading_facts state = record (begun_facts state.begun) { heard = state.replies.wellknown; config = state.replies.config }
+
+-- what is known of a call, which began so, where a first reply comes to this
+abbrev pub facts_heard : Begun → Heard → Option Facts
+facts_heard begun (heards.Refused step) = None
+facts_heard begun (heards.Waits replies) = Some (reading_facts (record { begun = begun; replies = replies }))
+facts_heard begun (heards.Both config) = Some (configured begun config stages.Listing)
+facts_heard begun (heards.NotWaited replies) = Some (reading_facts (record { begun = begun; replies = replies }))
 
 abbrev pub listing_facts : Listing → Facts
 listing_facts state = configured state.begun state.config stages.Listing

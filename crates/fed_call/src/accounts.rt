@@ -73,14 +73,12 @@ pub fn connections(
 ) -> Result<Items<bool>, NoRoom>
     ensures { IfOk result (λ all. all ≡ map (spec.is_connected kept.now begun.now.origin (origin_of begun.now.provider.config) begun.now.provider.client) accounts.now) }
 {
-    let options = &begun.provider;
-    let provider = Origin::of_url(alloc, &options.config)?;
     connections_at(
         alloc,
         kept,
         &begun.origin,
-        &provider,
-        &options.client,
+        begun.provider_origin(),
+        &begun.provider.client,
         accounts,
     )
 }

@@ -5,7 +5,6 @@ ghost use Rattle.fed_consent.specs.Consent.{assertion_fields};
 ghost use Rattle.fed_call.specs.AssertingRows as spec;
 ghost use Rattle.fed_call.specs.Begun.{options_of};
 ghost use Rattle.fed_call.specs.Facts.{facts_after, provider_at};
-ghost use Rattle.fed_call.specs.Outcomes.{ignored};
 ghost use Rattle.fed_call.specs.Row.{input_row, stage_reply};
 ghost use Rattle.fed_call.specs.State.{begun_facts, facts_of, asserting_facts};
 ghost use Rattle.fed_origin.specs.Origin.{origin_text};
@@ -14,14 +13,14 @@ ghost use Rattle.fed_token.specs.Read.{AssertionOf};
 
 use crate::CallState;
 use crate::begun::Call;
-use crate::effects::{fails, finishes, not_taken, one, plain, token_refused};
+use crate::effects::finishes;
 use fed_accounts::Account;
-use fed_consent::{Ask, Consent, Effect, FailStep, Finish, Input, Why};
+use fed_consent::{Ask, Consent, Detail, Effect, FailStep, Failure, Finish, Input, Why};
 use fed_io::{Fault, Items, NoRoom};
 use fed_origin::{Origin, ReplyKind, Stage};
 use fed_provider::Config;
 use fed_status::Shared;
-use fed_token::read_assertion;
+use fed_token::{TokenStep, read_assertion};
 use std::alloc::Global;
 
 /// A call whose token is awaited.
@@ -64,13 +63,13 @@ impl Asserting {
                 kind,
                 raw,
             } => self.reply(alloc, shared, *provider, *kind, raw.as_slice()),
-            Input::Abort => fails(alloc, plain(FailStep::Aborted)),
-            Input::Choose { .. }
+            Input::Abort
+            | Input::Choose { .. }
             | Input::GoOn
             | Input::Cancel
             | Input::SignIn
             | Input::Shut
-            | Input::Resume => self.ignores(alloc, Why::NotOffered),
+            | Input::Resume => CallState::Asserting(self).declines(alloc, input),
         }
     }
 
@@ -92,7 +91,7 @@ impl Asserting {
             | ReplyKind::Config
             | ReplyKind::Accounts
             | ReplyKind::Metadata
-            | ReplyKind::Disconnect => self.ignores(alloc, Why::NotWaited),
+            | ReplyKind::Disconnect => CallState::Asserting(self).ignores(alloc, Why::NotWaited),
         }
     }
 
@@ -104,30 +103,26 @@ impl Asserting {
         place: u32,
         raw: &[u8],
     ) -> Result<(CallState, Items<Effect>), NoRoom>
-        ensures effects { IfOk result (λ r. r.1 ≡ (spec.assertion_reply (asserting_facts self) (provider_at place (options_of self.begun)) raw.now).effects) }
-        ensures state { IfOk result (λ r. facts_of r.0 ≡ facts_after (world_of shared.now) (asserting_facts self) (inputs.Reply place ReplyKind.Assertion raw.now) (spec.assertion_reply (asserting_facts self) (provider_at place (options_of self.begun)) raw.now)) }
+        ensures effects { IfOk result (λ r. r.1 ≡ (spec.assertion_reply (asserting_facts self) place (provider_at place (options_of self.begun)) raw.now).effects) }
+        ensures state { IfOk result (λ r. facts_of r.0 ≡ facts_after (world_of shared.now) (asserting_facts self) (inputs.Reply place ReplyKind.Assertion raw.now) (spec.assertion_reply (asserting_facts self) place (provider_at place (options_of self.begun)) raw.now)) }
     {
         if self.begun.has(place) {
-            return self.answered(alloc, raw);
+            return self.answered(alloc, place, raw);
         }
-        self.ignores(alloc, Why::NotWaited)
+        CallState::Asserting(self).ignores(alloc, Why::NotWaited)
     }
 
-    // The assertion reply of the provider.
-    fn answered(self, alloc: Global, raw: &[u8]) -> Result<(CallState, Items<Effect>), NoRoom>
-        ensures effects { IfOk result (λ r. r.1 ≡ (spec.assertion_reply (asserting_facts self) (Some self.begun.provider) raw.now).effects) }
+    // The assertion reply of the provider at this place.
+    fn answered(
+        self,
+        alloc: Global,
+        place: u32,
+        raw: &[u8],
+    ) -> Result<(CallState, Items<Effect>), NoRoom>
+        ensures effects { IfOk result (λ r. r.1 ≡ (spec.assertion_reply (asserting_facts self) place (Some self.begun.provider) raw.now).effects) }
         ensures state { IfOk result (λ r. facts_of r.0 ≡ None) }
     {
-        ended(alloc, &self.begun.origin, self.auto, raw)
-    }
-
-    // The call does not take the event.
-    fn ignores(self, alloc: Global, why: Why) -> Result<(CallState, Items<Effect>), NoRoom>
-        ensures effects { IfOk result (λ r. r.1 ≡ (ignored why).effects) }
-        ensures state { IfOk result (λ r. r.0 ≡ CallState.Asserting self) }
-    {
-        let effects = not_taken(alloc, why)?;
-        Ok((CallState::Asserting(self), effects))
+        ended(alloc, &self.begun.origin, self.auto, place, raw)
     }
 }
 
@@ -136,27 +131,49 @@ fn ended(
     alloc: Global,
     origin: &Origin,
     auto: bool,
+    place: u32,
     raw: &[u8],
 ) -> Result<(CallState, Items<Effect>), NoRoom>
-    ensures effects { IfOk result (λ r. r.1 ≡ Effect.Finish (spec.token_given auto (AssertionOf raw.now (origin_text origin.now))) ∷ []) }
+    ensures effects { IfOk result (λ r. r.1 ≡ Effect.Finish (spec.token_given auto place (AssertionOf raw.now (origin_text origin.now))) ∷ []) }
     ensures state { IfOk result (λ r. facts_of r.0 ≡ None) }
 {
-    let finish = token_given(alloc, origin, auto, raw)?;
+    let finish = token_given(alloc, origin, auto, place, raw)?;
     finishes(alloc, finish)
 }
 
 // What the page of this origin gets by the reply: the token, the step at which the reply is refused, or the provider's error.
-fn token_given(alloc: Global, origin: &Origin, auto: bool, raw: &[u8]) -> Result<Finish, NoRoom>
-    ensures { IfOk result (λ finish. finish ≡ spec.token_given auto (AssertionOf raw.now (origin_text origin.now))) }
+fn token_given(
+    alloc: Global,
+    origin: &Origin,
+    auto: bool,
+    place: u32,
+    raw: &[u8],
+) -> Result<Finish, NoRoom>
+    ensures { IfOk result (λ finish. finish ≡ spec.token_given auto place (AssertionOf raw.now (origin_text origin.now))) }
 {
     match read_assertion(alloc, raw, origin) {
         Ok(token) => Ok(Finish::Token {
             auto,
-            provider: 0,
+            provider: place,
             token,
         }),
         Err(Fault::Step(step)) => Ok(token_refused(step)),
         Err(Fault::NoRoom) => Err(NoRoom),
+    }
+}
+
+// What the page gets where the reply is refused, or gives an error (row C33).
+fn token_refused(step: TokenStep) -> Finish
+    ensures { result ≡ spec.token_refused step }
+{
+    match step {
+        TokenStep::Reply(step) => Finish::Failed(Failure::detailed(
+            FailStep::AssertionReply,
+            Detail::Reply(step),
+        )),
+        TokenStep::Cors => Finish::Failed(Failure::plain(FailStep::AssertionCors)),
+        TokenStep::Shape => Finish::Failed(Failure::plain(FailStep::AssertionShape)),
+        TokenStep::ProviderError { code, url } => Finish::ProviderError { code, url },
     }
 }
 
@@ -165,12 +182,13 @@ fn assertion_request(
     alloc: Global,
     begun: &Call,
     config: &Config,
+    place: u32,
     consent: Consent,
 ) -> Result<Items<Effect>, NoRoom>
-    ensures { IfOk result (λ effects. effects ≡ Effect.Send 0 (Ask.Assertion (assertion_fields consent config.now.assertion begun.now.origin begun.now.provider)) ∷ []) }
+    ensures { IfOk result (λ effects. effects ≡ Effect.Send place (Ask.Assertion (assertion_fields consent config.now.assertion begun.now.origin begun.now.provider)) ∷ []) }
 {
     match consent.spend(alloc, &config.assertion, &begun.origin, &begun.provider) {
-        Ok(ask) => one(alloc, Effect::Send(0, ask)),
+        Ok(ask) => Effect::Send(place, ask).alone(alloc),
         Err((NoRoom, consent)) => {
             consent.void();
             Err(NoRoom)
@@ -178,19 +196,20 @@ fn assertion_request(
     }
 }
 
-/// The user agreed to the account: the token for it is asked for. On want of memory the consent is voided.
+/// The user agreed to the account of the provider at this place: the token for it is asked for. On want of memory the consent is voided.
 pub fn asserts(
     alloc: Global,
     begun: Call,
     config: Config,
+    place: u32,
     account: Account,
     connected: bool,
     consent: Consent,
 ) -> Result<(CallState, Items<Effect>), NoRoom>
-    ensures effects { IfOk result (λ r. r.1 ≡ (spec.asserts (begun_facts begun) (Some begun.provider) (Some config) consent).effects) }
+    ensures effects { IfOk result (λ r. r.1 ≡ (spec.asserts (begun_facts begun) place (Some begun.provider) (Some config) consent).effects) }
     ensures state { IfOk result (λ r. r.0 ≡ CallState.Asserting (record { begun = begun; config = config; account = account; connected = connected; auto = false })) }
 {
-    let effects = assertion_request(alloc, &begun, &config, consent)?;
+    let effects = assertion_request(alloc, &begun, &config, place, consent)?;
     let state = Asserting {
         begun,
         config,

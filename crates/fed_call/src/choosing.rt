@@ -6,7 +6,6 @@ ghost use Rattle.fed_call.specs.Begun.{options_of};
 ghost use Rattle.fed_call.specs.DialogRows as spec;
 ghost use Rattle.fed_call.specs.Facts.{at_stage, facts_after, provider_at, with_candidate, with_choice};
 ghost use Rattle.fed_call.specs.ListingRows.{prompts, prompt_effect};
-ghost use Rattle.fed_call.specs.Outcomes.{ignored};
 ghost use Rattle.fed_call.specs.Row.{input_row};
 ghost use Rattle.fed_call.specs.State.{begun_facts, choosing_facts, configured, facts_of};
 ghost use Rattle.fed_status.specs.Shared.{world_of};
@@ -14,9 +13,9 @@ ghost use Rattle.fed_status.specs.Shared.{world_of};
 use crate::asserting::asserts;
 use crate::begun::Call;
 use crate::dialogs::prompt_effect;
-use crate::effects::{fails, not_taken, one, plain};
+use crate::effects::fails;
 use crate::{CallState, Prompting};
-use fed_consent::{Chooser, Effect, FailStep, Input, Picked, Prompt, Why};
+use fed_consent::{Chooser, Effect, FailStep, Failure, Input, Picked, Prompt, Why};
 use fed_io::{Items, NoRoom, Text};
 use fed_origin::Stage;
 use fed_provider::Config;
@@ -52,13 +51,15 @@ impl Choosing {
         ensures state { IfOk result (λ r. facts_of r.0 ≡ facts_after (world_of shared.now) (choosing_facts self) input.now (input_row (world_of shared.now) (choosing_facts self) input.now)) }
     {
         match input {
-            Input::Cancel => fails(alloc, plain(FailStep::UserCancelled)),
-            Input::Abort => fails(alloc, plain(FailStep::Aborted)),
-            Input::Reply { .. } => self.ignores(alloc, Why::NotWaited),
             Input::Choose { provider, account } => self.choose(alloc, shared, *provider, account),
-            Input::GoOn | Input::SignIn | Input::Shut | Input::Resume => {
-                self.ignores(alloc, Why::NotOffered)
-            }
+            // Row C31.
+            Input::Cancel => fails(alloc, Failure::plain(FailStep::UserCancelled)),
+            Input::Abort
+            | Input::Reply { .. }
+            | Input::GoOn
+            | Input::SignIn
+            | Input::Shut
+            | Input::Resume => CallState::Choosing(self).declines(alloc, input),
         }
     }
 
@@ -70,24 +71,25 @@ impl Choosing {
         place: u32,
         id: &Text,
     ) -> Result<(CallState, Items<Effect>), NoRoom>
-        ensures effects { IfOk result (λ r. r.1 ≡ (spec.choice (world_of shared.now) (choosing_facts self) (provider_at place (options_of self.begun)) (chosen id.now self.chooser.listed)).effects) }
-        ensures state { IfOk result (λ r. facts_of r.0 ≡ facts_after (world_of shared.now) (choosing_facts self) (inputs.Choose place id.now) (spec.choice (world_of shared.now) (choosing_facts self) (provider_at place (options_of self.begun)) (chosen id.now self.chooser.listed))) }
+        ensures effects { IfOk result (λ r. r.1 ≡ (spec.choice (world_of shared.now) (choosing_facts self) place (provider_at place (options_of self.begun)) (chosen id.now self.chooser.listed)).effects) }
+        ensures state { IfOk result (λ r. facts_of r.0 ≡ facts_after (world_of shared.now) (choosing_facts self) (inputs.Choose place id.now) (spec.choice (world_of shared.now) (choosing_facts self) place (provider_at place (options_of self.begun)) (chosen id.now self.chooser.listed))) }
     {
         if self.begun.has(place) {
-            return self.choose_account(alloc, shared, id);
+            return self.choose_account(alloc, shared, place, id);
         }
-        self.ignores(alloc, Why::NoAccount)
+        CallState::Choosing(self).ignores(alloc, Why::NoAccount)
     }
 
-    // The account with this id was chosen.
+    // The account with this id of the provider at this place was chosen, if it is offered (else row C25).
     fn choose_account(
         self,
         alloc: Global,
         shared: &Shared<'_>,
+        place: u32,
         id: &Text,
     ) -> Result<(CallState, Items<Effect>), NoRoom>
-        ensures effects { IfOk result (λ r. r.1 ≡ (spec.choice (world_of shared.now) (choosing_facts self) (Some self.begun.provider) (chosen id.now self.chooser.listed)).effects) }
-        ensures state { IfOk result (λ r. facts_of r.0 ≡ at_stage (unwrap_or (spec.choice (world_of shared.now) (choosing_facts self) (Some self.begun.provider) (chosen id.now self.chooser.listed)).stage Stage.Choosing) (with_choice (chosen id.now self.chooser.listed) (choosing_facts self))) }
+        ensures effects { IfOk result (λ r. r.1 ≡ (spec.choice (world_of shared.now) (choosing_facts self) place (Some self.begun.provider) (chosen id.now self.chooser.listed)).effects) }
+        ensures state { IfOk result (λ r. facts_of r.0 ≡ at_stage (unwrap_or (spec.choice (world_of shared.now) (choosing_facts self) place (Some self.begun.provider) (chosen id.now self.chooser.listed)).stage Stage.Choosing) (with_choice (chosen id.now self.chooser.listed) (choosing_facts self))) }
     {
         let Choosing {
             begun,
@@ -95,43 +97,35 @@ impl Choosing {
             chooser,
         } = self;
         match chooser.choose(id) {
-            Ok(picked) => settles(alloc, shared, begun, config, picked),
+            Ok(picked) => settles(alloc, shared, begun, config, place, picked),
             Err(chooser) => {
                 let state = Choosing {
                     begun,
                     config,
                     chooser,
                 };
-                state.ignores(alloc, Why::NoAccount)
+                CallState::Choosing(state).ignores(alloc, Why::NoAccount)
             }
         }
     }
-
-    // The call does not take the event.
-    fn ignores(self, alloc: Global, why: Why) -> Result<(CallState, Items<Effect>), NoRoom>
-        ensures effects { IfOk result (λ r. r.1 ≡ (ignored why).effects) }
-        ensures state { IfOk result (λ r. r.0 ≡ CallState.Choosing self) }
-    {
-        let effects = not_taken(alloc, why)?;
-        Ok((CallState::Choosing(self), effects))
-    }
 }
 
-// An account was chosen: the token is asked for where it is connected, and else there is a prompt.
+// An account was chosen: the token is asked for where it is connected (row C22), and else there is a prompt (rows C23 and C24).
 fn settles(
     alloc: Global,
     shared: &Shared<'_>,
     begun: Call,
     config: Config,
+    place: u32,
     picked: Picked,
 ) -> Result<(CallState, Items<Effect>), NoRoom>
-    ensures effects { IfOk result (λ r. r.1 ≡ (spec.settles (world_of shared.now) (configured begun config Stage.Choosing) begun.provider picked.candidate picked.candidate.connected).effects) }
-    ensures state { IfOk result (λ r. facts_of r.0 ≡ at_stage (unwrap_or (spec.settles (world_of shared.now) (configured begun config Stage.Choosing) begun.provider picked.candidate picked.candidate.connected).stage Stage.Choosing) (with_candidate picked.candidate (configured begun config Stage.Choosing))) }
+    ensures effects { IfOk result (λ r. r.1 ≡ (spec.settles (world_of shared.now) (configured begun config Stage.Choosing) place begun.provider picked.candidate picked.candidate.connected).effects) }
+    ensures state { IfOk result (λ r. facts_of r.0 ≡ at_stage (unwrap_or (spec.settles (world_of shared.now) (configured begun config Stage.Choosing) place begun.provider picked.candidate picked.candidate.connected).stage Stage.Choosing) (with_candidate picked.candidate (configured begun config Stage.Choosing))) }
 {
     let account = picked.account().copy(alloc)?;
     match picked.proceed() {
-        Ok(consent) => asserts(alloc, begun, config, account, true, consent),
-        Err(picked) => asks_about(alloc, shared, begun, config, picked),
+        Ok(consent) => asserts(alloc, begun, config, place, account, true, consent),
+        Err(picked) => asks_about(alloc, shared, begun, config, place, picked),
     }
 }
 
@@ -141,14 +135,15 @@ fn asks_about(
     shared: &Shared<'_>,
     begun: Call,
     config: Config,
+    place: u32,
     picked: Picked,
 ) -> Result<(CallState, Items<Effect>), NoRoom>
     requires { picked.candidate.connected ≡ false }
-    ensures effects { IfOk result (λ r. r.1 ≡ (prompts (world_of shared.now) (configured begun config Stage.Choosing) begun.provider picked.candidate).effects) }
+    ensures effects { IfOk result (λ r. r.1 ≡ (prompts (world_of shared.now) (configured begun config Stage.Choosing) place begun.provider picked.candidate).effects) }
     ensures state { IfOk result (λ r. facts_of r.0 ≡ at_stage Stage.Prompting (with_candidate picked.candidate (configured begun config Stage.Choosing))) }
 {
     let prompt = picked.prompt(config.metadata.is_some());
-    let effects = prompt_shown(alloc, shared, &begun, &prompt, &config)?;
+    let effects = prompt_shown(alloc, shared, &begun, place, &prompt, &config)?;
     let state = Prompting {
         begun,
         config,
@@ -162,11 +157,12 @@ fn prompt_shown(
     alloc: Global,
     shared: &Shared<'_>,
     begun: &Call,
+    place: u32,
     prompt: &Prompt,
     config: &Config,
 ) -> Result<Items<Effect>, NoRoom>
-    ensures { IfOk result (λ effects. effects ≡ prompt_effect (world_of shared.now) (begun_facts begun.now) begun.now.provider prompt.now.pick.candidate prompt.now.pick.candidate.connected config.now.metadata ∷ []) }
+    ensures { IfOk result (λ effects. effects ≡ prompt_effect (world_of shared.now) (begun_facts begun.now) place begun.now.provider prompt.now.pick.candidate prompt.now.pick.candidate.connected config.now.metadata ∷ []) }
 {
-    let effect = prompt_effect(alloc, shared, begun, prompt, &config.metadata)?;
-    one(alloc, effect)
+    let effect = prompt_effect(alloc, shared, begun, place, prompt, &config.metadata)?;
+    effect.alone(alloc)
 }

@@ -43,12 +43,12 @@ pub fn site(alloc: Global, rules: &Suffixes, host: &Host) -> Result<Text, NoRoom
     }
 }
 
-// An account as a dialog shows it.
-fn shown(alloc: Global, account: &Account, connected: bool) -> Result<Shown, NoRoom>
-    ensures { IfOk result (λ shown. shown ≡ spec.shown account.now connected) }
+// An account of the provider at this place as a dialog shows it.
+fn shown(alloc: Global, place: u32, account: &Account, connected: bool) -> Result<Shown, NoRoom>
+    ensures { IfOk result (λ shown. shown ≡ spec.shown place account.now connected) }
 {
     Ok(Shown {
-        provider: 0,
+        provider: place,
         id: account.id.copy(alloc)?,
         name: account.name.copy(alloc)?,
         email: account.email.copy(alloc)?,
@@ -61,29 +61,31 @@ fn shown(alloc: Global, account: &Account, connected: bool) -> Result<Shown, NoR
 // The accounts as a dialog shows them, in their order.
 fn all_shown(
     alloc: Global,
+    place: u32,
     accounts: &[Account],
     connected: &[bool],
 ) -> Result<Items<Shown>, NoRoom>
     requires { length connected.now ≡ length accounts.now }
-    ensures { IfOk result (λ all. all ≡ spec.all_shown (record { accounts = accounts.now; connected = connected.now })) }
+    ensures { IfOk result (λ all. all ≡ spec.all_shown place (record { accounts = accounts.now; connected = connected.now })) }
 {
     let mut all = Items::new(alloc);
-    for (place, account) in accounts.iter().enumerate() {
-        all.push(shown(alloc, account, connected[place])?)?;
+    for (k, account) in accounts.iter().enumerate() {
+        all.push(shown(alloc, place, account, connected[k])?)?;
     }
     Ok(all)
 }
 
-/// The accounts are shown, to choose one of.
+/// The accounts of the provider at this place are shown, to choose one of.
 pub fn choice_dialog(
     alloc: Global,
     shared: &Shared<'_>,
     begun: &Call,
+    place: u32,
     chooser: &Chooser,
 ) -> Result<Effect, NoRoom>
-    ensures { IfOk result (λ effect. effect ≡ spec.choice_dialog (world_of shared.now) (begun_facts begun.now) chooser.now.listed) }
+    ensures { IfOk result (λ effect. effect ≡ spec.choice_dialog (world_of shared.now) (begun_facts begun.now) place chooser.now.listed) }
 {
-    let accounts = all_shown(alloc, chooser.accounts().list(), chooser.connected())?;
+    let accounts = all_shown(alloc, place, chooser.accounts().list(), chooser.connected())?;
     let site = site(alloc, shared.rules, &begun.origin.host)?;
     Ok(Effect::Dialog(Dialog::Choose {
         accounts,
@@ -102,17 +104,18 @@ fn link(alloc: Global, url: &Option<WebUrl>) -> Result<Option<Text>, NoRoom>
     }
 }
 
-/// The account of a prompt is shown, to go on with, and these links.
+/// The account of a prompt, of the provider at this place, is shown, to go on with, and these links.
 pub fn prompt_dialog(
     alloc: Global,
     shared: &Shared<'_>,
     begun: &Call,
+    place: u32,
     prompt: &Prompt,
     links: &PolicyLinks,
 ) -> Result<Effect, NoRoom>
-    ensures { IfOk result (λ effect. effect ≡ spec.prompt_dialog (world_of shared.now) (begun_facts begun.now) prompt.now.pick.candidate links.now) }
+    ensures { IfOk result (λ effect. effect ≡ spec.prompt_dialog (world_of shared.now) (begun_facts begun.now) place prompt.now.pick.candidate links.now) }
 {
-    let account = shown(alloc, prompt.account(), prompt.connected())?;
+    let account = shown(alloc, place, prompt.account(), prompt.connected())?;
     let site = site(alloc, shared.rules, &begun.origin.host)?;
     let privacy = link(alloc, &links.privacy)?;
     let terms = link(alloc, &links.terms)?;
@@ -131,14 +134,15 @@ pub fn prompt_effect(
     alloc: Global,
     shared: &Shared<'_>,
     begun: &Call,
+    place: u32,
     prompt: &Prompt,
     endpoint: &Option<WebUrl>,
 ) -> Result<Effect, NoRoom>
-    ensures { IfOk result (λ effect. effect ≡ spec.prompt_effect (world_of shared.now) (begun_facts begun.now) begun.now.provider prompt.now.pick.candidate prompt.now.pick.candidate.connected endpoint.now) }
+    ensures { IfOk result (λ effect. effect ≡ spec.prompt_effect (world_of shared.now) (begun_facts begun.now) place begun.now.provider prompt.now.pick.candidate prompt.now.pick.candidate.connected endpoint.now) }
 {
     match endpoint {
-        Some(to) if !prompt.connected() => metadata_request(alloc, begun, to),
-        _ => prompt_dialog(alloc, shared, begun, prompt, &no_links()),
+        Some(to) if !prompt.connected() => metadata_request(alloc, begun, place, to),
+        _ => prompt_dialog(alloc, shared, begun, place, prompt, &no_links()),
     }
 }
 
@@ -152,13 +156,13 @@ fn no_links() -> PolicyLinks
 }
 
 // The links of the client are asked for.
-fn metadata_request(alloc: Global, begun: &Call, to: &WebUrl) -> Result<Effect, NoRoom>
-    ensures { IfOk result (λ effect. effect ≡ effects.Send 0 (Ask.Metadata to.now begun.now.provider.client begun.now.origin)) }
+fn metadata_request(alloc: Global, begun: &Call, place: u32, to: &WebUrl) -> Result<Effect, NoRoom>
+    ensures { IfOk result (λ effect. effect ≡ effects.Send place (Ask.Metadata to.now begun.now.provider.client begun.now.origin)) }
 {
     let ask = Ask::Metadata {
         to: to.copy(alloc)?,
         client: begun.provider.client.copy(alloc)?,
         origin: begun.origin.copy(alloc)?,
     };
-    Ok(Effect::Send(0, ask))
+    Ok(Effect::Send(place, ask))
 }

@@ -11,7 +11,6 @@ mod choosing;
 mod dialog_tests;
 mod dialogs;
 mod effects;
-mod files;
 mod listing;
 mod mismatch;
 mod prompting;
@@ -27,6 +26,8 @@ mod tests;
 
 pub use asserting::Asserting;
 pub use choosing::Choosing;
+/// How far a call has come.
+pub use fed_origin::Stage;
 pub use listing::Listing;
 pub use mismatch::Mismatch;
 pub use prompting::Prompting;

@@ -6,7 +6,6 @@ ghost use Rattle.fed_call.specs.Accounts.{connects, needs_metadata};
 ghost use Rattle.fed_call.specs.Begun.{options_of};
 ghost use Rattle.fed_call.specs.Facts.{facts_after, at_stage, provider_at, with_accounts, with_listing};
 ghost use Rattle.fed_call.specs.ListingRows as spec;
-ghost use Rattle.fed_call.specs.Outcomes.{ignored};
 ghost use Rattle.fed_call.specs.Row.{input_row, stage_reply};
 ghost use Rattle.fed_call.specs.State.{begun_facts, facts_of, listing_facts};
 ghost use Rattle.fed_status.specs.Login.{status_of};
@@ -15,12 +14,11 @@ ghost use Rattle.fed_status.specs.Shared.{world_of};
 use crate::accounts::{connections, hinted_accounts};
 use crate::begun::Call;
 use crate::dialogs::{choice_dialog, prompt_effect, site};
-use crate::effects::{accounts_failure, fails, not_taken, plain, two};
 use crate::{CallState, Choosing, Ended, Mismatch, Prompting};
 use fed_accounts::Accounts;
-use fed_consent::{Chooser, Dialog, Effect, FailStep, Failure, Finish, Input, Prompt, Why};
+use fed_consent::{Chooser, Dialog, Effect, Failure, Finish, Input, Prompt, Why};
 use fed_io::{Items, NoRoom};
-use fed_origin::{LoginStatus, Mediation, Mode, Origin, ReplyKind, Stage};
+use fed_origin::{LoginStatus, Mediation, Mode, ReplyKind, Stage};
 use fed_provider::Config;
 use fed_status::Shared;
 use std::alloc::Global;
@@ -57,23 +55,14 @@ impl Listing {
                 kind,
                 raw,
             } => self.reply(alloc, shared, *provider, *kind, raw.as_slice()),
-            Input::Abort => fails(alloc, plain(FailStep::Aborted)),
-            Input::Choose { .. }
+            Input::Abort
+            | Input::Choose { .. }
             | Input::GoOn
             | Input::Cancel
             | Input::SignIn
             | Input::Shut
-            | Input::Resume => self.ignores(alloc, Why::NotOffered),
+            | Input::Resume => CallState::Listing(self).declines(alloc, input),
         }
-    }
-
-    // The call does not take the event.
-    fn ignores(self, alloc: Global, why: Why) -> Result<(CallState, Items<Effect>), NoRoom>
-        ensures effects { IfOk result (λ r. r.1 ≡ (ignored why).effects) }
-        ensures state { IfOk result (λ r. r.0 ≡ CallState.Listing self) }
-    {
-        let effects = not_taken(alloc, why)?;
-        Ok((CallState::Listing(self), effects))
     }
 
     // A reply for the provider at this place.
@@ -94,7 +83,7 @@ impl Listing {
             | ReplyKind::Config
             | ReplyKind::Metadata
             | ReplyKind::Assertion
-            | ReplyKind::Disconnect => self.ignores(alloc, Why::NotWaited),
+            | ReplyKind::Disconnect => CallState::Listing(self).ignores(alloc, Why::NotWaited),
         }
     }
 
@@ -106,43 +95,45 @@ impl Listing {
         place: u32,
         raw: &[u8],
     ) -> Result<(CallState, Items<Effect>), NoRoom>
-        ensures effects { IfOk result (λ r. r.1 ≡ (spec.accounts_reply (world_of shared.now) (listing_facts self) (provider_at place (options_of self.begun)) raw.now).effects) }
-        ensures state { IfOk result (λ r. facts_of r.0 ≡ facts_after (world_of shared.now) (listing_facts self) (inputs.Reply place ReplyKind.Accounts raw.now) (spec.accounts_reply (world_of shared.now) (listing_facts self) (provider_at place (options_of self.begun)) raw.now)) }
+        ensures effects { IfOk result (λ r. r.1 ≡ (spec.accounts_reply (world_of shared.now) (listing_facts self) place (provider_at place (options_of self.begun)) raw.now).effects) }
+        ensures state { IfOk result (λ r. facts_of r.0 ≡ facts_after (world_of shared.now) (listing_facts self) (inputs.Reply place ReplyKind.Accounts raw.now) (spec.accounts_reply (world_of shared.now) (listing_facts self) place (provider_at place (options_of self.begun)) raw.now)) }
     {
         if self.begun.has(place) {
-            return self.first_accounts(alloc, shared, raw);
+            return self.first_accounts(alloc, shared, place, raw);
         }
-        self.ignores(alloc, Why::NotWaited)
+        CallState::Listing(self).ignores(alloc, Why::NotWaited)
     }
 
-    // The accounts reply of the provider.
+    // The accounts reply of the provider at this place.
     fn first_accounts(
         self,
         alloc: Global,
         shared: &Shared<'_>,
+        place: u32,
         raw: &[u8],
     ) -> Result<(CallState, Items<Effect>), NoRoom>
-        ensures effects { IfOk result (λ r. r.1 ≡ (spec.accounts_reply (world_of shared.now) (listing_facts self) (Some self.begun.provider) raw.now).effects) }
-        ensures state { IfOk result (λ r. facts_of r.0 ≡ at_stage (unwrap_or (spec.accounts_reply (world_of shared.now) (listing_facts self) (Some self.begun.provider) raw.now).stage Stage.Listing) (with_listing (world_of shared.now) raw.now (Some self.begun.provider) (listing_facts self))) }
+        ensures effects { IfOk result (λ r. r.1 ≡ (spec.accounts_reply (world_of shared.now) (listing_facts self) place (Some self.begun.provider) raw.now).effects) }
+        ensures state { IfOk result (λ r. facts_of r.0 ≡ at_stage (unwrap_or (spec.accounts_reply (world_of shared.now) (listing_facts self) place (Some self.begun.provider) raw.now).stage Stage.Listing) (with_listing (world_of shared.now) raw.now (Some self.begun.provider) (listing_facts self))) }
     {
         match hinted_accounts(alloc, raw, &self.begun.provider)? {
-            Ok(accounts) => self.accepts(alloc, shared, accounts),
-            Err(step) => self.refuses(alloc, shared, accounts_failure(step)),
+            Ok(accounts) => self.accepts(alloc, shared, place, accounts),
+            Err(step) => self.refuses(alloc, shared, place, Failure::of_accounts(step)),
         }
     }
 
-    // The accounts are refused, or none fits the hints of the call.
+    // The accounts are refused, or none fits the hints of the call: the user hears of it (row C15), or the page (row C16).
     fn refuses(
         self,
         alloc: Global,
         shared: &Shared<'_>,
+        place: u32,
         failure: Failure,
     ) -> Result<(CallState, Items<Effect>), NoRoom>
-        ensures effects { IfOk result (λ r. r.1 ≡ (spec.refused (world_of shared.now) (listing_facts self) (origin_of self.begun.provider.config) failure).effects) }
-        ensures state { IfOk result (λ r. facts_of r.0 ≡ at_stage (unwrap_or (spec.refused (world_of shared.now) (listing_facts self) (origin_of self.begun.provider.config) failure).stage Stage.Listing) (listing_facts self)) }
+        ensures effects { IfOk result (λ r. r.1 ≡ (spec.refused (world_of shared.now) (listing_facts self) place (origin_of self.begun.provider.config) failure).effects) }
+        ensures state { IfOk result (λ r. facts_of r.0 ≡ at_stage (unwrap_or (spec.refused (world_of shared.now) (listing_facts self) place (origin_of self.begun.provider.config) failure).stage Stage.Listing) (listing_facts self)) }
     {
-        if is_mismatch(alloc, &self.begun, shared)? {
-            return self.shows_mismatch(alloc, shared, failure);
+        if is_mismatch(&self.begun, shared) {
+            return self.shows_mismatch(alloc, shared, place, failure);
         }
         let effects = failed(alloc, &self.begun, failure)?;
         Ok((CallState::Ended(Ended), effects))
@@ -153,31 +144,33 @@ impl Listing {
         self,
         alloc: Global,
         shared: &Shared<'_>,
+        place: u32,
         failure: Failure,
     ) -> Result<(CallState, Items<Effect>), NoRoom>
-        ensures effects { IfOk result (λ r. r.1 ≡ Effect.SetLogin (origin_of self.begun.provider.config) LoginStatus.LoggedOut ∷ Effect.Dialog (Dialog.Mismatch 0 (spec.site_of (world_of shared.now) self.begun.origin) failure) ∷ []) }
+        ensures effects { IfOk result (λ r. r.1 ≡ Effect.SetLogin (origin_of self.begun.provider.config) LoginStatus.LoggedOut ∷ Effect.Dialog (Dialog.Mismatch place (spec.site_of (world_of shared.now) self.begun.origin) failure) ∷ []) }
         ensures state { IfOk result (λ r. r.0 ≡ CallState.Mismatch (record { begun = self.begun; config = self.config })) }
     {
-        let effects = mismatch_shown(alloc, &self.begun, shared, failure)?;
+        let effects = mismatch_shown(alloc, &self.begun, shared, place, failure)?;
         let Listing { begun, config } = self;
         Ok((CallState::Mismatch(Mismatch { begun, config }), effects))
     }
 
-    // The accounts are good.
+    // The accounts are good: one is asked about (rows C20 and C21), among several the user chooses (row C19).
     fn accepts(
         self,
         alloc: Global,
         shared: &Shared<'_>,
+        place: u32,
         accounts: Accounts,
     ) -> Result<(CallState, Items<Effect>), NoRoom>
-        ensures effects { IfOk result (λ r. r.1 ≡ (spec.accepted (world_of shared.now) (listing_facts self) self.begun.provider accounts).effects) }
-        ensures state { IfOk result (λ r. facts_of r.0 ≡ at_stage (unwrap_or (spec.accepted (world_of shared.now) (listing_facts self) self.begun.provider accounts).stage Stage.Listing) (with_accounts (world_of shared.now) self.begun.provider accounts (listing_facts self))) }
+        ensures effects { IfOk result (λ r. r.1 ≡ (spec.accepted (world_of shared.now) (listing_facts self) place self.begun.provider accounts).effects) }
+        ensures state { IfOk result (λ r. facts_of r.0 ≡ at_stage (unwrap_or (spec.accepted (world_of shared.now) (listing_facts self) place self.begun.provider accounts).stage Stage.Listing) (with_accounts (world_of shared.now) self.begun.provider accounts (listing_facts self))) }
     {
         let connected = connections(alloc, shared.kept, &self.begun, accounts.list())?;
         if accounts.list().len() == 1 {
-            self.asks_about(alloc, shared, accounts, connected.as_slice()[0])
+            self.asks_about(alloc, shared, place, accounts, connected.as_slice()[0])
         } else {
-            self.asks_for_choice(alloc, shared, accounts, connected)
+            self.asks_for_choice(alloc, shared, place, accounts, connected)
         }
     }
 
@@ -186,17 +179,18 @@ impl Listing {
         self,
         alloc: Global,
         shared: &Shared<'_>,
+        place: u32,
         accounts: Accounts,
         connected: bool,
     ) -> Result<(CallState, Items<Effect>), NoRoom>
         requires one { length accounts ≡ 1 }
         requires each { connected ∷ [] ≡ map (connects (world_of shared.now) self.begun.origin self.begun.provider) accounts }
-        ensures effects { IfOk result (λ r. r.1 ≡ (spec.accepted (world_of shared.now) (listing_facts self) self.begun.provider accounts).effects) }
-        ensures state { IfOk result (λ r. facts_of r.0 ≡ at_stage (unwrap_or (spec.accepted (world_of shared.now) (listing_facts self) self.begun.provider accounts).stage Stage.Listing) (with_accounts (world_of shared.now) self.begun.provider accounts (listing_facts self))) }
+        ensures effects { IfOk result (λ r. r.1 ≡ (spec.accepted (world_of shared.now) (listing_facts self) place self.begun.provider accounts).effects) }
+        ensures state { IfOk result (λ r. facts_of r.0 ≡ at_stage (unwrap_or (spec.accepted (world_of shared.now) (listing_facts self) place self.begun.provider accounts).stage Stage.Listing) (with_accounts (world_of shared.now) self.begun.provider accounts (listing_facts self))) }
     {
         let waits = !connected && self.config.metadata.is_some();
-        let prompt = Prompt::single(self.begun.call, 0, accounts, connected, waits);
-        let effects = prompt_shown(alloc, shared, &self, &prompt)?;
+        let prompt = Prompt::single(self.begun.call, place, accounts, connected, waits);
+        let effects = prompt_shown(alloc, shared, &self, place, &prompt)?;
         let Listing { begun, config } = self;
         let state = Prompting {
             begun,
@@ -211,16 +205,17 @@ impl Listing {
         self,
         alloc: Global,
         shared: &Shared<'_>,
+        place: u32,
         accounts: Accounts,
         connected: Items<bool>,
     ) -> Result<(CallState, Items<Effect>), NoRoom>
         requires several { 2 ≤ length accounts }
         requires each { connected ≡ map (connects (world_of shared.now) self.begun.origin self.begun.provider) accounts }
-        ensures effects { IfOk result (λ r. r.1 ≡ (spec.accepted (world_of shared.now) (listing_facts self) self.begun.provider accounts).effects) }
-        ensures state { IfOk result (λ r. facts_of r.0 ≡ at_stage (unwrap_or (spec.accepted (world_of shared.now) (listing_facts self) self.begun.provider accounts).stage Stage.Listing) (with_accounts (world_of shared.now) self.begun.provider accounts (listing_facts self))) }
+        ensures effects { IfOk result (λ r. r.1 ≡ (spec.accepted (world_of shared.now) (listing_facts self) place self.begun.provider accounts).effects) }
+        ensures state { IfOk result (λ r. facts_of r.0 ≡ at_stage (unwrap_or (spec.accepted (world_of shared.now) (listing_facts self) place self.begun.provider accounts).stage Stage.Listing) (with_accounts (world_of shared.now) self.begun.provider accounts (listing_facts self))) }
     {
-        let chooser = Chooser::new(self.begun.call, 0, accounts, connected);
-        let effects = choice_shown(alloc, shared, &self.begun, &chooser)?;
+        let chooser = Chooser::new(self.begun.call, place, accounts, connected);
+        let effects = choice_shown(alloc, shared, &self.begun, place, &chooser)?;
         let Listing { begun, config } = self;
         let state = Choosing {
             begun,
@@ -232,56 +227,52 @@ impl Listing {
 }
 
 // Whether the call is passive and not silent, and the user was logged in at the provider.
-fn is_mismatch(alloc: Global, begun: &Call, shared: &Shared<'_>) -> Result<bool, NoRoom>
-    ensures { IfOk result (λ mismatch. mismatch ≡ spec.is_mismatch begun.now.mode begun.now.mediation (status_of (world_of shared.now).login (origin_of begun.now.provider.config))) }
+fn is_mismatch(begun: &Call, shared: &Shared<'_>) -> bool
+    ensures { result ≡ spec.is_mismatch begun.now.mode begun.now.mediation (status_of (world_of shared.now).login (origin_of begun.now.provider.config)) }
 {
-    let provider = Origin::of_url(alloc, &begun.provider.config)?;
-    let was = shared.login.get(&provider);
-    Ok(
-        begun.mode == Mode::Passive
-            && begun.mediation != Mediation::Silent
-            && was == LoginStatus::LoggedIn,
-    )
+    let was = shared.login.get(begun.provider_origin());
+    begun.mode == Mode::Passive
+        && begun.mediation != Mediation::Silent
+        && was == LoginStatus::LoggedIn
 }
 
 // The status of the provider is set, and then this.
 fn with_status(
     alloc: Global,
-    provider: Origin,
+    begun: &Call,
     status: LoginStatus,
-    then: Effect,
+    next: Effect,
 ) -> Result<Items<Effect>, NoRoom>
-    ensures { IfOk result (λ effects. effects ≡ Effect.SetLogin provider status ∷ then ∷ []) }
+    ensures { IfOk result (λ effects. effects ≡ Effect.SetLogin (origin_of begun.now.provider.config) status ∷ next ∷ []) }
 {
-    two(alloc, Effect::SetLogin(provider, status), then)
+    let provider = begun.provider_origin().copy(alloc)?;
+    Effect::SetLogin(provider, status).then(alloc, next)
 }
 
 // The user is logged out at the provider, and the page gets the failure.
 fn failed(alloc: Global, begun: &Call, failure: Failure) -> Result<Items<Effect>, NoRoom>
     ensures { IfOk result (λ effects. effects ≡ Effect.SetLogin (origin_of begun.now.provider.config) LoginStatus.LoggedOut ∷ Effect.Finish (Finish.Failed failure) ∷ []) }
 {
-    let provider = Origin::of_url(alloc, &begun.provider.config)?;
     let finish = Effect::Finish(Finish::Failed(failure));
-    with_status(alloc, provider, LoginStatus::LoggedOut, finish)
+    with_status(alloc, begun, LoginStatus::LoggedOut, finish)
 }
 
-// The user is logged out, and is shown that the provider gave no account.
+// The user is logged out, and is shown that the provider at this place gave no account.
 fn mismatch_shown(
     alloc: Global,
     begun: &Call,
     shared: &Shared<'_>,
+    place: u32,
     failure: Failure,
 ) -> Result<Items<Effect>, NoRoom>
-    ensures { IfOk result (λ effects. effects ≡ Effect.SetLogin (origin_of begun.now.provider.config) LoginStatus.LoggedOut ∷ Effect.Dialog (Dialog.Mismatch 0 (spec.site_of (world_of shared.now) begun.now.origin) failure) ∷ []) }
+    ensures { IfOk result (λ effects. effects ≡ Effect.SetLogin (origin_of begun.now.provider.config) LoginStatus.LoggedOut ∷ Effect.Dialog (Dialog.Mismatch place (spec.site_of (world_of shared.now) begun.now.origin) failure) ∷ []) }
 {
-    let provider = Origin::of_url(alloc, &begun.provider.config)?;
-    let dialog = Dialog::Mismatch {
-        provider: 0,
+    let dialog = Effect::Dialog(Dialog::Mismatch {
+        provider: place,
         site: site(alloc, shared.rules, &begun.origin.host)?,
         failure,
-    };
-    let then = Effect::Dialog(dialog);
-    with_status(alloc, provider, LoginStatus::LoggedOut, then)
+    });
+    with_status(alloc, begun, LoginStatus::LoggedOut, dialog)
 }
 
 // The user is logged in, and what comes first of the prompt.
@@ -289,14 +280,21 @@ fn prompt_shown(
     alloc: Global,
     shared: &Shared<'_>,
     listing: &Listing,
+    place: u32,
     prompt: &Prompt,
 ) -> Result<Items<Effect>, NoRoom>
-    ensures { IfOk result (λ effects. effects ≡ Effect.SetLogin (origin_of listing.now.begun.provider.config) LoginStatus.LoggedIn ∷ spec.prompt_effect (world_of shared.now) (listing_facts listing.now) listing.now.begun.provider prompt.now.pick.candidate prompt.now.pick.candidate.connected listing.now.config.metadata ∷ []) }
+    ensures { IfOk result (λ effects. effects ≡ Effect.SetLogin (origin_of listing.now.begun.provider.config) LoginStatus.LoggedIn ∷ spec.prompt_effect (world_of shared.now) (listing_facts listing.now) place listing.now.begun.provider prompt.now.pick.candidate prompt.now.pick.candidate.connected listing.now.config.metadata ∷ []) }
 {
     let begun = &listing.begun;
-    let provider = Origin::of_url(alloc, &begun.provider.config)?;
-    let effect = prompt_effect(alloc, shared, begun, prompt, &listing.config.metadata)?;
-    with_status(alloc, provider, LoginStatus::LoggedIn, effect)
+    let effect = prompt_effect(
+        alloc,
+        shared,
+        begun,
+        place,
+        prompt,
+        &listing.config.metadata,
+    )?;
+    with_status(alloc, begun, LoginStatus::LoggedIn, effect)
 }
 
 // The user is logged in, and is to choose.
@@ -304,11 +302,11 @@ fn choice_shown(
     alloc: Global,
     shared: &Shared<'_>,
     begun: &Call,
+    place: u32,
     chooser: &Chooser,
 ) -> Result<Items<Effect>, NoRoom>
-    ensures { IfOk result (λ effects. effects ≡ Effect.SetLogin (origin_of begun.now.provider.config) LoginStatus.LoggedIn ∷ spec.choice_dialog (world_of shared.now) (begun_facts begun.now) chooser.now.listed ∷ []) }
+    ensures { IfOk result (λ effects. effects ≡ Effect.SetLogin (origin_of begun.now.provider.config) LoginStatus.LoggedIn ∷ spec.choice_dialog (world_of shared.now) (begun_facts begun.now) place chooser.now.listed ∷ []) }
 {
-    let provider = Origin::of_url(alloc, &begun.provider.config)?;
-    let dialog = choice_dialog(alloc, shared, begun, chooser)?;
-    with_status(alloc, provider, LoginStatus::LoggedIn, dialog)
+    let dialog = choice_dialog(alloc, shared, begun, place, chooser)?;
+    with_status(alloc, begun, LoginStatus::LoggedIn, dialog)
 }

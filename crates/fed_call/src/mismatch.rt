@@ -1,15 +1,14 @@
 //! A call whose user is shown that the provider gave no account.
 ghost use Rattle.std.specs.Prelude.{◌≡◌, IfOk};
 ghost use Rattle.fed_call.specs.Facts.{facts_after};
-ghost use Rattle.fed_call.specs.Outcomes.{ignored};
 ghost use Rattle.fed_call.specs.Row.{input_row};
 ghost use Rattle.fed_call.specs.State.{facts_of, mismatch_facts};
 ghost use Rattle.fed_status.specs.Shared.{world_of};
 
 use crate::CallState;
 use crate::begun::Call;
-use crate::effects::{fails, not_taken, plain};
-use fed_consent::{Effect, FailStep, Input, Why};
+use crate::effects::fails;
+use fed_consent::{Effect, FailStep, Failure, Input};
 use fed_io::{Items, NoRoom};
 use fed_provider::Config;
 use fed_status::Shared;
@@ -31,7 +30,7 @@ impl Drop for Mismatch {
 }
 
 impl Mismatch {
-    /// The call after an input, and what it does there.
+    /// The call after an input, and what it does there: it fails where the user closed the dialog (row C31).
     pub(crate) fn advance(
         self,
         alloc: Global,
@@ -42,21 +41,14 @@ impl Mismatch {
         ensures state { IfOk result (λ r. facts_of r.0 ≡ facts_after (world_of shared.now) (mismatch_facts self) input.now (input_row (world_of shared.now) (mismatch_facts self) input.now)) }
     {
         match input {
-            Input::Cancel => fails(alloc, plain(FailStep::UserCancelled)),
-            Input::Abort => fails(alloc, plain(FailStep::Aborted)),
-            Input::Reply { .. } => self.ignores(alloc, Why::NotWaited),
-            Input::Choose { .. } | Input::GoOn | Input::SignIn | Input::Shut | Input::Resume => {
-                self.ignores(alloc, Why::NotOffered)
-            }
+            Input::Cancel => fails(alloc, Failure::plain(FailStep::UserCancelled)),
+            Input::Abort
+            | Input::Reply { .. }
+            | Input::Choose { .. }
+            | Input::GoOn
+            | Input::SignIn
+            | Input::Shut
+            | Input::Resume => CallState::Mismatch(self).declines(alloc, input),
         }
-    }
-
-    // The call does not take the event.
-    fn ignores(self, alloc: Global, why: Why) -> Result<(CallState, Items<Effect>), NoRoom>
-        ensures effects { IfOk result (λ r. r.1 ≡ (ignored why).effects) }
-        ensures state { IfOk result (λ r. r.0 ≡ CallState.Mismatch self) }
-    {
-        let effects = not_taken(alloc, why)?;
-        Ok((CallState::Mismatch(self), effects))
     }
 }

@@ -5,7 +5,6 @@ ghost use Rattle.fed_call.specs.Begun.{options_of};
 ghost use Rattle.fed_call.specs.DialogRows as spec;
 ghost use Rattle.fed_call.specs.Facts.{at_stage, facts_after, provider_at};
 ghost use Rattle.fed_call.specs.ListingRows.{prompt_dialog};
-ghost use Rattle.fed_call.specs.Outcomes.{ignored};
 ghost use Rattle.fed_call.specs.Row.{input_row, stage_reply};
 ghost use Rattle.fed_call.specs.State.{facts_of, prompting_facts};
 ghost use Rattle.fed_provider.specs.Metadata.{MetadataOf};
@@ -15,8 +14,8 @@ use crate::CallState;
 use crate::asserting::asserts;
 use crate::begun::Call;
 use crate::dialogs::prompt_dialog;
-use crate::effects::{fails, not_taken, one, plain};
-use fed_consent::{Effect, FailStep, Input, Prompt, Why};
+use crate::effects::fails;
+use fed_consent::{Effect, FailStep, Failure, Input, ONLY_PLACE, Prompt, Why};
 use fed_io::{Items, NoRoom};
 use fed_origin::{ReplyKind, Stage};
 use fed_provider::{Config, read_metadata};
@@ -57,12 +56,11 @@ impl Prompting {
                 kind,
                 raw,
             } => self.reply(alloc, shared, *provider, *kind, raw.as_slice()),
-            Input::Cancel => fails(alloc, plain(FailStep::UserCancelled)),
-            Input::Abort => fails(alloc, plain(FailStep::Aborted)),
             Input::GoOn => self.go_on(alloc),
-            Input::Choose { .. } | Input::SignIn | Input::Shut | Input::Resume => {
-                self.ignores(alloc, Why::NotOffered)
-            }
+            // Row C31.
+            Input::Cancel => fails(alloc, Failure::plain(FailStep::UserCancelled)),
+            Input::Abort | Input::Choose { .. } | Input::SignIn | Input::Shut | Input::Resume =>
+                CallState::Prompting(self).declines(alloc, input),
         }
     }
 
@@ -84,11 +82,11 @@ impl Prompting {
             | ReplyKind::Config
             | ReplyKind::Accounts
             | ReplyKind::Assertion
-            | ReplyKind::Disconnect => self.ignores(alloc, Why::NotWaited),
+            | ReplyKind::Disconnect => CallState::Prompting(self).ignores(alloc, Why::NotWaited),
         }
     }
 
-    // A metadata reply: it is taken where the prompt waits for it, of the provider that the call has.
+    // A metadata reply: it is taken where the prompt waits for it, of the provider that the call has (row C26).
     fn metadata_reply(
         self,
         alloc: Global,
@@ -96,27 +94,28 @@ impl Prompting {
         place: u32,
         raw: &[u8],
     ) -> Result<(CallState, Items<Effect>), NoRoom>
-        ensures effects { IfOk result (λ r. r.1 ≡ (spec.metadata_reply (world_of shared.now) (prompting_facts self) self.prompt.waits (provider_at place (options_of self.begun)) raw.now).effects) }
-        ensures state { IfOk result (λ r. facts_of r.0 ≡ facts_after (world_of shared.now) (prompting_facts self) (inputs.Reply place ReplyKind.Metadata raw.now) (spec.metadata_reply (world_of shared.now) (prompting_facts self) self.prompt.waits (provider_at place (options_of self.begun)) raw.now)) }
+        ensures effects { IfOk result (λ r. r.1 ≡ (spec.metadata_reply (world_of shared.now) (prompting_facts self) self.prompt.waits place (provider_at place (options_of self.begun)) raw.now).effects) }
+        ensures state { IfOk result (λ r. facts_of r.0 ≡ facts_after (world_of shared.now) (prompting_facts self) (inputs.Reply place ReplyKind.Metadata raw.now) (spec.metadata_reply (world_of shared.now) (prompting_facts self) self.prompt.waits place (provider_at place (options_of self.begun)) raw.now)) }
     {
         match (self.prompt.waits(), self.begun.has(place)) {
-            (true, true) => self.shows_links(alloc, shared, raw),
-            (true, false) => self.ignores(alloc, Why::NotWaited),
-            (false, _) => self.ignores(alloc, Why::NotWaited),
+            (true, true) => self.shows_links(alloc, shared, place, raw),
+            (true, false) => CallState::Prompting(self).ignores(alloc, Why::NotWaited),
+            (false, _) => CallState::Prompting(self).ignores(alloc, Why::NotWaited),
         }
     }
 
-    // The metadata came: the account is shown with the links of the client.
+    // The metadata came: the account is shown with the links of the client, and the call stays.
     fn shows_links(
         self,
         alloc: Global,
         shared: &Shared<'_>,
+        place: u32,
         raw: &[u8],
     ) -> Result<(CallState, Items<Effect>), NoRoom>
-        ensures effects { IfOk result (λ r. r.1 ≡ prompt_dialog (world_of shared.now) (prompting_facts self) self.prompt.pick.candidate (MetadataOf raw.now) ∷ []) }
+        ensures effects { IfOk result (λ r. r.1 ≡ prompt_dialog (world_of shared.now) (prompting_facts self) place self.prompt.pick.candidate (MetadataOf raw.now) ∷ []) }
         ensures state { IfOk result (λ r. r.0 ≡ CallState.Prompting (record self { prompt = record self.prompt { waits = false } })) }
     {
-        let effects = links_shown(alloc, shared, &self, raw)?;
+        let effects = links_shown(alloc, shared, &self, place, raw)?;
         let Prompting {
             begun,
             config,
@@ -130,7 +129,7 @@ impl Prompting {
         Ok((CallState::Prompting(state), effects))
     }
 
-    // The user went on with the account.
+    // The user went on with the account, if the prompt does not wait (row C27, else row C36).
     fn go_on(self, alloc: Global) -> Result<(CallState, Items<Effect>), NoRoom>
         ensures effects { IfOk result (λ r. r.1 ≡ (spec.went_on (prompting_facts self) Stage.Prompting).effects) }
         ensures state { IfOk result (λ r. facts_of r.0 ≡ at_stage (unwrap_or (spec.went_on (prompting_facts self) Stage.Prompting).stage Stage.Prompting) (prompting_facts self)) }
@@ -143,25 +142,18 @@ impl Prompting {
             prompt,
         } = self;
         match prompt.proceed() {
-            Ok(consent) => asserts(alloc, begun, config, account, connected, consent),
+            Ok(consent) => asserts(
+                alloc, begun, config, ONLY_PLACE, account, connected, consent,
+            ),
             Err(prompt) => {
                 let state = Prompting {
                     begun,
                     config,
                     prompt,
                 };
-                state.ignores(alloc, Why::NotOffered)
+                CallState::Prompting(state).ignores(alloc, Why::NotOffered)
             }
         }
-    }
-
-    // The call does not take the event.
-    fn ignores(self, alloc: Global, why: Why) -> Result<(CallState, Items<Effect>), NoRoom>
-        ensures effects { IfOk result (λ r. r.1 ≡ (ignored why).effects) }
-        ensures state { IfOk result (λ r. r.0 ≡ CallState.Prompting self) }
-    {
-        let effects = not_taken(alloc, why)?;
-        Ok((CallState::Prompting(self), effects))
     }
 }
 
@@ -170,11 +162,13 @@ fn links_shown(
     alloc: Global,
     shared: &Shared<'_>,
     prompting: &Prompting,
+    place: u32,
     raw: &[u8],
 ) -> Result<Items<Effect>, NoRoom>
-    ensures { IfOk result (λ effects. effects ≡ prompt_dialog (world_of shared.now) (prompting_facts prompting.now) prompting.now.prompt.pick.candidate (MetadataOf raw.now) ∷ []) }
+    ensures { IfOk result (λ effects. effects ≡ prompt_dialog (world_of shared.now) (prompting_facts prompting.now) place prompting.now.prompt.pick.candidate (MetadataOf raw.now) ∷ []) }
 {
     let links = read_metadata(alloc, raw)?;
-    let dialog = prompt_dialog(alloc, shared, &prompting.begun, &prompting.prompt, &links)?;
-    one(alloc, dialog)
+    let Prompting { begun, prompt, .. } = prompting;
+    let dialog = prompt_dialog(alloc, shared, begun, place, prompt, &links)?;
+    dialog.alone(alloc)
 }

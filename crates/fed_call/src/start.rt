@@ -3,59 +3,75 @@ ghost use Rattle.std.specs.Prelude.{◌≡◌, [], ◌∷◌, IfOk, IfSome, leng
 ghost use Rattle.fed_origin.specs.WebUrl.{origin_of, scheme_of};
 ghost use Rattle.fed_status.specs.Login.{status_of};
 ghost use Rattle.fed_status.specs.Shared.{world_of};
+ghost use Rattle.fed_consent.specs.Outcomes.{only_place};
 ghost use Rattle.fed_call.specs.Facts.{provider_at};
 ghost use Rattle.fed_call.specs.ReadingRows as spec;
 
-use fed_consent::{Ask, Effect, FailStep};
+use fed_consent::{Ask, Effect, FailStep, ONLY_PLACE};
 use fed_io::{Fault, Items, NoRoom};
 use fed_origin::{GetOptions, LoginStatus, Mode, Origin, Scheme, WebUrl};
 use fed_provider::wellknown_url;
 use fed_status::{LoginMap, Shared};
 use std::alloc::Global;
 
-/// The first requests of a call, or the step at which it fails.
+/// The origin of the only provider.
+pub fn provider_origin(alloc: Global, options: &GetOptions) -> Result<Origin, NoRoom>
+    requires { length options.now.providers ≡ 1 }
+    ensures { IfOk result (λ origin. IfSome (provider_at only_place options.now) (λ provider. origin ≡ origin_of provider.config)) }
+{
+    Origin::of_url(alloc, &options.providers.as_slice()[0].config)
+}
+
+/// The first requests of a call to its only provider, which is of this origin, or the step at which the call fails.
 pub fn first_requests(
     alloc: Global,
     options: &GetOptions,
+    provider: &Origin,
     shared: &Shared<'_>,
 ) -> Result<Result<Items<Effect>, FailStep>, NoRoom>
-    requires { length options.now.providers ≡ 1 }
-    ensures value { IfOk result (λ first. spec.first_outcome first ≡ spec.start_row (world_of shared.now) options.now) }
-    ensures secure { IfOk result (λ first. IfOk first (λ _. IfSome (provider_at 0 options.now) (λ provider. scheme_of provider.config ≡ Scheme.Https))) }
+    requires one { length options.now.providers ≡ 1 }
+    requires its { IfSome (provider_at only_place options.now) (λ p. provider.now ≡ origin_of p.config) }
+    ensures value { IfOk result (λ first. spec.first_outcome first ≡ spec.start_at (world_of shared.now) options.now.mode only_place (provider_at only_place options.now)) }
+    ensures secure { IfOk result (λ first. IfOk first (λ _. IfSome (provider_at only_place options.now) (λ p. scheme_of p.config ≡ Scheme.Https))) }
 {
     let config = &options.providers.as_slice()[0].config;
+    // Row C2.
     if config.scheme() == Scheme::Http {
         return Ok(Err(FailStep::ConfigScheme));
     }
+    // Row C4.
     let wellknown = match wellknown_url(alloc, shared.rules, config) {
         Ok(url) => url,
         Err(Fault::Step(_)) => return Ok(Err(FailStep::NoSite)),
         Err(Fault::NoRoom) => return Err(NoRoom),
     };
-    if is_gated(alloc, options.mode, shared.login, config)? {
+    // Row C6.
+    if is_gated(options.mode, shared.login, provider) {
         return Ok(Err(FailStep::LoggedOut));
     }
+    // Row C7.
     Ok(Ok(requests(alloc, wellknown, config)?))
 }
 
 // Whether the call is passive and the user is logged out at the provider.
-fn is_gated(alloc: Global, mode: Mode, login: &LoginMap, config: &WebUrl) -> Result<bool, NoRoom>
-    ensures { IfOk result (λ gated. gated ≡ spec.is_gated mode (status_of login.now (origin_of config.now))) }
+fn is_gated(mode: Mode, login: &LoginMap, provider: &Origin) -> bool
+    ensures { result ≡ spec.is_gated mode (status_of login.now provider.now) }
 {
-    if mode == Mode::Active {
-        return Ok(false);
+    match mode {
+        Mode::Active => false,
+        Mode::Passive => login.get(provider) == LoginStatus::LoggedOut,
     }
-    let provider = Origin::of_url(alloc, config)?;
-    Ok(login.get(&provider) == LoginStatus::LoggedOut)
 }
 
 // The requests for the well-known file and the configuration.
 fn requests(alloc: Global, wellknown: WebUrl, config: &WebUrl) -> Result<Items<Effect>, NoRoom>
-    ensures { IfOk result (λ effects. effects ≡ Effect.Send 0 (Ask.WellKnown wellknown) ∷ Effect.Send 0 (Ask.Config config.now) ∷ []) }
+    ensures { IfOk result (λ effects. effects ≡ Effect.Send only_place (Ask.WellKnown wellknown) ∷ Effect.Send only_place (Ask.Config config.now) ∷ []) }
 {
-    let config = config.copy(alloc)?;
-    let mut effects = Items::new(alloc);
-    effects.push(Effect::Send(0, Ask::WellKnown { to: wellknown }))?;
-    effects.push(Effect::Send(0, Ask::Config { to: config }))?;
-    Ok(effects)
+    let config = Effect::Send(
+        ONLY_PLACE,
+        Ask::Config {
+            to: config.copy(alloc)?,
+        },
+    );
+    Effect::Send(ONLY_PLACE, Ask::WellKnown { to: wellknown }).then(alloc, config)
 }

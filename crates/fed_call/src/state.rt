@@ -2,16 +2,18 @@
 ghost use Rattle.std.specs.Prelude.{◌≡◌, IfOk, Some, length, option_map};
 ghost use Rattle.fed_status.specs.Shared.{world_of};
 ghost use Rattle.fed_call.specs.Facts.{started, stage_of, next_facts};
-ghost use Rattle.fed_call.specs.Row.{start_row, call_row};
+ghost use Rattle.fed_consent.specs.Outcomes.{ignored};
+ghost use Rattle.fed_call.specs.Row.{start_row, call_row, declined, kept_declined};
 ghost use Rattle.fed_call.specs.State.{facts_of};
 
 use crate::begun::Call;
-use crate::effects::{fails, not_taken, plain};
-use crate::start::first_requests;
+use crate::effects::fails;
+use crate::start::{first_requests, provider_origin};
 use crate::{Asserting, Choosing, Listing, Mismatch, Prompting, Reading};
-use fed_consent::{Effect, Input, Why};
+use fed_consent::{Effect, FailStep, Failure, Input, Why};
 use fed_io::{Items, NoRoom};
 use fed_origin::{GetOptions, Origin, Stage};
+use fed_provider::FirstReplies;
 use fed_status::Shared;
 use std::alloc::Global;
 
@@ -58,27 +60,26 @@ impl CallState {
         shared: &Shared<'_>,
     ) -> Result<(CallState, Items<Effect>), NoRoom>
         requires { length options.providers ≡ 1 }
-        ensures effects { IfOk result (λ r. r.1 ≡ (start_row (world_of shared.now) options).effects) }
-        ensures state { IfOk result (λ r. facts_of r.0 ≡ started call page origin options (start_row (world_of shared.now) options)) }
-        ensures stage { IfOk result (λ r. Some (stage_of (facts_of r.0)) ≡ (start_row (world_of shared.now) options).stage) }
+        ensures effects { IfOk result (λ r. r.1 ≡ (start_row (world_of shared.now) origin options).effects) }
+        ensures state { IfOk result (λ r. facts_of r.0 ≡ started call page origin options (start_row (world_of shared.now) origin options)) }
+        ensures stage { IfOk result (λ r. Some (stage_of (facts_of r.0)) ≡ (start_row (world_of shared.now) origin options).stage) }
     {
-        match first_requests(alloc, &options, shared)? {
+        let provider = provider_origin(alloc, &options)?;
+        match first_requests(alloc, &options, &provider, shared)? {
             Ok(effects) => {
                 let state = Reading {
-                    begun: Call::new(call, page, origin, options),
-                    heard: false,
-                    config: None,
+                    begun: Call::new(call, page, origin, options, provider),
+                    replies: FirstReplies::none(),
                 };
                 Ok((CallState::Reading(state), effects))
             }
-            Err(step) => fails(alloc, plain(step)),
+            Err(step) => fails(alloc, Failure::plain(step)),
         }
     }
 
     /// The call after an input, and what it does there: rows C8 to C13, C15, C16, C19 to C27, C31 to
-    /// C34 and C36. A call that is over ignores each input.
-    /// On want of memory the call is gone, and a consent that was
-    /// made is voided.
+    /// C34 and C36. A call that is over ignores each input. On want of memory the call is gone, and a consent that was made is
+    /// voided.
     pub fn advance(
         self,
         alloc: Global,
@@ -95,10 +96,41 @@ impl CallState {
             CallState::Choosing(state) => state.advance(alloc, input, shared),
             CallState::Prompting(state) => state.advance(alloc, input, shared),
             CallState::Asserting(state) => state.advance(alloc, input, shared),
-            CallState::Ended(state) => {
-                let effects = not_taken(alloc, Why::CallEnded)?;
-                Ok((CallState::Ended(state), effects))
-            }
+            CallState::Ended(state) => CallState::Ended(state).ignores(alloc, Why::CallEnded),
+        }
+    }
+
+    /// The input is not taken, and nothing changes (row C36, and each input of a call that is over).
+    pub(crate) fn ignores(
+        self,
+        alloc: Global,
+        why: Why,
+    ) -> Result<(CallState, Items<Effect>), NoRoom>
+        ensures effects { IfOk result (λ r. r.1 ≡ (ignored why).effects) }
+        ensures state { IfOk result (λ r. r.0 ≡ self) }
+    {
+        let effects = Effect::Ignored(why).alone(alloc)?;
+        Ok((self, effects))
+    }
+
+    /// An input that the call's stage has no row for: an abort ends the call (row C34), and another is not taken (row C36).
+    pub(crate) fn declines(
+        self,
+        alloc: Global,
+        input: &Input,
+    ) -> Result<(CallState, Items<Effect>), NoRoom>
+        ensures effects { IfOk result (λ r. r.1 ≡ (declined input.now).effects) }
+        ensures state { IfOk result (λ r. facts_of r.0 ≡ kept_declined input.now (facts_of self)) }
+    {
+        match input {
+            Input::Abort => fails(alloc, Failure::plain(FailStep::Aborted)),
+            Input::Reply { .. } => self.ignores(alloc, Why::NotWaited),
+            Input::Choose { .. }
+            | Input::GoOn
+            | Input::Cancel
+            | Input::SignIn
+            | Input::Shut
+            | Input::Resume => self.ignores(alloc, Why::NotOffered),
         }
     }
 

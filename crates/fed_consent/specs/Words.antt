@@ -4,10 +4,10 @@ use Rattle.fed_origin.specs.declared.stage.Endpoint.{Endpoint}
 use Rattle.fed_origin.specs.declared.stage.Endpoint.TheVariants as endpoints
 use Rattle.fed_reply.specs.declared.step.ReplyStep.{ReplyStep}
 use Rattle.fed_reply.specs.declared.step.ReplyStep.TheVariants.{Head, Coding, Length, Chunk, Short, Status, Mime, Json}
-use Rattle.fed_consent.specs.declared.table.finish.FailStep.{FailStep}
-use Rattle.fed_consent.specs.declared.table.finish.FailStep.TheVariants as steps
-use Rattle.fed_consent.specs.declared.table.finish.Detail.{Detail}
-use Rattle.fed_consent.specs.declared.table.finish.Detail.TheVariants.{Reply, Member}
+use Rattle.fed_consent.specs.declared.table.failure.FailStep.{FailStep}
+use Rattle.fed_consent.specs.declared.table.failure.FailStep.TheVariants as steps
+use Rattle.fed_consent.specs.declared.table.failure.Detail.{Detail}
+use Rattle.fed_consent.specs.declared.table.failure.Detail.TheVariants.{Reply, Member}
 use Rattle.fed_consent.specs.declared.table.finish.Finish.{Finish}
 use Rattle.fed_consent.specs.declared.table.finish.Finish.TheVariants.{Token, Disconnected, Failed, ProviderError}
 use Rattle.fed_consent.specs.declared.table.why.Why.{Why}

@@ -7,4 +7,6 @@ mod table;
 mod tests;
 
 pub use consent::{AssertionAsk, Chooser, Consent, Manner, Picked, Prompt};
-pub use table::{Ask, Detail, Dialog, Effect, FailStep, Failure, Finish, Input, Shown, Why};
+pub use table::{
+    Ask, Detail, Dialog, Effect, FailStep, Failure, Finish, Input, ONLY_PLACE, Shown, Why,
+};

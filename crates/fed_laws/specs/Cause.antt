@@ -1,5 +1,5 @@
 -- Why a token is asked for, and to whom it is given: what happened, by events alone.
-use Rattle.std.specs.Prelude.{◌≡◌, ℕ, Bool, true, false, ◌&&◌, nat_eq, ◌≤◌, List, [], ◌∷◌, ◌++◌, length, Option, Some, None, is_some, option_and_then, option_map, not, Result as Answer, Ok, ◌⊎◌}
+use Rattle.std.specs.Prelude.{◌≡◌, ℕ, Bool, true, false, ◌&&◌, nat_eq, ◌≤◌, List, [], ◌∷◌, ◌++◌, length, Option, Some, None, is_some, option_and_then, option_map, not, if◌then◌else◌, Result as Answer, Ok, ◌⊎◌}
 use Rattle.std.specs.Option.{option_or}
 use Rattle.std.specs.List.{list_any}
 use Rattle.std.specs.Result.{result_ok}
@@ -15,7 +15,8 @@ use Rattle.fed_token.specs.Read.{AssertionOf}
 use Rattle.fed_consent.specs.declared.table.input.Input.{Input}
 use Rattle.fed_consent.specs.Consent.{AssertionFields, Candidate, Listed, chosen}
 use Rattle.fed_call.specs.Accounts.{accounts_of, listed_of}
-use Rattle.fed_call.specs.Facts.{metadata_endpoint, provider_at, config_read}
+use Rattle.fed_call.specs.Facts.{metadata_endpoint, provider_at}
+use Rattle.fed_provider.specs.FirstReplies.{config_read}
 use Rattle.fed_script.specs.declared.event.Event.{Event}
 use Rattle.fed_script.specs.declared.event.Event.TheVariants.{Reply, Choose, GoOn}
 use Rattle.fed_origin.specs.declared.stage.ReplyKind.TheVariants as kinds
@@ -24,29 +25,29 @@ use Rattle.fed_consent.specs.declared.table.input.Input.TheVariants as inputs
 use Rattle.fed_trace.specs.Begun.{Begun}
 use Rattle.fed_trace.specs.Effect.{Begin, Login, Sent, is_ignored}
 use Rattle.fed_trace.specs.Known.{world_at, input_to}
-use Rattle.fed_trace.specs.Trace.{Row, Trace}
+use Rattle.fed_trace.specs.Trace.{Row, Trace, page_at}
 use Rattle.fed_trace.specs.OfCall.{Has, disturbs, call_at, assertions}
 
 -- ---- what a call began with, and what it was given
 
--- the provider's place and the bytes of a configuration, where an input gives these and was not ignored
-abbrev pub config_given : Bool → Option Input → Option (ℕ × List ℕ)
-config_given false (Some (inputs.Reply provider kinds.Config raw)) = Some (provider, raw)
-config_given _ _ = None
+-- the bytes of a configuration of the provider at this place, where an input gives these and was not ignored
+abbrev pub config_given : ℕ → Bool → Option Input → Option (List ℕ)
+config_given provider false (Some (inputs.Reply place kinds.Config raw)) = if nat_eq provider place then Some raw else None
+config_given provider _ _ = None
 
--- those of the last configuration that was taken
-abbrev pub config_taken : ℕ → List Row → Option (ℕ × List ℕ)
-config_taken call [] = None
-config_taken call (row ∷ rows) =
-    option_or (config_given (list_any is_ignored row.effects) (input_to call row.event)) (config_taken call rows)
+-- those of its last configuration that the call took
+abbrev pub config_taken : ℕ → ℕ → List Row → Option (List ℕ)
+config_taken call provider [] = None
+config_taken call provider (row ∷ rows) =
+    option_or (config_given provider (list_any is_ignored row.effects) (input_to call row.event)) (config_taken call provider rows)
 
--- the configuration that bytes hold for a call with these options
-abbrev pub config_in : GetOptions → ℕ × List ℕ → Option Config
-config_in options reply = option_and_then result_ok (config_read reply.1 (provider_at reply.0 options))
+-- the configuration that bytes hold of the provider at this place of a call with these options
+abbrev pub config_in : GetOptions → ℕ → List ℕ → Option Config
+config_in options provider raw = option_and_then result_ok (config_read raw (provider_at provider options))
 
--- the configuration of a call with these options, where it has one
-abbrev pub config_at : List Row → ℕ → GetOptions → Option Config
-config_at rows call options = option_and_then (config_in options) (config_taken call rows)
+-- the configuration of the provider at this place of a call with these options, where it has one
+abbrev pub config_at : List Row → ℕ → ℕ → GetOptions → Option Config
+config_at rows call provider options = option_and_then (config_in options provider) (config_taken call provider rows)
 
 -- the accounts that a reply after what happened offers to a call, each with its connection as of then
 abbrev pub offered : Trace → Begun → ProviderOptions → List ℕ → Answer Listed AccountsStep
@@ -119,7 +120,7 @@ pub record AssertionCause (T : Trace) (event : Event) (call provider : ℕ) (id 
   pub candidate : Candidate
   pub is_listed : chosen id accepted.listed ≡ Some candidate
   pub first : assertions call T.rows ≡ []
-  pub agreed : Agreed event call provider id accepted.listed candidate (config_at T.rows call accepted.begun.options) accepted.since
+  pub agreed : Agreed event call provider id accepted.listed candidate (config_at T.rows call provider accepted.begun.options) accepted.since
 
 -- the event is that the user went on with the call's prompt
 abbrev pub is_going : Event → Bool
@@ -129,7 +130,7 @@ is_going _ = false
 -- The request goes to the assertion endpoint, names the call's page, client, nonce and text and the account, and says that the user took part, and
 -- whether that was by going on with an account that was not connected.
 pub record SaysWhy (T : Trace) (event : Event) (call provider : ℕ) (id : List ℕ) (cause : AssertionCause T event call provider id) (ask : AssertionFields) : Type 0 where
-  pub to : Some ask.to ≡ option_map (λ config. config.assertion) (config_at T.rows call cause.accepted.begun.options)
+  pub to : Some ask.to ≡ option_map (λ config. config.assertion) (config_at T.rows call provider cause.accepted.begun.options)
   pub origin : ask.origin ≡ cause.accepted.begun.origin
   pub client : ask.client ≡ cause.accepted.options.client
   pub nonce : ask.nonce ≡ cause.accepted.options.nonce
@@ -160,12 +161,13 @@ pub record Asked (rows : List Row) (call provider : ℕ) : Type 0 where
   pub cookies : List ℕ
   pub sends : Has asking.effects (Sent call provider (asks.Assertion ask) cookies)
 
--- The event gives the token to the page: it is the reply to the call's request, the call is of the page, and the page stands as it stood at the
--- call's beginning.
+-- The event gives the token to the page: it is the reply to the call's request, the call is of the page, and the page stands, with the origin
+-- that it had when the call began and neither loaded nor closed since.
 pub record Delivers (T : Trace) (event : Event) (call page provider : ℕ) (token : List ℕ) : Type 0 where
   pub begun : Begun
   pub undisturbed : Undisturbed T.rows call begun
   pub is_page : page ≡ begun.page
+  pub stands : page_at T page ≡ Some begun.origin
   pub asked : Asked T.rows call provider
   pub raw : List ℕ
   pub is_reply : event ≡ Reply call provider kinds.Assertion raw

@@ -1,7 +1,7 @@
 -- The objects of what a promise gets.
 use Rattle.std.specs.Prelude.{ℕ, Bool, List, [], ◌∷◌, codes, Option, Some, option_map}
 use Rattle.serde_json.specs.Data.{boolean, string, Members}
-use Rattle.fed_consent.specs.declared.table.finish.Failure.{Failure}
+use Rattle.fed_consent.specs.declared.table.failure.Failure.{Failure}
 use Rattle.fed_consent.specs.declared.table.finish.Finish.{Finish}
 use Rattle.fed_consent.specs.declared.table.finish.Finish.TheVariants.{Token, Disconnected, Failed, ProviderError}
 use Rattle.fed_consent.specs.Words.{step_text, error_name, detail_text}

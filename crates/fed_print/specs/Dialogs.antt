@@ -4,7 +4,7 @@ use Rattle.serde_json.specs.Data.{boolean, string, object, Members}
 use Rattle.fed_consent.specs.declared.table.dialog.Dialog.{Dialog}
 use Rattle.fed_consent.specs.declared.table.dialog.Dialog.TheVariants.{Choose, Prompt, Mismatch}
 use Rattle.fed_consent.specs.declared.table.dialog.Shown.{Shown}
-use Rattle.fed_consent.specs.declared.table.finish.Failure.{Failure}
+use Rattle.fed_consent.specs.declared.table.failure.Failure.{Failure}
 use Rattle.fed_consent.specs.Words.{step_text, detail_text}
 use Rattle.fed_origin.specs.declared.options.Context.{Context}
 use Rattle.fed_origin.specs.Words.{context_text}

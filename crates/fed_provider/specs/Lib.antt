@@ -1,4 +1,5 @@
 pub mod Config
+pub mod FirstReplies
 pub mod Laws
 pub mod Metadata
 pub mod WellKnown

@@ -2,12 +2,14 @@
 #![tactic(auto)]
 
 mod config;
+mod first_replies;
 pub mod laws;
 mod metadata;
 mod step;
 mod wellknown;
 
 pub use config::{Config, read_config};
+pub use first_replies::{FirstReplies, Heard};
 /// The endpoint that a step names.
 pub use fed_origin::Endpoint;
 pub use metadata::{PolicyLinks, read_metadata};

@@ -1,7 +1,8 @@
 -- The names of members, and the words of the causes of bad lines.
 use Rattle.std.specs.Prelude.{ℕ, List, codes, Option, Some, None}
 use Rattle.fed_script.specs.declared.cause.LineCause.{LineCause}
-use Rattle.fed_script.specs.declared.cause.LineCause.TheVariants.{NotJson, NoKind, Member, BadUrl, CallTwice, HaveLate, TimeBack, TooManyEvents}
+use Rattle.fed_script.specs.declared.cause.LineCause.TheVariants.{NotJson, NoKind, Member, BadUrl, CallTwice}
+use Rattle.fed_script.specs.declared.cause.LineCause.TheVariants.{HaveLate, TimeBack, TooManyEvents}
 use Rattle.fed_script.specs.declared.cause.MemberName.{MemberName}
 use Rattle.fed_script.specs.declared.cause.PairCause.{PairCause}
 use Rattle.fed_script.specs.declared.cause.PairCause.TheVariants.{Line, NoNext}

@@ -1,5 +1,6 @@
 -- What a line holds, and what one of its members is read as.
-use Rattle.std.specs.Prelude.{⊤, ℕ, Bool, true, false, ◌^◌, nat_lt, List, Option, Some, None, option_and_then, Result, Ok, Err, if◌then◌else◌}
+use Rattle.std.specs.Prelude.{⊤, ℕ, Bool, true, false, ◌^◌, nat_lt, List, Option, Some}
+use Rattle.std.specs.Prelude.{None, option_and_then, Result, Ok, Err, if◌then◌else◌}
 use Rattle.std.specs.Str.{is_utf8}
 use Rattle.serde_json.specs.Data.{Data, null}
 use Rattle.serde_json.specs.Find.{get, as_str, as_number, as_u64}

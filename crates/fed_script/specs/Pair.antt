@@ -1,5 +1,6 @@
 -- What the bytes of two scripts are read as, which a line divides.
-use Rattle.std.specs.Prelude.{ℕ, ◌+◌, nat_eq, nat_le, ◌==◌, Bool, ◌&&◌, List, length, take, drop, count_by, codes, Option, Some, None, Result, Ok, Err, if◌then◌else◌}
+use Rattle.std.specs.Prelude.{ℕ, ◌+◌, nat_eq, nat_le, ◌==◌, Bool, ◌&&◌, List, length, take, drop, count_by}
+use Rattle.std.specs.Prelude.{codes, Option, Some, None, Result, Ok, Err, if◌then◌else◌}
 use Rattle.std.specs.List.{list_any, prefix_len, starts_with, before_first, after_first}
 use Rattle.fed_script.specs.declared.cause.PairCause.TheVariants.{Line, NoNext}
 use Rattle.fed_script.specs.declared.pair.Pair.{Pair}

@@ -1,95 +1,91 @@
 //! Events of a page's calls.
 
+use crate::Event;
 use crate::event_tests::event;
-use crate::tests::{GET, first_wrong, reads};
-use crate::{Event, Used};
+use crate::tests::taken;
 use fed_origin::{Context, Mediation, Mode, ReplyKind};
-use std::alloc::{AllocError, Global};
+use std::alloc::Global;
 use std::test::Fail;
 
-fn page_closed(alloc: Global, line: &str) -> Option<u32> {
-    let event = event(alloc, line)?;
-    match &event {
-        Event::ClosePage { page } => Some(*page),
-        _ => None,
+// Whether an event says this of a page or a call of this number.
+fn is_single(event: &Event, what: &str, number: u32) -> bool {
+    match event {
+        Event::ClosePage { page } => what == "closepage" && *page == number,
+        Event::Abort { call } => what == "abort" && *call == number,
+        Event::Cancel { call } => what == "cancel" && *call == number,
+        Event::GoOn { call } => what == "continue" && *call == number,
+        _ => false,
     }
 }
 
-fn call_aborted(alloc: Global, line: &str) -> Option<u32> {
-    let event = event(alloc, line)?;
-    match &event {
-        Event::Abort { call } => Some(*call),
-        _ => None,
+fn says(alloc: Global, line: &str, what: &str, number: u32) -> bool {
+    match event(alloc, line) {
+        Some(event) => is_single(&event, what, number),
+        None => false,
     }
 }
 
-fn call_cancelled(alloc: Global, line: &str) -> Option<u32> {
-    let event = event(alloc, line)?;
-    match &event {
-        Event::Cancel { call } => Some(*call),
-        _ => None,
-    }
-}
-
-fn call_continued(alloc: Global, line: &str) -> Option<u32> {
-    let event = event(alloc, line)?;
-    match &event {
-        Event::GoOn { call } => Some(*call),
-        _ => None,
-    }
-}
-
-// The call and the provider of a choice of this account.
-fn chosen(alloc: Global, line: &str, id: &str) -> Option<(u32, u32)> {
-    let event = event(alloc, line)?;
-    match &event {
+// Whether an event is a choice of this account, for this call and of this provider.
+fn is_choice(event: &Event, place: (u32, u32), id: &str) -> bool {
+    match event {
         Event::Choose {
             call,
             provider,
             account,
-        } => {
-            if account.as_str() == id {
-                Some((*call, *provider))
-            } else {
-                None
-            }
-        }
-        _ => None,
+        } => *call == place.0 && *provider == place.1 && account.as_str() == id,
+        _ => false,
     }
 }
 
-// The call, the provider, the kind and the number of bytes of a reply.
-fn reply_read(alloc: Global, line: &str) -> Option<(u32, u32, ReplyKind, usize)> {
-    let event = event(alloc, line)?;
-    match &event {
+fn chooses(alloc: Global, line: &str, place: (u32, u32), id: &str) -> bool {
+    match event(alloc, line) {
+        Some(event) => is_choice(&event, place, id),
+        None => false,
+    }
+}
+
+// Whether an event is a reply to this call and provider, of this kind and of so many bytes.
+fn is_reply(event: &Event, place: (u32, u32), to: ReplyKind, length: usize) -> bool {
+    match event {
         Event::Reply {
             call,
             provider,
             kind,
             raw,
-        } => Some((*call, *provider, *kind, raw.as_slice().len())),
-        _ => None,
+        } => {
+            *call == place.0
+                && *provider == place.1
+                && *kind == to
+                && raw.as_slice().len() == length
+        }
+        _ => false,
     }
 }
 
-// The line of a get that has this context.
-fn get_with(alloc: Global, context: &str) -> Result<String, AllocError> {
-    let mut line = String::from_str(alloc, r#"{"do":"get","page":1,"call":1,"context":"#)?;
-    line.push_str(context)?;
-    line.push_str(r#","providers":[{"config":"https://a","client":"c"}]}"#)?;
-    Ok(line)
+fn replies_to(alloc: Global, line: &str, place: (u32, u32), to: ReplyKind, length: usize) -> bool {
+    match event(alloc, line) {
+        Some(event) => is_reply(&event, place, to, length),
+        None => false,
+    }
 }
 
-// The context of a get of which a line says this, where its other options have their defaults.
-fn context_read(alloc: Global, context: &str) -> Option<Context> {
-    let line = get_with(alloc, context).ok()?;
-    let event = event(alloc, line.as_str())?;
-    match &event {
-        Event::Get { options, .. } => match (options.mediation, options.mode, options.activation) {
-            (Mediation::Optional, Mode::Passive, false) => Some(options.context),
-            _ => None,
-        },
-        _ => None,
+// Whether an event is a get with this context, whose other options have their defaults.
+fn has_context(event: &Event, context: Context) -> bool {
+    match event {
+        Event::Get { options, .. } => {
+            options.mediation == Mediation::Optional
+                && options.mode == Mode::Passive
+                && !options.activation
+                && options.context == context
+        }
+        _ => false,
+    }
+}
+
+fn reads_context(alloc: Global, line: &str, context: Context) -> bool {
+    match event(alloc, line) {
+        Some(event) => has_context(&event, context),
+        None => false,
     }
 }
 
@@ -104,27 +100,33 @@ member.activation | {"do":"get","page":1,"call":1,"activation":true,"context":"u
 
 #[test]
 fn contexts(rt: HostRuntime) -> Result<(), Fail> {
-    let good = [
-        ("null", Context::SignIn),
-        (r#""signin""#, Context::SignIn),
-        (r#""signup""#, Context::SignUp),
-        (r#""use""#, Context::UseHere),
-        (r#""continue""#, Context::GoOn),
-    ];
-    for (context, want) in good {
-        assert_eq!(rt;
-            context_read(rt.alloc(), context),
-            Some(want),
-            "at {context}"
-        );
-    }
-    let mut used = Used::new(rt.alloc(), 0);
-    assert_eq!(rt; first_wrong(rt.alloc(), &mut used, bad_contexts())?, "");
+    let alloc = rt.alloc();
+    let absent =
+        r#"{"do":"get","page":1,"call":1,"context":null,"providers":[{"config":"https://a","client":"c"}]}"#;
+    assert!(rt; reads_context(alloc, absent, Context::SignIn));
+    let sign_in =
+        r#"{"do":"get","page":1,"call":1,"context":"signin","providers":[{"config":"https://a","client":"c"}]}"#;
+    assert!(rt; reads_context(alloc, sign_in, Context::SignIn));
+    let sign_up =
+        r#"{"do":"get","page":1,"call":1,"context":"signup","providers":[{"config":"https://a","client":"c"}]}"#;
+    assert!(rt; reads_context(alloc, sign_up, Context::SignUp));
+    let use_here =
+        r#"{"do":"get","page":1,"call":1,"context":"use","providers":[{"config":"https://a","client":"c"}]}"#;
+    assert!(rt; reads_context(alloc, use_here, Context::UseHere));
+    let go_on =
+        r#"{"do":"get","page":1,"call":1,"context":"continue","providers":[{"config":"https://a","client":"c"}]}"#;
+    assert!(rt; reads_context(alloc, go_on, Context::GoOn));
+    assert_eq!(rt; taken(alloc, 0, bad_contexts())?, ("", 0));
     Ok(())
 }
 
-fn bad_pages_and_calls() -> &'static str {
-    r#"member.page | {"do":"closepage"}
+// A call that no line began may be named, and again.
+fn rows_of_pages_and_calls() -> &'static str {
+    r#"ok | {"do":"abort","call":4294967295}
+ok | {"do":"abort","call":4294967295}
+ok | {"do":"cancel","call":0}
+ok | {"do":"continue","call":2}
+member.page | {"do":"closepage"}
 member.page | {"do":"closepage","page":"7"}
 member.call | {"do":"abort"}
 member.call | {"do":"abort","call":4294967296}
@@ -136,30 +138,27 @@ member.call | {"do":"continue","call":null}"#
 
 #[test]
 fn pages_and_calls(rt: HostRuntime) -> Result<(), Fail> {
-    let mut used = Used::new(rt.alloc(), 0);
-    assert_eq!(rt;
-        page_closed(rt.alloc(), r#"{"do":"closepage","page":7}"#),
-        Some(7)
+    let alloc = rt.alloc();
+    assert!(rt; says(alloc, r#"{"do":"closepage","page":7}"#, "closepage", 7));
+    assert!(rt;
+        says(
+            alloc,
+            r#"{"do":"abort","call":4294967295}"#,
+            "abort",
+            u32::MAX
+        )
     );
-    let abort = r#"{"do":"abort","call":4294967295}"#;
-    assert_eq!(rt; call_aborted(rt.alloc(), abort), Some(u32::MAX));
-    let cancel = r#"{"do":"cancel","call":0}"#;
-    assert_eq!(rt; call_cancelled(rt.alloc(), cancel), Some(0));
-    let go_on = r#"{"do":"continue","call":2}"#;
-    assert_eq!(rt; call_continued(rt.alloc(), go_on), Some(2));
-    // A call that no line began may be named, and again.
-    for line in [abort, abort, cancel, go_on] {
-        assert_eq!(rt; reads(rt.alloc(), line.as_bytes(), &mut used), Ok(()));
-    }
-    assert_eq!(rt;
-        first_wrong(rt.alloc(), &mut used, bad_pages_and_calls())?,
-        ""
-    );
+    assert!(rt; says(alloc, r#"{"do":"cancel","call":0}"#, "cancel", 0));
+    assert!(rt; says(alloc, r#"{"do":"continue","call":2}"#, "continue", 2));
+    assert_eq!(rt; taken(alloc, 0, rows_of_pages_and_calls())?, ("", 4));
     Ok(())
 }
 
-fn bad_replies() -> &'static str {
-    r#"member.call | {"do":"reply","provider":"x"}
+// A reply uses no call's number up.
+fn rows_of_replies() -> &'static str {
+    r#"ok | {"do":"reply","call":1,"to":"wellknown","text":"HTTP/1.1 200 OK"}
+ok | {"do":"reply","raw":"","to":"config","provider":3,"call":1}
+member.call | {"do":"reply","provider":"x"}
 member.provider | {"do":"reply","call":1,"provider":"x"}
 member.provider | {"do":"reply","call":1,"provider":4294967296}
 member.to | {"do":"reply","call":1,"provider":null,"text":1}
@@ -169,48 +168,31 @@ member.to | {"do":"reply","call":1,"to":"Accounts","text":1}
 member.to | {"do":"reply","call":1,"to":"well-known","text":""}
 member.text | {"do":"reply","call":1,"to":"config"}
 member.text | {"do":"reply","call":1,"to":"config","text":"","raw":"="}
-member.raw | {"do":"reply","call":1,"to":"config","raw":"="}"#
+member.raw | {"do":"reply","call":1,"to":"config","raw":"="}
+ok | {"do":"get","page":1,"call":1,"providers":[{"config":"https://accounts.idp.example/fedcm.json","client":"c1","nonce":"n1"}]}"#
 }
 
 #[test]
 fn replies(rt: HostRuntime) -> Result<(), Fail> {
-    let first = r#"{"do":"reply","call":1,"to":"wellknown","text":"HTTP/1.1 200 OK"}"#;
-    assert_eq!(rt;
-        reply_read(rt.alloc(), first),
-        Some((1, 0, ReplyKind::WellKnown, 15))
-    );
-    let second = r#"{"do":"reply","raw":"","to":"config","provider":3,"call":1}"#;
-    assert_eq!(rt;
-        reply_read(rt.alloc(), second),
-        Some((1, 3, ReplyKind::Config, 0))
-    );
-    let third = r#"{"do":"reply","call":1,"to":"accounts","raw":"aGk="}"#;
-    assert_eq!(rt;
-        reply_read(rt.alloc(), third),
-        Some((1, 0, ReplyKind::Accounts, 2))
-    );
-    let fourth = r#"{"do":"reply","call":1,"to":"metadata","text":""}"#;
-    assert_eq!(rt;
-        reply_read(rt.alloc(), fourth),
-        Some((1, 0, ReplyKind::Metadata, 0))
-    );
-    let fifth = r#"{"do":"reply","call":4294967295,"provider":1,"to":"assertion","text":"é"}"#;
-    assert_eq!(rt;
-        reply_read(rt.alloc(), fifth),
-        Some((u32::MAX, 1, ReplyKind::Assertion, 2))
-    );
-    let mut used = Used::new(rt.alloc(), 0);
-    assert_eq!(rt; reads(rt.alloc(), first.as_bytes(), &mut used), Ok(()));
-    assert_eq!(rt; reads(rt.alloc(), second.as_bytes(), &mut used), Ok(()));
-    assert_eq!(rt; first_wrong(rt.alloc(), &mut used, bad_replies())?, "");
-    // A reply uses no call's number up.
-    assert_eq!(rt; reads(rt.alloc(), GET.as_bytes(), &mut used), Ok(()));
-    assert_eq!(rt; used.events(), 3);
+    let alloc = rt.alloc();
+    let well_known = r#"{"do":"reply","call":1,"to":"wellknown","text":"HTTP/1.1 200 OK"}"#;
+    assert!(rt; replies_to(alloc, well_known, (1, 0), ReplyKind::WellKnown, 15));
+    let config = r#"{"do":"reply","raw":"","to":"config","provider":3,"call":1}"#;
+    assert!(rt; replies_to(alloc, config, (1, 3), ReplyKind::Config, 0));
+    let accounts = r#"{"do":"reply","call":1,"to":"accounts","raw":"aGk="}"#;
+    assert!(rt; replies_to(alloc, accounts, (1, 0), ReplyKind::Accounts, 2));
+    let metadata = r#"{"do":"reply","call":1,"to":"metadata","text":""}"#;
+    assert!(rt; replies_to(alloc, metadata, (1, 0), ReplyKind::Metadata, 0));
+    let assertion = r#"{"do":"reply","call":4294967295,"provider":1,"to":"assertion","text":"é"}"#;
+    assert!(rt; replies_to(alloc, assertion, (u32::MAX, 1), ReplyKind::Assertion, 2));
+    assert_eq!(rt; taken(alloc, 0, rows_of_replies())?, ("", 3));
     Ok(())
 }
 
-fn bad_choices() -> &'static str {
-    r#"member.call | {"do":"choose","provider":"x"}
+fn rows_of_choices() -> &'static str {
+    r#"ok | {"do":"choose","call":1,"account":"u1"}
+ok | {"do":"choose","call":1,"account":"u1"}
+member.call | {"do":"choose","provider":"x"}
 member.call | {"do":"choose","call":1.0,"provider":"x"}
 member.provider | {"do":"choose","call":1,"provider":"0"}
 member.provider | {"do":"choose","call":1,"provider":4294967296,"account":1}
@@ -222,16 +204,13 @@ member.account | {"do":"choose","call":1,"account":1}"#
 
 #[test]
 fn choices(rt: HostRuntime) -> Result<(), Fail> {
+    let alloc = rt.alloc();
     let first = r#"{"do":"choose","call":1,"account":"u1"}"#;
-    assert_eq!(rt; chosen(rt.alloc(), first, "u1"), Some((1, 0)));
+    assert!(rt; chooses(alloc, first, (1, 0), "u1"));
     let second = r#"{"account":"","provider":9,"do":"choose","call":2}"#;
-    assert_eq!(rt; chosen(rt.alloc(), second, ""), Some((2, 9)));
+    assert!(rt; chooses(alloc, second, (2, 9), ""));
     let third = r#"{"do":"choose","call":0,"provider":null,"account":"\u00e9\u0000"}"#;
-    assert_eq!(rt; chosen(rt.alloc(), third, "é\0"), Some((0, 0)));
-    let mut used = Used::new(rt.alloc(), 0);
-    assert_eq!(rt; reads(rt.alloc(), first.as_bytes(), &mut used), Ok(()));
-    assert_eq!(rt; reads(rt.alloc(), first.as_bytes(), &mut used), Ok(()));
-    assert_eq!(rt; first_wrong(rt.alloc(), &mut used, bad_choices())?, "");
-    assert_eq!(rt; used.events(), 2);
+    assert!(rt; chooses(alloc, third, (0, 0), "é\0"));
+    assert_eq!(rt; taken(alloc, 0, rows_of_choices())?, ("", 2));
     Ok(())
 }

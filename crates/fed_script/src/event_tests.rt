@@ -1,9 +1,9 @@
 //! Events of each kind.
 
-use crate::tests::{GET, LOAD, first_wrong, reads};
-use crate::{Event, Have, LineCause, Used, read_event};
+use crate::tests::{GET, LOAD, taken};
+use crate::{Event, Have, Used, read_event};
 use fed_origin::{Context, LoginStatus, Scheme};
-use std::alloc::{AllocError, Global};
+use std::alloc::Global;
 use std::test::Fail;
 
 // The event of a line that is the first after a header.
@@ -12,11 +12,9 @@ pub fn event(alloc: Global, line: &str) -> Option<Event> {
     read_event(alloc, line.as_bytes(), &mut used).ok()
 }
 
-fn is_load(alloc: Global) -> bool {
-    let Some(event) = event(alloc, LOAD) else {
-        return false;
-    };
-    match &event {
+// Whether an event is what the line LOAD says.
+fn loads(event: &Event) -> bool {
+    match event {
         Event::Load { page, url, raw } => {
             *page == 1 && url.as_str() == "https://rp.example/" && raw.is_none()
         }
@@ -24,11 +22,16 @@ fn is_load(alloc: Global) -> bool {
     }
 }
 
-fn is_get(alloc: Global) -> bool {
-    let Some(event) = event(alloc, GET) else {
-        return false;
-    };
-    match &event {
+fn is_load(alloc: Global) -> bool {
+    match event(alloc, LOAD) {
+        Some(event) => loads(&event),
+        None => false,
+    }
+}
+
+// Whether an event is what the line GET says.
+fn gets(event: &Event) -> bool {
+    match event {
         Event::Get {
             page,
             call,
@@ -48,17 +51,22 @@ fn is_get(alloc: Global) -> bool {
     }
 }
 
+fn is_get(alloc: Global) -> bool {
+    match event(alloc, GET) {
+        Some(event) => gets(&event),
+        None => false,
+    }
+}
+
 #[test]
 fn loads_and_gets(rt: HostRuntime) {
     assert!(rt; is_load(rt.alloc()));
     assert!(rt; is_get(rt.alloc()));
 }
 
-fn is_cookie(alloc: Global) -> bool {
-    let Some(event) = event(alloc, COOKIE) else {
-        return false;
-    };
-    match &event {
+// Whether an event is what the line COOKIE says.
+fn has_cookie(event: &Event) -> bool {
+    match event {
         Event::Have(Have::Cookie { url, field }) => {
             url.as_str() == "https://rp.example/a" && field.as_slice() == b"x=1; Secure".as_slice()
         }
@@ -66,11 +74,16 @@ fn is_cookie(alloc: Global) -> bool {
     }
 }
 
-fn is_login(alloc: Global) -> bool {
-    let Some(event) = event(alloc, LOGIN) else {
-        return false;
-    };
-    match &event {
+fn is_cookie(alloc: Global) -> bool {
+    match event(alloc, COOKIE) {
+        Some(event) => has_cookie(&event),
+        None => false,
+    }
+}
+
+// Whether an event is what the line LOGIN says.
+fn has_login(event: &Event) -> bool {
+    match event {
         Event::Have(Have::Login { origin, status }) => {
             origin.scheme == Scheme::Https
                 && origin.host.text.as_str() == "idp.example"
@@ -81,47 +94,55 @@ fn is_login(alloc: Global) -> bool {
     }
 }
 
-fn status_set(alloc: Global, line: &str) -> Option<(u32, LoginStatus)> {
-    let event = event(alloc, line)?;
-    match &event {
-        Event::SetStatus { page, status } => Some((*page, *status)),
-        _ => None,
+fn is_login(alloc: Global) -> bool {
+    match event(alloc, LOGIN) {
+        Some(event) => has_login(&event),
+        None => false,
     }
 }
 
-// The line of a load that ends with these members.
-fn load_with(alloc: Global, members: &str) -> Result<String, AllocError> {
-    let mut line = String::from_str(alloc, r#"{"do":"load","page":1,"url":"https://a""#)?;
-    line.push_str(members)?;
-    line.push('}')?;
-    Ok(line)
+// Whether an event sets this status on this page.
+fn is_status(event: &Event, number: u32, set: LoginStatus) -> bool {
+    match event {
+        Event::SetStatus { page, status } => *page == number && *status == set,
+        _ => false,
+    }
 }
 
-// Whether a load that ends with these members has a reply of these bytes.
-fn gives(alloc: Global, members: &str, want: &[u8]) -> bool {
-    let Ok(line) = load_with(alloc, members) else {
-        return false;
-    };
-    let Some(event) = event(alloc, line.as_str()) else {
-        return false;
-    };
-    match &event {
+fn sets(alloc: Global, line: &str, number: u32, set: LoginStatus) -> bool {
+    match event(alloc, line) {
+        Some(event) => is_status(&event, number, set),
+        None => false,
+    }
+}
+
+// Whether an event is a load with a reply of these bytes.
+fn has_bytes(event: &Event, want: &[u8]) -> bool {
+    match event {
         Event::Load { raw: Some(raw), .. } => raw.as_slice() == want,
         _ => false,
     }
 }
 
-// Whether a load that ends with these members has no reply.
-fn gives_none(alloc: Global, members: &str) -> bool {
-    let Ok(line) = load_with(alloc, members) else {
-        return false;
-    };
-    let Some(event) = event(alloc, line.as_str()) else {
-        return false;
-    };
-    match &event {
+fn gives(alloc: Global, line: &str, want: &[u8]) -> bool {
+    match event(alloc, line) {
+        Some(event) => has_bytes(&event, want),
+        None => false,
+    }
+}
+
+// Whether an event is a load with no reply.
+fn has_none(event: &Event) -> bool {
+    match event {
         Event::Load { raw, .. } => raw.is_none(),
         _ => false,
+    }
+}
+
+fn gives_none(alloc: Global, line: &str) -> bool {
+    match event(alloc, line) {
+        Some(event) => has_none(&event),
+        None => false,
     }
 }
 
@@ -145,26 +166,41 @@ member.raw | {"do":"load","page":1,"url":"https://a","raw":"aGk=\n"}"#
 #[test]
 fn bytes_of_a_reply(rt: HostRuntime) -> Result<(), Fail> {
     let good: [(&str, &[u8]); 7] = [
-        (r#","text":"""#, b""),
-        (r#","text":"a\u0000\u00e9","raw":null"#, b"a\x00\xc3\xa9"),
-        (r#","raw":"""#, b""),
-        (r#","raw":"aGk=","text":null"#, b"hi"),
-        (r#","raw":"YQ==""#, b"a"),
-        (r#","raw":"+/\/+""#, b"\xfb\xff\xfe"),
-        (r#","raw":"AP8A""#, b"\x00\xff\x00"),
+        (r#"{"do":"load","page":1,"url":"https://a","text":""}"#, b""),
+        (
+            r#"{"do":"load","page":1,"url":"https://a","text":"a\u0000\u00e9","raw":null}"#,
+            b"a\x00\xc3\xa9",
+        ),
+        (r#"{"do":"load","page":1,"url":"https://a","raw":""}"#, b""),
+        (
+            r#"{"do":"load","page":1,"url":"https://a","raw":"aGk=","text":null}"#,
+            b"hi",
+        ),
+        (
+            r#"{"do":"load","page":1,"url":"https://a","raw":"YQ=="}"#,
+            b"a",
+        ),
+        (
+            r#"{"do":"load","page":1,"url":"https://a","raw":"+/\/+"}"#,
+            b"\xfb\xff\xfe",
+        ),
+        (
+            r#"{"do":"load","page":1,"url":"https://a","raw":"AP8A"}"#,
+            b"\x00\xff\x00",
+        ),
     ];
-    for (members, want) in good {
-        assert!(rt; gives(rt.alloc(), members, want), "at {members}");
+    for (line, want) in good {
+        assert!(rt; gives(rt.alloc(), line, want), "at {line}");
     }
-    let absent = [r#""#, r#","text":null"#, r#","raw":null,"text":null"#];
-    for members in absent {
-        assert!(rt; gives_none(rt.alloc(), members), "at {members}");
+    let absent = [
+        r#"{"do":"load","page":1,"url":"https://a"}"#,
+        r#"{"do":"load","page":1,"url":"https://a","text":null}"#,
+        r#"{"do":"load","page":1,"url":"https://a","raw":null,"text":null}"#,
+    ];
+    for line in absent {
+        assert!(rt; gives_none(rt.alloc(), line), "at {line}");
     }
-    let mut used = Used::new(rt.alloc(), 0);
-    assert_eq!(rt;
-        first_wrong(rt.alloc(), &mut used, loads_with_bad_bytes())?,
-        ""
-    );
+    assert_eq!(rt; taken(rt.alloc(), 0, loads_with_bad_bytes())?, ("", 0));
     Ok(())
 }
 
@@ -190,16 +226,17 @@ bad-url | {"do":"have","what":"cookie","url":"ftp://x/","text":""}"#
 #[test]
 fn cookies(rt: HostRuntime) -> Result<(), Fail> {
     assert!(rt; is_cookie(rt.alloc()));
-    let mut used = Used::new(rt.alloc(), 0);
-    assert_eq!(rt; first_wrong(rt.alloc(), &mut used, bad_cookies())?, "");
+    assert_eq!(rt; taken(rt.alloc(), 0, bad_cookies())?, ("", 0));
     Ok(())
 }
 
 const LOGIN: &str =
     r#"{"do":"have","what":"login","origin":"https://idp.example:8443/a?b","status":"logged-out"}"#;
 
-fn bad_statuses() -> &'static str {
-    r#"member.origin | {"do":"have","what":"login","status":"x"}
+fn rows_of_statuses() -> &'static str {
+    r#"ok | {"do":"have","what":"login","origin":"https://idp.example:8443/a?b","status":"logged-out"}
+ok | {"do":"load","page":1,"url":"https://rp.example/"}
+member.origin | {"do":"have","what":"login","status":"x"}
 member.origin | {"do":"have","what":"login","origin":null,"status":"x"}
 member.status | {"do":"have","what":"login","origin":"ftp://x"}
 member.status | {"do":"have","what":"login","origin":"ftp://x","status":"unknown"}
@@ -214,19 +251,11 @@ member.status | {"do":"setstatus","page":7,"status":["logged-in"]}"#
 
 #[test]
 fn statuses(rt: HostRuntime) -> Result<(), Fail> {
-    assert!(rt; is_login(rt.alloc()));
-    assert_eq!(rt;
-        status_set(
-            rt.alloc(),
-            r#"{"do":"setstatus","page":7,"status":"logged-in"}"#
-        ),
-        Some((7, LoginStatus::LoggedIn))
-    );
-    let mut used = Used::new(rt.alloc(), 0);
-    assert_eq!(rt; reads(rt.alloc(), LOGIN.as_bytes(), &mut used), Ok(()));
-    assert_eq!(rt; reads(rt.alloc(), LOAD.as_bytes(), &mut used), Ok(()));
-    assert_eq!(rt; first_wrong(rt.alloc(), &mut used, bad_statuses())?, "");
-    assert_eq!(rt; used.events(), 2);
+    let alloc = rt.alloc();
+    assert!(rt; is_login(alloc));
+    let line = r#"{"do":"setstatus","page":7,"status":"logged-in"}"#;
+    assert!(rt; sets(alloc, line, 7, LoginStatus::LoggedIn));
+    assert_eq!(rt; taken(alloc, 0, rows_of_statuses())?, ("", 2));
     Ok(())
 }
 
@@ -249,16 +278,14 @@ ok | {"do":"at","time":18446744073709551615}
 time-back | {"do":"at","time":0}"#
 }
 
+fn have_after_a_load() -> &'static str {
+    r#"ok | {"do":"load","page":1,"url":"https://rp.example/"}
+have-late | {"do":"have","what":"cookie","url":"https://rp.example/a","text":"x=1; Secure"}"#
+}
+
 #[test]
 fn late_and_back(rt: HostRuntime) -> Result<(), Fail> {
-    let mut used = Used::new(rt.alloc(), 1_700_000_000);
-    assert_eq!(rt; first_wrong(rt.alloc(), &mut used, lines_in_time())?, "");
-    assert_eq!(rt; used.events(), 6);
-    let mut used = Used::new(rt.alloc(), 0);
-    assert_eq!(rt; reads(rt.alloc(), LOAD.as_bytes(), &mut used), Ok(()));
-    assert_eq!(rt;
-        reads(rt.alloc(), COOKIE.as_bytes(), &mut used),
-        Err(Some(LineCause::HaveLate))
-    );
+    assert_eq!(rt; taken(rt.alloc(), 1_700_000_000, lines_in_time())?, ("", 6));
+    assert_eq!(rt; taken(rt.alloc(), 0, have_after_a_load())?, ("", 1));
     Ok(())
 }

@@ -1,5 +1,6 @@
 //! Two scripts that a line divides.
-ghost use Rattle.std.specs.Prelude.{◌≡◌, ◌==◌, ℕ, ◌+◌, ◌^◌, ◌<◌, ◌≤◌, List, ◌++◌, length, drop, count_by, option_map, IfSome, IfOk, MatchOption};
+ghost use Rattle.std.specs.Prelude.{◌≡◌, ◌==◌, ℕ, ◌+◌, ◌^◌, ◌<◌, ◌≤◌, List, ◌++◌, length, drop};
+ghost use Rattle.std.specs.Prelude.{count_by, option_map, IfSome, IfOk, MatchOption};
 ghost use Rattle.std.specs.List.{prefix_len};
 ghost use Rattle.fed_io.specs.Fault.{Answers};
 ghost use Rattle.fed_script.specs.Half.{half_of, halves_by};

@@ -4,6 +4,7 @@ ghost use Rattle.std.specs.Prelude.{◌<◌, ◌^◌, length};
 use crate::{bad_line_in, read_pair, read_script};
 use fed_io::Fault;
 use std::alloc::{AllocError, Global};
+use std::test::Fail;
 
 // The line of a letter: a header, a load, a dividing line, one with margins, one with a space in it, a blank line, a line
 // that is no JSON, and one like it without its LF.
@@ -80,13 +81,49 @@ fn early_stop(alloc: Global, letters: &str) -> Option<(u32, &'static str)> {
     }
 }
 
+// Where lines stop that are read as a script, as two, or as the first bytes of two.
+fn stop_as(alloc: Global, form: &str, letters: &str) -> Option<(u32, &'static str)> {
+    match form {
+        "script" => bad_line(alloc, letters),
+        "pair" => stop(alloc, letters),
+        _ => early_stop(alloc, letters),
+    }
+}
+
+// Whether a stop is the one of these words: the number of its line and its cause, or `none`.
+fn is_stop(stop: Option<(u32, &'static str)>, words: &str) -> bool {
+    match (stop, words.split_once(' ')) {
+        (Some((line, cause)), Some((number, word))) => {
+            cause == word && number.parse::<u32>() == Ok(line)
+        }
+        (None, None) => words == "none",
+        _ => false,
+    }
+}
+
+// The first row that is wrong, or "". Each row is a stop's words, and after a bar the letters of lines that are read in this form.
+fn first_wrong_stop<'a>(alloc: Global, form: &str, rows: &'a str) -> Result<&'a str, Fail> {
+    for row in rows.split('\n') {
+        let (words, letters) = row.split_once(" | ").ok_or("a row")?;
+        if !is_stop(stop_as(alloc, form, letters), words) {
+            return Ok(row);
+        }
+    }
+    Ok("")
+}
+
+fn bad_scripts() -> &'static str {
+    "4 not-json | HLBXX
+1 not-json | BHL
+1 not-json | 
+3 no-kind | HLN"
+}
+
 #[test]
-fn scripts(rt: HostRuntime) {
+fn scripts(rt: HostRuntime) -> Result<(), Fail> {
     assert_eq!(rt; two_events(rt.alloc(), "HLBL"), Some((7, 2, 4)));
-    assert_eq!(rt; bad_line(rt.alloc(), "HLBXX"), Some((4, "not-json")));
-    assert_eq!(rt; bad_line(rt.alloc(), "BHL"), Some((1, "not-json")));
-    assert_eq!(rt; bad_line(rt.alloc(), ""), Some((1, "not-json")));
-    assert_eq!(rt; bad_line(rt.alloc(), "HLN"), Some((3, "no-kind")));
+    assert_eq!(rt; first_wrong_stop(rt.alloc(), "script", bad_scripts())?, "");
+    Ok(())
 }
 
 #[test]
@@ -95,32 +132,35 @@ fn good_pairs(rt: HostRuntime) {
     assert_eq!(rt; sizes(rt.alloc(), "HLLMH"), Some((2, 0)));
 }
 
-#[test]
-fn bad_pairs(rt: HostRuntime) {
-    let alloc = rt.alloc();
-    assert_eq!(rt; stop(alloc, ""), Some((1, "not-json")));
-    // The dividing line stands first, last, twice, or nowhere.
-    assert_eq!(rt; stop(alloc, "NHL"), Some((1, "not-json")));
-    assert_eq!(rt; stop(alloc, "HLN"), Some((4, "not-json")));
-    assert_eq!(rt; stop(alloc, "HNHNH"), Some((4, "no-kind")));
-    assert_eq!(rt; stop(alloc, "HL"), Some((3, "no-next")));
-    assert_eq!(rt; stop(alloc, "HSHL"), Some((2, "no-kind")));
-    // The first bad line is named, among all lines.
-    assert_eq!(rt; stop(alloc, "HXLNX"), Some((2, "not-json")));
-    assert_eq!(rt; stop(alloc, "HLNHLX"), Some((6, "not-json")));
-    assert_eq!(rt; stop(alloc, "HLX"), Some((3, "not-json")));
+// First no line; then the dividing line stands first, last, twice, or nowhere; in the last three the first bad line is
+// named, among all lines.
+fn bad_pairs() -> &'static str {
+    "1 not-json | 
+1 not-json | NHL
+4 not-json | HLN
+4 no-kind | HNHNH
+3 no-next | HL
+2 no-kind | HSHL
+2 not-json | HXLNX
+6 not-json | HLNHLX
+3 not-json | HLX"
+}
+
+// What is cut, and what is missing, may still be good.
+fn first_bytes() -> &'static str {
+    "3 not-json | HLXx
+4 not-json | HLNXx
+1 not-json | Nx
+none | HLx
+none | HLN
+none | HL
+none | HLNHL
+none | "
 }
 
 #[test]
-fn first_bytes_of_pairs(rt: HostRuntime) {
-    let alloc = rt.alloc();
-    assert_eq!(rt; early_stop(alloc, "HLXx"), Some((3, "not-json")));
-    assert_eq!(rt; early_stop(alloc, "HLNXx"), Some((4, "not-json")));
-    assert_eq!(rt; early_stop(alloc, "Nx"), Some((1, "not-json")));
-    // What is cut, and what is missing, may still be good.
-    assert_eq!(rt; early_stop(alloc, "HLx"), None);
-    assert_eq!(rt; early_stop(alloc, "HLN"), None);
-    assert_eq!(rt; early_stop(alloc, "HL"), None);
-    assert_eq!(rt; early_stop(alloc, "HLNHL"), None);
-    assert_eq!(rt; early_stop(alloc, ""), None);
+fn stops_of_pairs(rt: HostRuntime) -> Result<(), Fail> {
+    assert_eq!(rt; first_wrong_stop(rt.alloc(), "pair", bad_pairs())?, "");
+    assert_eq!(rt; first_wrong_stop(rt.alloc(), "first", first_bytes())?, "");
+    Ok(())
 }

@@ -73,8 +73,8 @@ fn take_line(
     number: u32,
     line: &[u8],
 ) -> Result<Option<LineCause>, NoRoom>
-    ensures { IfOk result (λ cause. (more : List (List ℕ))
-        → with_events events.new (goes_on cause number used.new more) ≡ with_events events.old (events_of used.old number (line.now ∷ more))) }
+    ensures { IfOk result (λ cause. (more : List (List ℕ)) → with_events events.new (goes_on cause number used.new more)
+        ≡ with_events events.old (events_of used.old number (line.now ∷ more))) }
 {
     if is_blank(line) {
         return Ok(None);
@@ -100,7 +100,8 @@ fn take_lines(
     lines: &[u8],
 ) -> Result<Option<(u32, LineCause)>, NoRoom>
     requires { length lines.now < 2 ^ 31 }
-    ensures { IfOk result (λ bad. record { good = events.new; bad = bad } ≡ with_events events.old (events_of used.old 2 (lines_of lines.now))) }
+    ensures { IfOk result (λ bad.
+        record { good = events.new; bad = bad } ≡ with_events events.old (events_of used.old 2 (lines_of lines.now))) }
 {
     let mut number: u32 = 2;
     let mut rest = lines;

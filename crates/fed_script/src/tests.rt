@@ -1,5 +1,6 @@
-use crate::{LineCause, MemberName, Used, is_blank, next_line, read_event, read_header};
+use crate::{Header, LineCause, MemberName, Used, is_blank, next_line, read_event, read_header};
 use fed_io::Fault;
+use fed_suffix::Suffixes;
 use std::alloc::{AllocError, Global};
 use std::test::Fail;
 
@@ -17,16 +18,17 @@ fn time_of(alloc: Global, line: &[u8]) -> Result<u64, Option<LineCause>> {
     }
 }
 
-// Whether a header is read, or why it is bad.
-fn reads_header(alloc: Global, line: &[u8]) -> Result<(), Option<LineCause>> {
-    match time_of(alloc, line) {
-        Ok(_) => Ok(()),
-        Err(cause) => Err(cause),
+// Whether a header is the one of this word: its time, or the cause for which it is bad.
+fn is_header(answer: Result<u64, Option<LineCause>>, word: &str) -> bool {
+    match answer {
+        Ok(now) => word.parse::<u64>() == Ok(now),
+        Err(Some(cause)) => is_cause(cause, word),
+        Err(None) => false,
     }
 }
 
 // Whether a line is read, or why it is bad.
-pub fn reads(alloc: Global, line: &[u8], used: &mut Used) -> Result<(), Option<LineCause>> {
+fn reads(alloc: Global, line: &[u8], used: &mut Used) -> Result<(), Option<LineCause>> {
     match read_event(alloc, line, used) {
         Ok(_) => Ok(()),
         Err(Fault::Step(cause)) => Err(Some(cause)),
@@ -52,7 +54,7 @@ fn is_cause(cause: LineCause, word: &str) -> bool {
 }
 
 // The first row that is wrong, or "". Each row is the word of an answer and, after a bar, the line that gets it.
-pub fn first_wrong<'a>(alloc: Global, used: &mut Used, rows: &'a str) -> Result<&'a str, Fail> {
+fn first_wrong<'a>(alloc: Global, used: &mut Used, rows: &'a str) -> Result<&'a str, Fail> {
     for row in rows.split('\n') {
         let (word, line) = row.split_once(" | ").ok_or("a row")?;
         if !is_word(reads(alloc, line.as_bytes(), used), word) {
@@ -62,26 +64,21 @@ pub fn first_wrong<'a>(alloc: Global, used: &mut Used, rows: &'a str) -> Result<
     Ok("")
 }
 
-#[test]
-fn headers(rt: HostRuntime) {
-    let good = [
-        (r#"{"fedcm":1,"now":1700000000,"rules":""}"#, 1_700_000_000),
-        (
-            r#" {"rules":"","now":18446744073709551615,"fedcm":1,"more":[]} "#,
-            u64::MAX,
-        ),
-        (r#"{"fedcm":2,"now":7,"rules":"","fedcm":1,"now":0}"#, 0),
-        (
-            r#"{"fedcm":1,"now":1,"rules":"\n\r\n// a comment\nCOM\r\n!www.ck and more"}"#,
-            1,
-        ),
-    ];
-    for (line, now) in good {
-        assert_eq!(rt; time_of(rt.alloc(), line.as_bytes()), Ok(now), "at {line}");
-    }
+// The first row that is wrong after a header of this time, or "", and how many events the rows have.
+pub fn taken<'a>(alloc: Global, time: u64, rows: &'a str) -> Result<(&'a str, u32), Fail> {
+    let mut used = Used::new(alloc, time);
+    let wrong = first_wrong(alloc, &mut used, rows)?;
+    Ok((wrong, used.events()))
 }
 
 // Tables stand in functions of their own, so that the proofs of the tests do not go through them.
+fn good_header_lines() -> &'static str {
+    r#"1700000000 | {"fedcm":1,"now":1700000000,"rules":""}
+18446744073709551615 |  {"rules":"","now":18446744073709551615,"fedcm":1,"more":[]} 
+0 | {"fedcm":2,"now":7,"rules":"","fedcm":1,"now":0}
+1 | {"fedcm":1,"now":1,"rules":"\n\r\n// a comment\nCOM\r\n!www.ck and more"}"#
+}
+
 fn bad_header_lines() -> &'static str {
     r#"not-json | 
 not-json | {"fedcm":1,"now":0,"rules":""} x
@@ -101,71 +98,112 @@ member.rules | {"fedcm":1,"now":0,"rules":"com\na..b"}
 member.rules | {"fedcm":1,"now":0,"rules":"!com\ncom"}"#
 }
 
-#[test]
-fn bad_headers(rt: HostRuntime) -> Result<(), Fail> {
-    let alloc = rt.alloc();
-    for row in bad_header_lines().split('\n') {
+// The first row that is wrong, or "". Each row is the word of an answer and, after a bar, the header that gets it.
+fn first_wrong_header<'a>(alloc: Global, rows: &'a str) -> Result<&'a str, Fail> {
+    for row in rows.split('\n') {
         let (word, line) = row.split_once(" | ").ok_or("a row")?;
-        assert!(rt;
-            is_word(reads_header(alloc, line.as_bytes()), word),
-            "{row}"
-        );
+        if !is_header(time_of(alloc, line.as_bytes()), word) {
+            return Ok(row);
+        }
     }
+    Ok("")
+}
+
+#[test]
+fn headers(rt: HostRuntime) -> Result<(), Fail> {
+    let alloc = rt.alloc();
+    assert_eq!(rt; first_wrong_header(alloc, good_header_lines())?, "");
+    assert_eq!(rt; first_wrong_header(alloc, bad_header_lines())?, "");
     let with_mark = "\u{feff}{\"fedcm\":1,\"now\":0,\"rules\":\"\"}";
-    assert!(rt; is_word(reads_header(alloc, with_mark.as_bytes()), "not-json"));
+    assert!(rt; is_header(time_of(alloc, with_mark.as_bytes()), "not-json"));
     let not_utf8 = b"{\"fedcm\":1,\"now\":0,\"rules\":\"\xff\"}";
-    assert!(rt; is_word(reads_header(alloc, not_utf8), "not-json"));
+    assert!(rt; is_header(time_of(alloc, not_utf8), "not-json"));
     Ok(())
 }
 
+// Names, each with its registrable domain after a space, if it has one.
+fn names() -> &'static str {
+    "www.rp.example rp.example
+a.b.ck a.b.ck
+b.ck
+a.www.ck www.ck
+a.no.rule no.rule"
+}
+
+fn has_domain(rules: &Suffixes, row: &str) -> bool {
+    match row.split_once(' ') {
+        Some((name, domain)) => {
+            rules.registrable_name(name.as_bytes()) == Some(domain.as_bytes())
+        }
+        None => rules.registrable_name(row.as_bytes()).is_none(),
+    }
+}
+
+// The first row that is wrong, or "".
+fn first_wrong_name<'a>(rules: &Suffixes, rows: &'a str) -> &'a str {
+    for row in rows.split('\n') {
+        if !has_domain(rules, row) {
+            return row;
+        }
+    }
+    ""
+}
+
+// The first row that the rules of a copy get wrong, or "", if the copy has the time 7 and the same rules.
+fn wrong_in_copy<'a>(copy: &Header, header: &Header, rows: &'a str) -> Option<&'a str> {
+    if copy.now == 7 && copy.rules.same(&header.rules) {
+        Some(first_wrong_name(&copy.rules, rows))
+    } else {
+        None
+    }
+}
+
+fn wrong_when_copied<'a>(alloc: Global, header: &Header, rows: &'a str) -> Option<&'a str> {
+    match header.copy(alloc) {
+        Ok(copy) => wrong_in_copy(&copy, header, rows),
+        Err(_) => None,
+    }
+}
+
+fn wrong_when_read<'a>(alloc: Global, line: &[u8], rows: &'a str) -> Option<&'a str> {
+    match read_header(alloc, line) {
+        Ok(header) => wrong_when_copied(alloc, &header, rows),
+        Err(_) => None,
+    }
+}
+
 #[test]
-fn rules_of_a_header(rt: HostRuntime) -> Result<(), Fault<LineCause>> {
+fn rules_of_a_header(rt: HostRuntime) {
     let line = br#"{"fedcm":1,"now":7,"rules":"com\nexample\n*.ck\n!www.ck\n// no.rule"}"#;
-    let header = read_header(rt.alloc(), line)?;
-    let copy = header.copy(rt.alloc())?;
-    assert!(rt; copy.now == 7 && copy.rules.same(&header.rules));
-    let names: [(&[u8], Option<&[u8]>); 5] = [
-        (b"www.rp.example", Some(b"rp.example")),
-        (b"a.b.ck", Some(b"a.b.ck")),
-        (b"b.ck", None),
-        (b"a.www.ck", Some(b"www.ck")),
-        (b"a.no.rule", Some(b"no.rule")),
-    ];
-    for (name, domain) in names {
-        assert_eq!(rt; copy.rules.registrable_name(name), domain);
-    }
-    Ok(())
+    assert_eq!(rt; wrong_when_read(rt.alloc(), line, names()), Some(""));
+}
+
+// Among them a configuration URL without a registrable domain; members that are read over, a null that is absent, and the
+// last of several members, which counts; URLs of the scheme http; and a number that is free for another page's load.
+fn good_rows() -> &'static str {
+    concat!(
+        r#"ok | {"do":"load","page":1,"url":"https://rp.example/"}
+ok | {"do":"get","page":1,"call":1,"providers":[{"config":"https://accounts.idp.example/fedcm.json","client":"c1","nonce":"n1"}]}
+ok | {"do":"get","page":1,"call":2,"providers":[{"config":"https://localhost/f","client":""}]}
+ok | {"text":null,"raw":null,"more":{"do":1},"do":"jump","do":"load","page":4294967295,"url":" https://a ","page":0}
+ok | {"do":"get","mediation":null,"mode":null,"activation":null,"context":null,"page":0,"call":4294967295,"#,
+        r#""providers":[{"config":"https://a","client":"c","nonce":null,"login_hint":"l","domain_hint":"d","params":"p","more":0}]}
+ok | {"do":"load","page":2,"url":"http://rp.example/"}
+ok | {"do":"get","page":1,"call":3,"providers":[{"config":"http://localhost/f","client":""}]}
+ok | {"do":"load","page":1,"url":"https://rp.example/"}"#
+    )
 }
 
 #[test]
-fn good_lines(rt: HostRuntime) {
-    let mut used = Used::new(rt.alloc(), 1_700_000_000);
-    assert_eq!(rt; reads(rt.alloc(), LOAD.as_bytes(), &mut used), Ok(()));
-    assert_eq!(rt; reads(rt.alloc(), GET.as_bytes(), &mut used), Ok(()));
-    let good = [
-        // A configuration URL without a registrable domain is a good line.
-        r#"{"do":"get","page":1,"call":2,"providers":[{"config":"https://localhost/f","client":""}]}"#,
-        // Unknown members are read over, null is absent, the last of several counts.
-        r#"{"text":null,"raw":null,"more":{"do":1},"do":"jump","do":"load","page":4294967295,"url":" https://a ","page":0}"#,
-        r#"{"do":"get","mediation":null,"mode":null,"activation":null,"context":null,"page":0,"call":4294967295,"providers":[{"config":"https://a","client":"c","nonce":null,"login_hint":"l","domain_hint":"d","params":"p","more":0}]}"#,
-        // A URL of the scheme http is read.
-        r#"{"do":"load","page":2,"url":"http://rp.example/"}"#,
-        r#"{"do":"get","page":1,"call":3,"providers":[{"config":"http://localhost/f","client":""}]}"#,
-        // A number that is used is free for another page's load.
-        r#"{"do":"load","page":1,"url":"https://rp.example/"}"#,
-    ];
-    for line in good {
-        assert_eq!(rt;
-            reads(rt.alloc(), line.as_bytes(), &mut used),
-            Ok(()),
-            "at {line}"
-        );
-    }
-    assert_eq!(rt; used.events(), 8);
+fn good_lines(rt: HostRuntime) -> Result<(), Fail> {
+    assert_eq!(rt; taken(rt.alloc(), 1_700_000_000, good_rows())?, ("", 8));
+    Ok(())
 }
 
-fn lines_of_no_kind() -> &'static str {
-    r#"not-json | 
+// A get, then lines of no kind, loads and gets that are bad.
+fn bad_rows() -> &'static str {
+    r#"ok | {"do":"get","page":1,"call":1,"providers":[{"config":"https://accounts.idp.example/fedcm.json","client":"c1","nonce":"n1"}]}
+not-json | 
 no-kind | []
 no-kind | {"page":"x"}
 no-kind | {"do":null}
@@ -177,11 +215,8 @@ member.do | {"do":"shutwindow"}
 member.do | {"do":"idpclose"}
 member.do | {"do":"prevent"}
 no-kind | {"do":"Continue"}
-member.do | {"do":"disconnect"}"#
-}
-
-fn bad_loads() -> &'static str {
-    r#"not-json | {"do":"load","page":1,"url":"https://rp.example/"},
+member.do | {"do":"disconnect"}
+not-json | {"do":"load","page":1,"url":"https://rp.example/"},
 not-json | {"do":"load","page":1e999,"url":"https://rp.example/"}
 member.page | {"do":"load","page":null,"url":1,"text":""}
 member.page | {"do":"load","page":1.0,"url":"https://a"}
@@ -193,11 +228,8 @@ member.text | {"do":"load","page":1,"url":"ftp://x/","text":1,"raw":""}
 member.raw | {"do":"load","page":1,"url":"ftp://x/","text":null,"raw":"!"}
 bad-url | {"do":"load","page":1,"url":"ftp://x/","text":null,"raw":""}
 bad-url | {"do":"load","page":2,"url":"ftp://x/"}
-bad-url | {"do":"load","page":2,"url":"https://u@rp.example/"}"#
-}
-
-fn bad_gets() -> &'static str {
-    r#"member.page | {"do":"get","call":"x"}
+bad-url | {"do":"load","page":2,"url":"https://u@rp.example/"}
+member.page | {"do":"get","call":"x"}
 member.call | {"do":"get","page":1,"mediation":"x"}
 member.mediation | {"do":"get","page":1,"call":1,"context":1,"activation":false,"mode":"passive","mediation":"optional"}
 member.mode | {"do":"get","page":1,"call":1,"context":1,"activation":false,"mode":"passive"}
@@ -220,13 +252,7 @@ call-twice | {"do":"get","page":1,"call":1,"providers":[{"config":"https://accou
 
 #[test]
 fn causes_in_their_order(rt: HostRuntime) -> Result<(), Fail> {
-    let alloc = rt.alloc();
-    let mut used = Used::new(alloc, 0);
-    assert_eq!(rt; reads(alloc, GET.as_bytes(), &mut used), Ok(()));
-    assert_eq!(rt; first_wrong(alloc, &mut used, lines_of_no_kind())?, "");
-    assert_eq!(rt; first_wrong(alloc, &mut used, bad_loads())?, "");
-    assert_eq!(rt; first_wrong(alloc, &mut used, bad_gets())?, "");
-    assert_eq!(rt; used.events(), 1);
+    assert_eq!(rt; taken(rt.alloc(), 0, bad_rows())?, ("", 1));
     Ok(())
 }
 
@@ -234,26 +260,28 @@ fn causes_in_their_order(rt: HostRuntime) -> Result<(), Fail> {
 fn nested(alloc: Global, depth: usize) -> Result<String, AllocError> {
     let mut line = String::from_str(alloc, r#"{"do":"load","page":1,"url":"https://a","more":"#)?;
     for _ in 0..depth {
-        line.push('[')?;
+        line.push_str("[")?;
     }
     for _ in 0..depth {
-        line.push(']')?;
+        line.push_str("]")?;
     }
-    line.push('}')?;
+    line.push_str("}")?;
     Ok(line)
 }
 
+// Whether a load that nests so many lists has the answer of this word.
+fn nests(alloc: Global, depth: usize, word: &str) -> bool {
+    let Ok(line) = nested(alloc, depth) else {
+        return false;
+    };
+    let mut used = Used::new(alloc, 0);
+    is_word(reads(alloc, line.as_bytes(), &mut used), word)
+}
+
 #[test]
-fn nests_to_127(rt: HostRuntime) -> Result<(), AllocError> {
-    let mut used = Used::new(rt.alloc(), 0);
-    let deep = nested(rt.alloc(), 126)?;
-    assert_eq!(rt; reads(rt.alloc(), deep.as_bytes(), &mut used), Ok(()));
-    let deeper = nested(rt.alloc(), 127)?;
-    assert_eq!(rt;
-        reads(rt.alloc(), deeper.as_bytes(), &mut used),
-        Err(Some(LineCause::NotJson))
-    );
-    Ok(())
+fn nests_to_127(rt: HostRuntime) {
+    assert!(rt; nests(rt.alloc(), 126, "ok"));
+    assert!(rt; nests(rt.alloc(), 127, "not-json"));
 }
 
 #[test]

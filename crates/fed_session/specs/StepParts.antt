@@ -9,8 +9,6 @@ use Rattle.fed_origin.specs.declared.origin.Origin.{Origin}
 use Rattle.fed_origin.specs.declared.stage.Stage.{Stage}
 use Rattle.fed_origin.specs.declared.status.LoginStatus.{LoginStatus}
 use Rattle.fed_origin.specs.Origin.{is_trustworthy}
-use Rattle.fed_suffix.specs.Rule.{RuleSet}
-use Rattle.fed_jar.specs.Cookie.{StoredCookie}
 use Rattle.fed_jar.specs.Send.{jar_text}
 use Rattle.fed_status.specs.Login.{Logins, with_status, set_login_of}
 use Rattle.fed_status.specs.Shared.{World}
@@ -20,16 +18,15 @@ use Rattle.fed_consent.specs.declared.table.effect.Effect.{Effect as CallEffect}
 use Rattle.fed_consent.specs.declared.table.effect.Effect.TheVariants as does
 use Rattle.fed_consent.specs.declared.table.input.Input.{Input}
 use Rattle.fed_consent.specs.declared.table.why.Why.TheVariants.{NoPage, NoCall}
-use Rattle.fed_call.specs.Facts.{Facts, started, next_facts, Outcome}
-use Rattle.fed_call.specs.Outcomes.{ignored}
+use Rattle.fed_call.specs.Facts.{Facts, started, next_facts}
+use Rattle.fed_consent.specs.Outcomes.{Outcome, ignored}
 use Rattle.fed_call.specs.Row.{start_row, call_row}
 use Rattle.fed_script.specs.declared.event.Have.{Have}
 use Rattle.fed_script.specs.declared.event.Have.TheVariants as haves
 use Rattle.fed_script.specs.Used.{IsKnown}
-use Rattle.fed_session.specs.declared.apply.Sight.{Sight}
 use Rattle.fed_trace.specs.declared.out.Out.{Out}
-use Rattle.fed_session.specs.declared.apply.Statuses.{Statuses}
 use Rattle.fed_session.specs.declared.page.Page.{Page}
+use Rattle.fed_session.specs.declared.sight.Sight.{Sight}
 use Rattle.fed_trace.specs.Effect.{Effect, Sent, Shown, Window, Result, Ignored}
 use Rattle.fed_trace.specs.Records.{record_of, records_of}
 use Rattle.fed_trace.specs.Row.{get_effects, input_effects, status_effects}
@@ -42,24 +39,20 @@ revived s = record s { alive = true }
 abbrev pub stepped : State → State
 stepped s = record s { alive = true; steps = s.steps + 1 }
 
--- the world of a session
-abbrev pub world_kept : State → World
-world_kept s = record { rules = s.rules; login = s.login; kept = s.kept; flags = s.flags }
+-- what all calls look at in a session
+abbrev pub sight_of : State → Sight
+sight_of s = record { time = s.time; rules = s.rules; jar = s.cookies; login = s.login; kept = s.kept; flags = s.flags }
 
--- the Cookie field of a request, by the rules, the time and the cookies of a jar
-abbrev pub cookies_by : RuleSet → ℕ → List StoredCookie → Ask → List ℕ
-cookies_by rules now cookies (asks.Accounts to) = jar_text rules to now cookies
-cookies_by rules now cookies (asks.Disconnect to client hint origin) = jar_text rules to now cookies
-cookies_by rules now cookies (asks.Assertion ask) = jar_text rules ask.to now cookies
-cookies_by rules now cookies _ = []
+-- the part of it that is lent to a call
+abbrev pub world_in : Sight → World
+world_in sight = record { rules = sight.rules; login = sight.login; kept = sight.kept; flags = sight.flags }
 
 -- the Cookie field of a request by what is seen
 abbrev pub cookies_of : Sight → Ask → List ℕ
-cookies_of sight ask = cookies_by sight.rules.now sight.time sight.jar.now ask
-
--- what all calls look at, by the rules and the statuses of a session
-abbrev pub world_in : RuleSet → Statuses → World
-world_in rules statuses = record { rules = rules; login = statuses.login; kept = statuses.kept; flags = statuses.flags }
+cookies_of sight (asks.Accounts to) = jar_text sight.rules to sight.time sight.jar
+cookies_of sight (asks.Disconnect to client hint origin) = jar_text sight.rules to sight.time sight.jar
+cookies_of sight (asks.Assertion ask) = jar_text sight.rules ask.to sight.time sight.jar
+cookies_of sight _ = []
 
 -- The session can do it: a status that is set was said. No row keeps or ends a permission, or clears a flag, yet.
 abbrev pub CanApply : CallEffect → Type 0
@@ -104,7 +97,7 @@ get_at world cookies found page call options =
 -- what is kept of a get that is taken, by whether its page has a pending one
 abbrev pub begun_as : World → Bool → ℕ → ℕ → Origin → GetOptions → Option Facts
 begun_as world true page call origin options = None
-begun_as world false page call origin options = started call page origin options (start_row world options)
+begun_as world false page call origin options = started call page origin options (start_row world origin options)
 
 -- what is kept of a get of a page that stands, by whether it is trustworthy; none where it is not taken
 abbrev pub standing_kept : World → Bool → Bool → ℕ → ℕ → Origin → GetOptions → Option (Option Facts)

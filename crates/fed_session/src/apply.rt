@@ -2,64 +2,16 @@
 ghost use Rattle.std.specs.Prelude.{◌≡◌, ◌++◌, [], ◌∷◌, IfOk, OnOk, Some};
 ghost use Rattle.std.specs.Option.{option_to_list};
 ghost use Rattle.std.specs.List.{filter_map};
-ghost use Rattle.fed_cookie.specs.SetCookie.{HasNoLineEnd};
-ghost use Rattle.fed_request.specs.Request.{TakesCookies};
-ghost use Rattle.fed_status.specs.Shared.{world_of};
 ghost use Rattle.fed_trace.specs.Effect.{Sent, Ignored};
 ghost use Rattle.fed_trace.specs.Records.{records_of, record_of};
-ghost use Rattle.fed_session.specs.StepParts.{cookies_of, call_records, world_in, CanApplyAll, CanApply, login_after, login_by};
+ghost use Rattle.fed_session.specs.StepParts.{cookies_of, call_records, CanApplyAll, login_after};
 
-use fed_consent::{Ask, Effect, Finish, Why};
-use fed_io::{Bytes, Items, NoRoom};
-use fed_jar::Jar;
+use crate::sight::Sight;
+use fed_consent::{Ask, Effect, Why};
+use fed_io::{Items, NoRoom};
 use fed_request::build;
-use fed_status::{KeptSet, LoginMap, Shared, SilentFlags};
-use fed_suffix::Suffixes;
 use fed_trace::Out;
 use std::alloc::Global;
-
-/// What calls look at beside the statuses: the public suffix rules, the cookies, and the time in seconds since 1970.
-#[derive(Clone, Copy)]
-pub(crate) struct Sight<'a> {
-    pub rules: &'a Suffixes,
-    pub jar: &'a Jar,
-    pub time: u64,
-}
-
-/// What calls look at and set: the login statuses, the kept permissions and the prevent-silent flags.
-#[derive(Drop)]
-pub struct Statuses {
-    pub login: LoginMap,
-    pub kept: KeptSet,
-    pub flags: SilentFlags,
-}
-
-impl Statuses {
-    /// Nothing is set or kept.
-    pub(crate) fn new(alloc: Global) -> Statuses
-        ensures login { result.login ≡ [] }
-        ensures kept { result.kept ≡ [] }
-        ensures flags { result.flags ≡ [] }
-    {
-        Statuses {
-            login: LoginMap::new(alloc),
-            kept: KeptSet::new(alloc),
-            flags: SilentFlags::new(alloc),
-        }
-    }
-
-    /// What is lent to a call.
-    pub(crate) fn lent<'a>(&'a self, rules: &'a Suffixes) -> Shared<'a>
-        ensures { world_of result ≡ world_in rules.now self.now }
-    {
-        Shared {
-            rules,
-            login: &self.login,
-            kept: &self.kept,
-            flags: &self.flags,
-        }
-    }
-}
 
 /// The event is not taken.
 pub(crate) fn ignored(alloc: Global, line: u32, why: Why) -> Result<Items<Out>, NoRoom>
@@ -74,33 +26,30 @@ pub(crate) fn ignored(alloc: Global, line: u32, why: Why) -> Result<Items<Out>, 
 pub(crate) fn apply(
     alloc: Global,
     line: u32,
-    sight: Sight<'_>,
-    statuses: &mut Statuses,
+    sight: &mut Sight,
     call: u32,
     page: u32,
     effects: Items<Effect>,
 ) -> Result<Items<Out>, NoRoom>
     requires { CanApplyAll effects }
-    ensures outs { IfOk result (λ outs. outs ≡ call_records line (cookies_of sight.entry) call page effects) }
-    ensures login { OnOk result (statuses.new.login ≡ login_after effects statuses.old.login) }
-    ensures kept { statuses.new.kept ≡ statuses.old.kept }
-    ensures flags { statuses.new.flags ≡ statuses.old.flags }
+    ensures outs { IfOk result (λ outs. outs ≡ call_records line (cookies_of sight.old) call page effects) }
+    ensures sight { OnOk result (sight.new ≡ record sight.old { login = login_after effects sight.old.login }) }
 {
-    set_statuses(statuses, effects.as_slice())?;
+    set_statuses(sight, effects.as_slice())?;
     let outs = answered(alloc, line, sight, call, page, effects)?;
     Ok(outs)
 }
 
-// The records of what a call of the page does, in their order.
-fn answered(
+/// The records of what a call of the page does, in their order.
+pub(crate) fn answered(
     alloc: Global,
     line: u32,
-    sight: Sight<'_>,
+    sight: &Sight,
     call: u32,
     page: u32,
     effects: Items<Effect>,
 ) -> Result<Items<Out>, NoRoom>
-    ensures { IfOk result (λ outs. outs ≡ call_records line (cookies_of sight.entry) call page effects) }
+    ensures { IfOk result (λ outs. outs ≡ call_records line (cookies_of sight.now) call page effects) }
 {
     let mut outs = Items::new(alloc);
     for effect in effects.into_vec() {
@@ -112,49 +61,26 @@ fn answered(
 }
 
 // Sets the login statuses that a call sets, in their order.
-fn set_statuses(statuses: &mut Statuses, effects: &[Effect]) -> Result<(), NoRoom>
+fn set_statuses(sight: &mut Sight, effects: &[Effect]) -> Result<(), NoRoom>
     requires { CanApplyAll effects.now }
-    ensures login { OnOk result (statuses.new.login ≡ login_after effects.now statuses.old.login) }
-    ensures kept { statuses.new.kept ≡ statuses.old.kept }
-    ensures flags { statuses.new.flags ≡ statuses.old.flags }
+    ensures { OnOk result (sight.new ≡ record sight.old { login = login_after effects.now sight.old.login }) }
 {
     for effect in effects {
-        set_status(statuses, effect)?;
+        sight.set_status(effect)?;
     }
     Ok(())
-}
-
-// Sets the login status that a call sets, if it sets one.
-fn set_status(statuses: &mut Statuses, effect: &Effect) -> Result<(), NoRoom>
-    requires { CanApply effect.now }
-    ensures login { OnOk result (statuses.new.login ≡ login_by effect.now statuses.old.login) }
-    ensures kept { statuses.new.kept ≡ statuses.old.kept }
-    ensures flags { statuses.new.flags ≡ statuses.old.flags }
-{
-    match effect {
-        Effect::SetLogin(origin, status) => statuses.login.set(origin, *status),
-        Effect::Send(_, _)
-        | Effect::Dialog(_)
-        | Effect::Window(_, _)
-        | Effect::Keep(_)
-        | Effect::Forget(_)
-        | Effect::ForgetPair(_, _)
-        | Effect::ClearFlag(_)
-        | Effect::Finish(_)
-        | Effect::Ignored(_) => Ok(()),
-    }
 }
 
 // The record of what a call of the page does, if it is written.
 fn record(
     alloc: Global,
     line: u32,
-    sight: Sight<'_>,
+    sight: &Sight,
     call: u32,
     page: u32,
     effect: Effect,
 ) -> Result<Option<Out>, NoRoom>
-    ensures { IfOk result (λ out. option_to_list out ≡ call_records line (cookies_of sight.entry) call page (effect ∷ [])) }
+    ensures { IfOk result (λ out. option_to_list out ≡ call_records line (cookies_of sight.now) call page (effect ∷ [])) }
 {
     match effect {
         Effect::Send(provider, ask) => {
@@ -185,14 +111,14 @@ fn record(
 fn request(
     alloc: Global,
     line: u32,
-    sight: Sight<'_>,
+    sight: &Sight,
     call: u32,
     provider: u32,
     ask: &Ask,
 ) -> Result<Out, NoRoom>
-    ensures { IfOk result (λ out. Some out ≡ record_of line (Sent call provider ask.now (cookies_of sight.entry ask.now))) }
+    ensures { IfOk result (λ out. Some out ≡ record_of line (Sent call provider ask.now (cookies_of sight.now ask.now))) }
 {
-    let cookies = cookies(alloc, sight, ask)?;
+    let cookies = sight.cookies(alloc, ask)?;
     Ok(Out::Request {
         line,
         call,
@@ -200,21 +126,4 @@ fn request(
         kind: ask.kind(),
         bytes: build(alloc, ask, cookies.as_slice())?,
     })
-}
-
-// The Cookie field of a request, empty where it carries none.
-fn cookies(alloc: Global, sight: Sight<'_>, ask: &Ask) -> Result<Bytes, NoRoom>
-    ensures value { IfOk result (λ text. text ≡ cookies_of sight.entry ask.now) }
-    ensures line { IfOk result (λ text. HasNoLineEnd text) }
-    ensures taken { IfOk result (λ text. TakesCookies ask.now text) }
-{
-    match ask {
-        Ask::Accounts { to } | Ask::Disconnect { to, .. } => {
-            sight.jar.cookie_text(alloc, sight.rules, to, sight.time)
-        }
-        Ask::Assertion(ask) => sight
-            .jar
-            .cookie_text(alloc, sight.rules, ask.to(), sight.time),
-        Ask::WellKnown { .. } | Ask::Config { .. } | Ask::Metadata { .. } => Bytes::of(alloc, b""),
-    }
 }

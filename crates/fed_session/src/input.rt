@@ -5,9 +5,10 @@ ghost use Rattle.fed_trace.specs.Known as spec;
 ghost use Rattle.fed_trace.specs.Records.{records_of};
 ghost use Rattle.fed_session.specs.StepParts.{cookies_of, world_in, login_after, outcome_at, input_at, input_kept, freed_by};
 
-use crate::apply::{Sight, Statuses, apply, ignored};
+use crate::apply::{apply, ignored};
 use crate::calls::{Calls, Kept, give_back, lend};
 use crate::page::{Page, free};
+use crate::sight::Sight;
 use fed_consent::{Input, Why};
 use fed_io::{Items, NoRoom};
 use fed_script::Event;
@@ -19,19 +20,16 @@ use std::alloc::Global;
 pub(crate) fn take_input(
     alloc: Global,
     line: u32,
-    sight: Sight<'_>,
-    statuses: &mut Statuses,
+    sight: &mut Sight,
     pages: &mut IndexMap<u32, Page>,
     calls: &mut Calls,
     call: u32,
     input: &Input,
 ) -> Result<Items<Out>, NoRoom>
-    ensures outs { IfOk result (λ outs. outs ≡ records_of line (input_at (world_in sight.entry.rules.now statuses.old) (cookies_of sight.entry) (lookup (nat_eq call) calls.old.entries) call input.now)) }
-    ensures login { OnOk result (statuses.new.login ≡ login_after (outcome_at (world_in sight.entry.rules.now statuses.old) (lookup (nat_eq call) calls.old.entries) input.now).effects statuses.old.login) }
-    ensures kept { statuses.new.kept ≡ statuses.old.kept }
-    ensures flags { statuses.new.flags ≡ statuses.old.flags }
-    ensures pages { OnOk result (pages.new.entries ≡ freed_by (world_in sight.entry.rules.now statuses.old) (lookup (nat_eq call) calls.old.entries) input.now pages.old.entries) }
-    ensures calls { OnOk result (calls.new.entries ≡ input_kept (world_in sight.entry.rules.now statuses.old) call input.now calls.old.entries) }
+    ensures outs { IfOk result (λ outs. outs ≡ records_of line (input_at (world_in sight.old) (cookies_of sight.old) (lookup (nat_eq call) calls.old.entries) call input.now)) }
+    ensures sight { OnOk result (sight.new ≡ record sight.old { login = login_after (outcome_at (world_in sight.old) (lookup (nat_eq call) calls.old.entries) input.now).effects sight.old.login }) }
+    ensures pages { OnOk result (pages.new.entries ≡ freed_by (world_in sight.old) (lookup (nat_eq call) calls.old.entries) input.now pages.old.entries) }
+    ensures calls { OnOk result (calls.new.entries ≡ input_kept (world_in sight.old) call input.now calls.old.entries) }
 {
     let Some(kept) = lend(calls, call) else {
         return ignored(alloc, line, Why::NoCall);
@@ -40,14 +38,14 @@ pub(crate) fn take_input(
         return ignored(alloc, line, Why::CallEnded);
     };
     let page = state.page();
-    let (state, effects) = state.advance(alloc, input, &statuses.lent(sight.rules))?;
+    let (state, effects) = state.advance(alloc, input, &sight.lent())?;
     let kept = Kept::of(alloc, state)?;
     let Some(page) = page else {
         return ignored(alloc, line, Why::CallEnded);
     };
     free(pages, page, &kept);
     give_back(calls, call, kept);
-    let outs = apply(alloc, line, sight, statuses, call, page, effects)?;
+    let outs = apply(alloc, line, sight, call, page, effects)?;
     Ok(outs)
 }
 

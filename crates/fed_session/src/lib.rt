@@ -8,6 +8,7 @@ mod input;
 mod load;
 mod page;
 mod session;
+mod sight;
 #[cfg(test)]
 mod tests;
 mod view;

@@ -7,44 +7,32 @@ ghost use Rattle.fed_script.specs.Used.{SaysKnown};
 ghost use Rattle.fed_trace.specs.Row.{cookies_from, have_cookies, set_cookies, set_cookie_name, set_logins, set_login_name};
 ghost use Rattle.fed_session.specs.StepParts.{with_statuses, logins_in, have_statuses};
 
-use fed_cookie::read_set_cookie;
+use crate::sight::Sight;
 use fed_io::{Bytes, Fault, NoRoom};
-use fed_jar::Jar;
 use fed_origin::{Origin, WebUrl};
 use fed_reply::{Reply, read_head};
 use fed_script::Have;
 use fed_status::{LoginMap, read_set_login};
-use fed_suffix::Suffixes;
 use std::alloc::Global;
-
-/// Where cookies come from: the public suffix rules, the URL, and the time in seconds since 1970.
-#[derive(Clone, Copy, Drop)]
-pub(crate) struct CookieSource<'a> {
-    pub rules: &'a Suffixes,
-    pub url: &'a WebUrl,
-    pub time: u64,
-}
 
 /// Stores the Set-Cookie values of a load's reply, in their order (RFC 6265, 5.3), and then sets the status of its URL's
 /// origin by its Set-Login values, in their order (Login Status API). A reply whose head is not read has none.
 pub(crate) fn take_head(
     alloc: Global,
-    jar: &mut Jar,
-    login: &mut LoginMap,
-    source: CookieSource<'_>,
+    sight: &mut Sight,
+    url: &WebUrl,
     raw: &Option<Bytes>,
 ) -> Result<(), NoRoom>
-    ensures cookies { OnOk result (jar.new ≡ cookies_after jar.old (cookies_from source.entry.rules.now source.entry.url.now source.entry.time (set_cookies raw.now))) }
-    ensures login { OnOk result (login.new ≡ with_statuses (origin_of source.entry.url.now) (set_logins raw.now) login.old) }
+    ensures { OnOk result (sight.new ≡ record sight.old { jar = cookies_after sight.old.jar (cookies_from sight.old.rules url.now sight.old.time (set_cookies raw.now)); login = with_statuses (origin_of url.now) (set_logins raw.now) sight.old.login }) }
 {
     let Some(raw) = raw else {
         return Ok(());
     };
     match read_head(alloc, raw.as_slice()) {
         Ok(head) => {
-            store_fields(alloc, jar, source, &head)?;
-            let origin = Origin::of_url(alloc, source.url)?;
-            set_statuses(login, &origin, &head)
+            store_fields(alloc, sight, url, &head)?;
+            let origin = Origin::of_url(alloc, url)?;
+            set_statuses(&mut sight.login, &origin, &head)
         }
         Err(Fault::Step(_)) => Ok(()),
         Err(Fault::NoRoom) => Err(NoRoom),
@@ -52,16 +40,11 @@ pub(crate) fn take_head(
 }
 
 // Stores each Set-Cookie value of a reply.
-fn store_fields(
-    alloc: Global,
-    jar: &mut Jar,
-    source: CookieSource<'_>,
-    head: &Reply,
-) -> Result<(), NoRoom>
-    ensures { OnOk result (jar.new ≡ cookies_after jar.old (cookies_from source.entry.rules.now source.entry.url.now source.entry.time (values set_cookie_name head.now.fields))) }
+fn store_fields(alloc: Global, sight: &mut Sight, url: &WebUrl, head: &Reply) -> Result<(), NoRoom>
+    ensures { OnOk result (sight.new ≡ record sight.old { jar = cookies_after sight.old.jar (cookies_from sight.old.rules url.now sight.old.time (values set_cookie_name head.now.fields)) }) }
 {
     for value in head.values("set-cookie") {
-        store_field(alloc, jar, source, value.as_bytes())?;
+        sight.store(alloc, url, value.as_bytes())?;
     }
     Ok(())
 }
@@ -87,38 +70,12 @@ fn set_status(login: &mut LoginMap, origin: &Origin, field: &[u8]) -> Result<(),
 }
 
 /// Stores the cookie, or sets the status, that a line of the kind `have` names.
-pub(crate) fn take_have(
-    alloc: Global,
-    jar: &mut Jar,
-    login: &mut LoginMap,
-    rules: &Suffixes,
-    time: u64,
-    have: &Have,
-) -> Result<(), NoRoom>
+pub(crate) fn take_have(alloc: Global, sight: &mut Sight, have: &Have) -> Result<(), NoRoom>
     requires { SaysKnown have.now }
-    ensures cookies { OnOk result (jar.new ≡ cookies_after jar.old (have_cookies rules.now time have.now)) }
-    ensures login { OnOk result (login.new ≡ have_statuses have.now login.old) }
+    ensures { OnOk result (sight.new ≡ record sight.old { jar = cookies_after sight.old.jar (have_cookies sight.old.rules sight.old.time have.now); login = have_statuses have.now sight.old.login }) }
 {
     match have {
-        Have::Cookie { url, field } => {
-            let source = CookieSource { rules, url, time };
-            store_field(alloc, jar, source, field.as_slice())
-        }
-        Have::Login { origin, status } => login.set(origin, *status),
+        Have::Cookie { url, field } => sight.store(alloc, url, field.as_slice()),
+        Have::Login { origin, status } => sight.login.set(origin, *status),
     }
-}
-
-// Stores the cookie of one Set-Cookie value, unless it is ignored.
-fn store_field(
-    alloc: Global,
-    jar: &mut Jar,
-    source: CookieSource<'_>,
-    field: &[u8],
-) -> Result<(), NoRoom>
-    ensures { OnOk result (jar.new ≡ cookies_after jar.old (cookies_from source.entry.rules.now source.entry.url.now source.entry.time (field.now ∷ []))) }
-{
-    if let Some(raw) = read_set_cookie(alloc, field)? {
-        jar.store(source.rules, source.url, source.time, raw)?;
-    }
-    Ok(())
 }

@@ -10,19 +10,16 @@ ghost use Rattle.fed_session.specs.Session.{Stands, Shows, IsFresh};
 ghost use Rattle.fed_session.specs.StepParts.{revived, stepped};
 ghost use Rattle.fed_trace.specs.Trace.{Trace};
 
-use crate::apply::{Sight, Statuses};
 use crate::calls::Calls;
 use crate::get::get;
 use crate::input::{input_of, take_input};
-use crate::load::{CookieSource, take_have, take_head};
+use crate::load::{take_have, take_head};
 use crate::page::{Page, close, load, set_page_status};
+use crate::sight::Sight;
 use crate::view::{View, shown_calls, shown_flags, shown_kept, shown_logins, shown_pages};
 use fed_io::{Bytes, Items, NoRoom, Steps};
-use fed_jar::Jar;
 use fed_origin::{GetOptions, WebUrl};
 use fed_script::{Event, Have, Header};
-use fed_status::{KeptSet, LoginMap, SilentFlags};
-use fed_suffix::Suffixes;
 use fed_trace::Out;
 use indexmap::IndexMap;
 use std::alloc::Global;
@@ -35,10 +32,7 @@ pub struct Session {
     alloc: Global,
     alive: bool,
     steps: u32,
-    time: u64,
-    rules: Suffixes,
-    jar: Jar,
-    statuses: Statuses,
+    sight: Sight,
     pages: IndexMap<u32, Page>,
     calls: Calls,
 }
@@ -53,7 +47,7 @@ impl Model for Session {
 
     ghost coded = { Prim.hlevel (codes, set.code {R = rule_cmp} rule_code) };
 
-    ghost view = { λ s. record { alive = s.alive; steps = s.steps; time = s.time; rules = s.rules; cookies = s.jar; login = s.statuses.login; kept = s.statuses.kept; flags = s.statuses.flags; pages = s.pages.entries; calls = s.calls.entries } };
+    ghost view = { λ s. record { alive = s.alive; steps = s.steps; time = s.sight.time; rules = s.sight.rules; cookies = s.sight.jar; login = s.sight.login; kept = s.sight.kept; flags = s.sight.flags; pages = s.pages.entries; calls = s.calls.entries } };
 }
 
 // Written out, so that one function lets a session go wherever it ends.
@@ -63,10 +57,7 @@ impl Drop for Session {
             alloc: _,
             alive: _,
             steps: _,
-            time: _,
-            rules: _,
-            jar: _,
-            statuses: _,
+            sight: _,
             pages: _,
             calls: _,
         } = self;
@@ -82,35 +73,20 @@ impl Session {
             alloc,
             alive: true,
             steps: 0,
-            time: header.now,
-            rules: header.rules,
-            jar: Jar::new(alloc),
-            statuses: Statuses::new(alloc),
+            sight: Sight::new(alloc, header),
             pages: IndexMap::new(alloc),
             calls: IndexMap::new(alloc),
         })
     }
 
-    // A session with these cookies and statuses, in which nothing else stands.
+    // A session that looks at this, in which nothing else stands.
     #[cfg(test)]
-    pub(crate) fn with_cookies(
-        alloc: Global,
-        header: Header,
-        jar: Jar,
-        login: LoginMap,
-    ) -> Session {
+    pub(crate) fn with_sight(alloc: Global, sight: Sight) -> Session {
         Session {
             alloc,
             alive: true,
             steps: 0,
-            time: header.now,
-            rules: header.rules,
-            jar,
-            statuses: Statuses {
-                login,
-                kept: KeptSet::new(alloc),
-                flags: SilentFlags::new(alloc),
-            },
+            sight,
             pages: IndexMap::new(alloc),
             calls: IndexMap::new(alloc),
         }
@@ -157,7 +133,7 @@ impl Session {
         match event {
             Event::Have(have) => self.have(have),
             Event::At { time } => {
-                self.time = *time;
+                self.sight.time = *time;
                 Ok(Items::new(self.alloc))
             }
             Event::Load { page, url, raw } => self.load(*page, url, raw),
@@ -166,7 +142,7 @@ impl Session {
                 Ok(outs)
             }
             Event::SetStatus { page, status } => {
-                let (pages, login) = (&self.pages, &mut self.statuses.login);
+                let (pages, login) = (&self.pages, &mut self.sight.login);
                 let outs = set_page_status(self.alloc, line, pages, login, *page, *status)?;
                 Ok(outs)
             }
@@ -191,14 +167,7 @@ impl Session {
         ensures steps { self.new.steps ≡ self.old.steps }
         ensures alive { self.new.alive ≡ self.old.alive }
     {
-        take_have(
-            self.alloc,
-            &mut self.jar,
-            &mut self.statuses.login,
-            &self.rules,
-            self.time,
-            have,
-        )?;
+        take_have(self.alloc, &mut self.sight, have)?;
         Ok(Items::new(self.alloc))
     }
 
@@ -210,18 +179,7 @@ impl Session {
         ensures alive { self.new.alive ≡ self.old.alive }
     {
         load(self.alloc, &mut self.pages, &mut self.calls, page, url)?;
-        let source = CookieSource {
-            rules: &self.rules,
-            url,
-            time: self.time,
-        };
-        take_head(
-            self.alloc,
-            &mut self.jar,
-            &mut self.statuses.login,
-            source,
-            raw,
-        )?;
+        take_head(self.alloc, &mut self.sight, url, raw)?;
         Ok(Items::new(self.alloc))
     }
 
@@ -240,16 +198,10 @@ impl Session {
         ensures steps { self.new.steps ≡ self.old.steps }
         ensures alive { self.new.alive ≡ self.old.alive }
     {
-        let sight = Sight {
-            rules: &self.rules,
-            jar: &self.jar,
-            time: self.time,
-        };
         let outs = get(
             self.alloc,
             line,
-            sight,
-            &mut self.statuses,
+            &self.sight,
             &mut self.pages,
             &mut self.calls,
             page,
@@ -270,16 +222,10 @@ impl Session {
         let Some((call, input)) = input_of(self.alloc, event)? else {
             unreachable!()
         };
-        let sight = Sight {
-            rules: &self.rules,
-            jar: &self.jar,
-            time: self.time,
-        };
         let outs = take_input(
             self.alloc,
             line,
-            sight,
-            &mut self.statuses,
+            &mut self.sight,
             &mut self.pages,
             &mut self.calls,
             call,
@@ -297,11 +243,11 @@ impl Session {
             return Err(NoRoom);
         }
         Ok(View {
-            now: self.time,
-            login: shown_logins(self.alloc, &self.statuses.login)?,
-            kept: shown_kept(self.alloc, &self.statuses.kept)?,
-            silent: shown_flags(self.alloc, &self.statuses.flags)?,
-            cookies: Items::from_vec(self.jar.list(self.alloc)?),
+            now: self.sight.time,
+            login: shown_logins(self.alloc, &self.sight.login)?,
+            kept: shown_kept(self.alloc, &self.sight.kept)?,
+            silent: shown_flags(self.alloc, &self.sight.flags)?,
+            cookies: Items::from_vec(self.sight.jar.list(self.alloc)?),
             pages: shown_pages(self.alloc, &self.pages)?,
             calls: shown_calls(self.alloc, &self.calls)?,
         })

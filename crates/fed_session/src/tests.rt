@@ -1,11 +1,10 @@
 //! What a session shows.
-use crate::load::{CookieSource, take_head};
+use crate::load::take_head;
+use crate::sight::Sight;
 use crate::{Session, View};
 use fed_io::Bytes;
-use fed_jar::Jar;
 use fed_origin::{LoginStatus, WebUrl};
 use fed_script::Header;
-use fed_status::LoginMap;
 use fed_suffix::Suffixes;
 use std::alloc::Global;
 use std::test::Fail;
@@ -43,23 +42,17 @@ Set Cookie: b=2\r
 \r
 ";
 
-// The cookies and the statuses after a load of the URL with this reply.
-fn read_load(
+// What calls look at after a load of the URL with this reply.
+fn sight_after(
     alloc: Global,
-    rules: &Suffixes,
+    rules: Suffixes,
     url: &str,
     reply: Option<Bytes>,
-) -> Result<(Jar, LoginMap), Fail> {
+) -> Result<Sight, Fail> {
     let url = WebUrl::read(alloc, url)?;
-    let mut jar = Jar::new(alloc);
-    let mut login = LoginMap::new(alloc);
-    let source = CookieSource {
-        rules,
-        url: &url,
-        time: NOW,
-    };
-    take_head(alloc, &mut jar, &mut login, source, &reply)?;
-    Ok((jar, login))
+    let mut sight = Sight::new(alloc, Header { rules, now: NOW });
+    take_head(alloc, &mut sight, &url, &reply)?;
+    Ok(sight)
 }
 
 // The rules `com` and `blog.example.com`.
@@ -72,9 +65,8 @@ fn nested_rules(alloc: Global) -> Result<Suffixes, Fail> {
 
 // What a session shows after a load of the URL with this reply.
 fn view_after(alloc: Global, url: &str, reply: Option<Bytes>) -> Result<View, Fail> {
-    let rules = nested_rules(alloc)?;
-    let (jar, login) = read_load(alloc, &rules, url, reply)?;
-    Ok(Session::with_cookies(alloc, Header { rules, now: NOW }, jar, login).view()?)
+    let sight = sight_after(alloc, nested_rules(alloc)?, url, reply)?;
+    Ok(Session::with_sight(alloc, sight).view()?)
 }
 
 // Each cookie as its name, value and path.

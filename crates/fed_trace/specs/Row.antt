@@ -25,12 +25,13 @@ use Rattle.fed_consent.specs.declared.table.ask.Ask.{Ask}
 use Rattle.fed_consent.specs.declared.table.ask.Ask.TheVariants as asks
 use Rattle.fed_consent.specs.declared.table.effect.Effect.{Effect as CallEffect}
 use Rattle.fed_consent.specs.declared.table.effect.Effect.TheVariants as does
-use Rattle.fed_consent.specs.declared.table.finish.FailStep.TheVariants.{CallPending}
+use Rattle.fed_consent.specs.declared.table.failure.FailStep.TheVariants.{CallPending}
 use Rattle.fed_consent.specs.declared.table.input.Input.{Input}
 use Rattle.fed_consent.specs.declared.table.why.Why.TheVariants.{NoPage, PageInsecure, NoCall}
 use Rattle.fed_trace.specs.Begun.{Begun}
-use Rattle.fed_call.specs.Facts.{Facts, Outcome}
-use Rattle.fed_call.specs.Outcomes.{fails, plain}
+use Rattle.fed_call.specs.Facts.{Facts}
+use Rattle.fed_consent.specs.Outcomes.{Outcome, fails}
+use Rattle.fed_consent.specs.Failures.{plain}
 use Rattle.fed_call.specs.Row.{start_row, call_row}
 use Rattle.fed_script.specs.declared.event.Event.{Event}
 use Rattle.fed_script.specs.declared.event.Event.TheVariants as events
@@ -81,15 +82,15 @@ outcome_effects world cookies call page outcome = flat_map (call_effects world c
 abbrev pub is_busy : ℕ → List (ℕ × ℕ) → Bool
 is_busy page calls = list_any (λ call. call.1 == page) calls
 
--- the outcome of a get that is taken: a page has at most one that is pending (row C1)
-abbrev pub get_outcome : World → Bool → GetOptions → Outcome
-get_outcome world true options = fails (plain CallPending)
-get_outcome world false options = start_row world options
+-- the outcome of a get of a page of this origin that is taken: a page has at most one that is pending (row C1)
+abbrev pub get_outcome : World → Bool → Origin → GetOptions → Outcome
+get_outcome world true origin options = fails (plain CallPending)
+get_outcome world false origin options = start_row world origin options
 
 -- a get of a page that stands, by whether the page is trustworthy
 abbrev pub standing_get : World → (Ask → List ℕ) → Bool → Bool → Begun → List Effect
 standing_get world cookies false busy b = Ignored PageInsecure ∷ []
-standing_get world cookies true busy b = Begin b ∷ outcome_effects world cookies b.call b.page (get_outcome world busy b.options)
+standing_get world cookies true busy b = Begin b ∷ outcome_effects world cookies b.call b.page (get_outcome world busy b.origin b.options)
 
 -- a get, by the origin of its page, if it stands, and by whether that page has a pending one
 abbrev pub get_effects : World → (Ask → List ℕ) → Option Origin → Bool → ℕ → ℕ → GetOptions → List Effect

@@ -6,6 +6,7 @@ pub mod Names
 pub mod Fault
 pub mod Clauses
 pub mod Seen
+pub mod Looks
 pub mod Same
 pub mod Pairs
 pub mod Jars

@@ -28,6 +28,14 @@ pub data Seen : Type 0 where
 abbrev pub told_origin : Providers → Origin → Option Origin
 told_origin p origin = if is_provider p origin.host then Some origin else None
 
+-- what is told of a page's origin
+pub record Told : Type 0 where
+  pub trusted : Bool
+  pub origin : Option Origin
+
+abbrev pub told : Providers → Origin → Told
+told p origin = record { trusted = is_trustworthy origin; origin = told_origin p origin }
+
 abbrev pub seen_move : ℕ → Stage → Option Seen
 seen_move call stages.Ended = Some (Ended call)
 seen_move call _ = None

@@ -93,7 +93,7 @@ fn take_event<L: Ledger>(
 }
 
 // The run of a script by a session in which nothing happened.
-fn take_events<L: Ledger>(
+pub(crate) fn take_events<L: Ledger>(
     session: &mut Session,
     script: &Script,
     most: u64,

@@ -7,6 +7,7 @@ ghost use Rattle.fed_twin.specs.Script.{Quiet};
 ghost use Rattle.fed_twin.specs.Twin.{Twin};
 ghost use Rattle.fed_twin.specs.Jars.{TwoJars};
 ghost use Rattle.fed_twin.specs.Laws.{TwoWorlds};
+ghost use Rattle.fed_twin.specs.Looks.{LooksAreSeen};
 ghost use Rattle.fed_twin.specs.Origins.{NumbersDecide};
 ghost use Rattle.fed_twin.specs.Tokens.{OneToken};
 
@@ -42,4 +43,10 @@ pub fn twins_have_no_fault()
 pub fn twins_of_themselves()
     ensures selves { (a : Script) → Twin a a }
     ensures before { (s : Script) (k : ℕ) → Quiet s (suc k) → Quiet s k }
+{}
+
+/// Where providers can tell the same of what happened, these look-backs are the same, on which a sign-in request hangs: the time, pending calls and
+/// calls that began, what is told of pages, the cookies and the statuses of providers, and the requests that were sent.
+pub fn looks_are_seen()
+    ensures { LooksAreSeen }
 {}

@@ -4,10 +4,9 @@ use Rattle.std.specs.List.{list_any}
 use Rattle.url.specs.Parts.{Parts}
 use Rattle.fed_origin.specs.declared.options.ProviderOptions.{ProviderOptions}
 use Rattle.fed_provider.specs.declared.config.Config.{Config}
-use Rattle.fed_provider.specs.declared.step.ProviderStep.{ProviderStep}
 use Rattle.fed_accounts.specs.declared.account.Account.{Account}
 use Rattle.fed_accounts.specs.declared.step.AccountsStep.{AccountsStep}
-use Rattle.fed_consent.specs.declared.table.finish.Failure.{Failure}
+use Rattle.fed_consent.specs.declared.table.failure.Failure.{Failure}
 use Rattle.fed_consent.specs.declared.table.input.Input.TheVariants.{Choose, GoOn}
 use Rattle.fed_consent.specs.declared.consent.manner.Manner.TheVariants.{Chosen}
 use Rattle.fed_consent.specs.Consent.{Agreement, Candidate, chosen}
@@ -16,49 +15,52 @@ use Rattle.fed_call.specs.Accounts.{candidate_of}
 use Rattle.fed_call.specs.Facts.{Facts, is_ignored, metadata_endpoint, with_choice, with_input}
 use Rattle.fed_call.specs.AssertingRows.{asserts}
 use Rattle.fed_call.specs.DialogRows.{agreed_to, settles, choice}
-use Rattle.fed_call.specs.ReadingRows.{first_config}
 use Rattle.fed_call.specs.ListingRows.{by_mismatch, prompt_effect, offers, by_accounts}
 
-mismatch_taken : (site : List ℕ) (failure : Failure) (mismatch : Bool) → list_any is_ignored (by_mismatch site failure mismatch).effects ≡ false
-mismatch_taken site failure true = refl
-mismatch_taken site failure false = refl
+mismatch_taken : (place : ℕ) (site : List ℕ) (failure : Failure) (mismatch : Bool)
+    → list_any is_ignored (by_mismatch place site failure mismatch).effects ≡ false
+mismatch_taken place site failure true = refl
+mismatch_taken place site failure false = refl
 
-pub prompt_taken : (world : World) (facts : Facts) (provider : ProviderOptions) (candidate : Candidate) (connected : Bool) (endpoint : Option Parts) → is_ignored (prompt_effect world facts provider candidate connected endpoint) ≡ false
-prompt_taken world facts provider candidate true endpoint = refl
-prompt_taken world facts provider candidate false None = refl
-prompt_taken world facts provider candidate false (Some to) = refl
+pub prompt_taken : (world : World) (facts : Facts) (place : ℕ) (provider : ProviderOptions) (candidate : Candidate) (connected : Bool) (endpoint : Option Parts)
+    → is_ignored (prompt_effect world facts place provider candidate connected endpoint) ≡ false
+prompt_taken world facts place provider candidate true endpoint = refl
+prompt_taken world facts place provider candidate false None = refl
+prompt_taken world facts place provider candidate false (Some to) = refl
 
-offers_taken : (world : World) (facts : Facts) (provider : ProviderOptions) (accounts : List Account) → list_any is_ignored (offers world facts provider accounts).effects ≡ false
-offers_taken world facts provider [] = refl
-offers_taken world facts provider (only ∷ []) =
+offers_taken : (world : World) (facts : Facts) (place : ℕ) (provider : ProviderOptions) (accounts : List Account)
+    → list_any is_ignored (offers world facts place provider accounts).effects ≡ false
+offers_taken world facts place provider [] = refl
+offers_taken world facts place provider (only ∷ []) =
     let candidate = candidate_of world facts.origin provider only in
-    rw (prompt_taken world facts provider candidate candidate.connected (metadata_endpoint facts.config)) refl
-offers_taken world facts provider (first ∷ second ∷ more) = refl
+    rw (prompt_taken world facts place provider candidate candidate.connected (metadata_endpoint facts.config)) refl
+offers_taken world facts place provider (first ∷ second ∷ more) = refl
 
 -- an accounts reply of the provider is taken
-pub accounts_taken : (world : World) (facts : Facts) (provider : ProviderOptions) (read : Result (List Account) AccountsStep) → list_any is_ignored (by_accounts world facts provider read).effects ≡ false
-accounts_taken world facts provider (Err step) = mismatch_taken _ _ _
-accounts_taken world facts provider (Ok accounts) = offers_taken world facts provider accounts
+pub accounts_taken : (world : World) (facts : Facts) (place : ℕ) (provider : ProviderOptions) (read : Result (List Account) AccountsStep)
+    → list_any is_ignored (by_accounts world facts place provider read).effects ≡ false
+accounts_taken world facts place provider (Err step) = mismatch_taken _ _ _ _
+accounts_taken world facts place provider (Ok accounts) = offers_taken world facts place provider accounts
 
--- the first config reply of the provider is taken
-pub config_taken : (heard : Bool) (read : Result Config ProviderStep) → list_any is_ignored (first_config heard read).effects ≡ false
-config_taken heard (Err step) = refl
-config_taken false (Ok config) = refl
-config_taken true (Ok config) = refl
+asserts_taken : (facts : Facts) (place : ℕ) (provider : ProviderOptions) (config : Option Config) (agreed : Agreement)
+    → list_any is_ignored (asserts facts place (Some provider) config agreed).effects ≡ false
+asserts_taken facts place provider None agreed = refl
+asserts_taken facts place provider (Some config) agreed = refl
 
-asserts_taken : (facts : Facts) (provider : ProviderOptions) (config : Option Config) (agreed : Agreement) → list_any is_ignored (asserts facts (Some provider) config agreed).effects ≡ false
-asserts_taken facts provider None agreed = refl
-asserts_taken facts provider (Some config) agreed = refl
-
-settles_taken : (world : World) (facts : Facts) (provider : ProviderOptions) (candidate : Candidate) (connected : Bool) → list_any is_ignored (settles world facts provider candidate connected).effects ≡ false
-settles_taken world facts provider candidate true = asserts_taken facts provider facts.config (agreed_to facts candidate Chosen false)
-settles_taken world facts provider candidate false =
-    rw (prompt_taken world facts provider candidate candidate.connected (metadata_endpoint facts.config)) refl
+settles_taken : (world : World) (facts : Facts) (place : ℕ) (provider : ProviderOptions) (candidate : Candidate) (connected : Bool)
+    → list_any is_ignored (settles world facts place provider candidate connected).effects ≡ false
+settles_taken world facts place provider candidate true =
+    asserts_taken facts place provider facts.config (agreed_to facts place candidate Chosen false)
+settles_taken world facts place provider candidate false =
+    rw (prompt_taken world facts place provider candidate candidate.connected (metadata_endpoint facts.config)) refl
 
 -- what a choice leaves known of a call: the account, if it is offered
-pub choice_with : (world : World) (facts : Facts) (provider : ProviderOptions) (place : ℕ) (id : List ℕ) (found : Option Candidate) → option_and_then (chosen id) facts.listed ≡ found → with_input world (list_any is_ignored (choice world facts (Some provider) found).effects) (Choose place id) facts ≡ with_choice found facts
-choice_with world facts provider place id None e = refl
-choice_with world facts provider place id (Some candidate) e = rw (settles_taken world facts provider candidate candidate.connected) (rw e refl)
+pub choice_with : (world : World) (facts : Facts) (place : ℕ) (provider : ProviderOptions) (id : List ℕ) (found : Option Candidate)
+    → option_and_then (chosen id) facts.listed ≡ found
+    → with_input world (list_any is_ignored (choice world facts place (Some provider) found).effects) (Choose place id) facts ≡ with_choice found facts
+choice_with world facts place provider id None e = refl
+choice_with world facts place provider id (Some candidate) e =
+    rw (settles_taken world facts place provider candidate candidate.connected) (rw e refl)
 
 -- that the user went on says nothing more
 pub with_go_on : (world : World) (facts : Facts) (ignored : Bool) → with_input world ignored GoOn facts ≡ facts

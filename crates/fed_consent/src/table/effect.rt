@@ -1,7 +1,13 @@
 //! What a call does.
+ghost use Rattle.std.specs.Prelude.{◌≡◌, [], ◌∷◌, IfOk};
 
 use super::{Ask, Dialog, Finish, Why};
+use fed_io::{Items, NoRoom};
 use fed_origin::{LoginStatus, Origin, Triple, WebUrl};
+use std::alloc::Global;
+
+/// The place of the provider in a call's list of one.
+pub const ONLY_PLACE: u32 = 0;
 
 /// What a call does at an event (this profile's own).
 #[derive(Drop)]
@@ -26,4 +32,22 @@ pub enum Effect {
     Finish(Finish),
     /// The event was not taken.
     Ignored(Why),
+}
+
+impl Effect {
+    /// All that a call does, where it does this alone.
+    pub fn alone(self, alloc: Global) -> Result<Items<Effect>, NoRoom>
+        ensures { IfOk result (λ effects. effects ≡ self ∷ []) }
+    {
+        let mut effects = Items::new(alloc);
+        effects.push(self)?;
+        Ok(effects)
+    }
+
+    /// All that a call does, where it does this and then the other.
+    pub fn then(self, alloc: Global, next: Effect) -> Result<Items<Effect>, NoRoom>
+        ensures { IfOk result (λ effects. effects ≡ self ∷ next ∷ []) }
+    {
+        Ok(Items::from_vec(Vec::from_array(alloc, [self, next])?))
+    }
 }

@@ -8,7 +8,8 @@ use Rattle.fed_consent.specs.declared.table.ask.Ask.TheVariants as asks
 use Rattle.fed_consent.specs.declared.table.input.Input.{Input}
 use Rattle.fed_consent.specs.declared.table.input.Input.TheVariants as inputs
 use Rattle.fed_consent.specs.Consent.{AssertionFields, Candidate, Listed, assertion_fields, chosen}
-use Rattle.fed_call.specs.Facts.{Facts, provider_at, Outcome}
+use Rattle.fed_call.specs.Facts.{Facts, provider_at}
+use Rattle.fed_consent.specs.Outcomes.{Outcome}
 use Rattle.fed_script.specs.declared.event.Event.{Event}
 use Rattle.fed_script.specs.declared.event.Event.TheVariants as events
 use Rattle.fed_script.specs.declared.event.Event.TheVariants.{Choose}
@@ -30,10 +31,11 @@ use Rattle.fed_trace.proofs.happens.Ends.{Happens, Left, Ends, Started, Took, St
 use Rattle.fed_trace.proofs.happens.Happens.{happens}
 use Rattle.fed_laws.proofs.causes.Cause.{Caused, Path, Alone, AfterChoice, Prompts, chosen_id}
 use Rattle.fed_trace.proofs.happens.Says.{own, outcome_asks, asks_token}
-use Rattle.fed_laws.proofs.tokens.Token.{first_place, row_of_trace, says_none, says_one}
+use Rattle.fed_laws.proofs.tokens.Token.{row_of_trace, says_none, says_one}
 use Rattle.fed_laws.proofs.turns.Turn.{AsksToken, Turn, Asks, Gives, Goes, Word, Chose, WentOn, disclosed, turn_at}
 use Rattle.fed_laws.proofs.causes.Dialog.{one_provider}
 use Rattle.fed_laws.proofs.causes.Caused.{caused}
+use Rattle.fed_laws.proofs.turns.Only.{first_place}
 
 -- ---- the cause
 
@@ -49,11 +51,11 @@ abbrev CauseFor : (T : Trace) (event : Event) (call : ℕ) (candidate : Candidat
 CauseFor T event call candidate = (cause : AssertionCause T event call 0 candidate.account.id) × (cause.candidate ≡ candidate)
 
 -- the configuration that the cause speaks of
-cause_config : (T : Trace) (call : ℕ) (f : Facts) → Stood T call f → Caused T call f → (a : Accepted T call 0) → f.config ≡ config_at T.rows call a.begun.options
+cause_config : (T : Trace) (call : ℕ) (f : Facts) → Stood T call f → Caused T call f → (a : Accepted T call 0) → f.config ≡ config_at T.rows call 0 a.begun.options
 cause_config T call f s c a =
     let same : Some s.begun ≡ Some a.begun = sym s.began ∙ a.began in
     let begun_is : s.begun ≡ a.begun = cc in
-    c.config ∙ ap (config_at T.rows call) (s.of_options ∙ ap (λ b. b.options) begun_is)
+    c.config ∙ ap (config_at T.rows call 0) (s.of_options ∙ ap (λ b. b.options) begun_is)
 
 cause_by_choice : (T : Trace) (event : Event) (call : ℕ) (f : Facts) → (s : AskingStep T event call f) → (place : ℕ) (id : List ℕ) (listed : Listed) → f.stage ≡ Choosing
     → s.meets.takes.input ≡ inputs.Choose place id → provider_at place f.options ≡ Some s.asks.provider → f.listed ≡ Some listed → chosen id listed ≡ Some s.asks.candidate
@@ -184,9 +186,10 @@ asked_by T event call provider ask cookies new h caused has = go (happens T even
     turned f m (Asks a) =
         let s : AskingStep T event call f = record { meets = m; stood = h.stood f m.found; caused = caused f m.found; asks = a } in
         let made = made_by f m.takes.input (outcome_of T f m.takes.input) a in
-        let both : ◌≡◌ {A = ℕ × AssertionFields} (provider, ask) (0, made) =
-        says_one (asked call) (effects_of T event) sent (provider, ask) (0, made) has is (asks_at T event call f m ∙ ap (λ o. filter_map asks_token o.effects) a.is) in
-        let provider_is : provider ≡ 0 = ap (λ x. x.0) both in
+        let place_is : a.place ≡ 0 = first_place f.options.providers a.place a.provider (one_provider T call f s.stood) a.has_provider in
+        let both : ◌≡◌ {A = ℕ × AssertionFields} (provider, ask) (a.place, made) =
+        says_one (asked call) (effects_of T event) sent (provider, ask) (a.place, made) has is (asks_at T event call f m ∙ ap (λ o. filter_map asks_token o.effects) a.is) in
+        let provider_is : provider ≡ 0 = ap (λ x. x.0) both ∙ place_is in
         let ask_is : ask ≡ made = ap (λ x. x.1) both in
         let found = cause_at T event call f s in
         let said : CauseSaid T event call 0 a.candidate.account.id made = (found.0, says_why T event call f s found.0 found.1) in
@@ -200,11 +203,11 @@ asked_by T event call provider ask cookies new h caused has = go (happens T even
 
     begins_with : (s : Starts T event call) → CauseSaid T event call provider ask.account ask
     begins_with s =
-        let o = get_outcome (world_at T) s.busy s.begun.options in
+        let o = get_outcome (world_at T) s.busy s.begun.origin s.begun.options in
         never (ap (filter_map (asked call)) s.effects
         ∙ ap (λ c. filter_map (asked c) (outcome_effects (world_at T) (cookies_with T) s.begun.call s.begun.page o)) (sym s.is_call)
         ∙ outcome_asks (world_at T) (cookies_with T) s.begun.call s.begun.page o
-        ∙ first_asks_none o (first_turn (world_at T) s.busy s.begun.options (subst (IsNew T.rows) s.is_get new).1))
+        ∙ first_asks_none o (first_turn (world_at T) s.busy s.begun.origin s.begun.options (subst (IsNew T.rows) s.is_get new).1))
 
     go : Happens T event call → CauseSaid T event call provider ask.account ask
     go (Left l) = never l.quiet.asks

@@ -13,7 +13,8 @@ use Rattle.fed_status.specs.Shared.{World}
 use Rattle.fed_consent.specs.declared.table.input.Input.TheVariants as inputs
 use Rattle.fed_consent.specs.Consent.{Candidate, Listed, candidate_at, chosen, has_id}
 use Rattle.fed_call.specs.Accounts.{candidate_of, listed_of}
-use Rattle.fed_call.specs.Facts.{Facts, Outcome}
+use Rattle.fed_call.specs.Facts.{Facts}
+use Rattle.fed_consent.specs.Outcomes.{Outcome}
 use Rattle.fed_script.specs.declared.event.Event.{Event}
 use Rattle.fed_script.specs.declared.event.Event.TheVariants as events
 use Rattle.fed_script.specs.declared.event.Event.TheVariants.{Choose, Reply}
@@ -108,7 +109,7 @@ pub record Prompts (T : Trace) (call : ℕ) (f : Facts) : Type 0 where
 
 -- what stands of a call, as to the causes of a request for a token
 pub record Caused (T : Trace) (call : ℕ) (f : Facts) : Type 0 where
-  pub config : f.config ≡ config_at T.rows call f.options
+  pub config : f.config ≡ config_at T.rows call 0 f.options
   pub configured : (f.stage ≡ Reading) ⊎ (is_some f.config ≡ true)
   pub choosing : f.stage ≡ Choosing → Opened T call f
   pub prompting : f.stage ≡ Prompting → Prompts T call f
@@ -222,15 +223,15 @@ unsaid_chooses (events.GoOn c) call listed none = refl
 unsaid_chooses (events.Cancel c) call listed none = refl
 unsaid_chooses (events.SetStatus page status) call listed none = refl
 
-untold : (ignored : Bool) → config_given ignored None ≡ None
+untold : (ignored : Bool) → config_given 0 ignored None ≡ None
 untold true = refl
 untold false = refl
 
 -- no configuration comes by a row that brings the call no input
-pub config_same : (T : Trace) (line : ℕ) (event : Event) (call : ℕ) → input_to call event ≡ None → config_taken call (with_event T line event).rows ≡ config_taken call T.rows
+pub config_same : (T : Trace) (line : ℕ) (event : Event) (call : ℕ) → input_to call event ≡ None → config_taken call 0 (with_event T line event).rows ≡ config_taken call 0 T.rows
 config_same T line event call none =
-    ap (λ i. option_or (config_given (list_any is_ignored (effects_of T event)) i) (config_taken call T.rows)) none
-    ∙ ap (λ o. option_or o (config_taken call T.rows)) (untold (list_any is_ignored (effects_of T event)))
+    ap (λ i. option_or (config_given 0 (list_any is_ignored (effects_of T event)) i) (config_taken call 0 T.rows)) none
+    ∙ ap (λ o. option_or o (config_taken call 0 T.rows)) (untold (list_any is_ignored (effects_of T event)))
 
 -- of a call that stands, an event that leaves it brings no input
 pub left_unsaid : (T : Trace) (event : Event) (call : ℕ) (f : Facts) → Stood T call f → Leaves T event call → input_to call event ≡ None
@@ -246,7 +247,7 @@ caused_left T line event call f s l c =
     let none = left_unsaid T event call f s l in
     let quiet_row = calm T line event call f.page (left_page T event call f l s) l.quiet.gives in
     record {
-      config = c.config ∙ ap (option_and_then (config_in f.options)) (sym (config_same T line event call none));
+      config = c.config ∙ ap (option_and_then (config_in f.options 0)) (sym (config_same T line event call none));
       configured = c.configured;
       choosing = λ at.
           let o = c.choosing at in
@@ -257,55 +258,55 @@ caused_left T line event call f s l c =
 -- ---- the call begins
 
 -- nothing was taken of a call that has not begun
-untaken_row : (T : Trace) (line : ℕ) (event : Event) (call : ℕ) → is_begun (with_event T line event) call ≡ false → config_taken call T.rows ≡ None
-    → config_taken call (with_event T line event).rows ≡ None
+untaken_row : (T : Trace) (line : ℕ) (event : Event) (call : ℕ) → is_begun (with_event T line event) call ≡ false → config_taken call 0 T.rows ≡ None
+    → config_taken call 0 (with_event T line event).rows ≡ None
 untaken_row T line event call new none = go (happens T event call)
   where
-    refused : (list_any is_ignored (effects_of T event) ≡ true) × (is_begun T call ≡ false) → config_taken call (with_event T line event).rows ≡ None
-    refused r = ap (λ b. option_or (config_given b (input_to call event)) (config_taken call T.rows)) r.0 ∙ none
+    refused : (list_any is_ignored (effects_of T event) ≡ true) × (is_begun T call ≡ false) → config_taken call 0 (with_event T line event).rows ≡ None
+    refused r = ap (λ b. option_or (config_given 0 b (input_to call event)) (config_taken call 0 T.rows)) r.0 ∙ none
 
-    left_by : (input_to call event ≡ None) ⊎ ((list_any is_ignored (effects_of T event) ≡ true) × (is_begun T call ≡ false)) → config_taken call (with_event T line event).rows ≡ None
+    left_by : (input_to call event ≡ None) ⊎ ((list_any is_ignored (effects_of T event) ≡ true) × (is_begun T call ≡ false)) → config_taken call 0 (with_event T line event).rows ≡ None
     left_by (inl unsaid) = config_same T line event call unsaid ∙ none
     left_by (inr r) = refused r
 
-    go : Happens T event call → config_taken call (with_event T line event).rows ≡ None
+    go : Happens T event call → config_taken call 0 (with_event T line event).rows ≡ None
     go (Left l) = left_by l.untaken
     go (Ends e) = config_same T line event call e.unsaid ∙ none
     go (Started s) = config_same T line event call (ap (input_to call) s.is_get) ∙ none
     go (Took t) = let no : true ≡ false = sym t.begun ∙ unbegun_before T line event call new in absurd (cc)
 
-pub untaken : (header : Header) (rows : List Row) (call : ℕ) → IsRun header rows → list_any (nat_eq call) (begun rows) ≡ false → config_taken call rows ≡ None
+pub untaken : (header : Header) (rows : List Row) (call : ℕ) → IsRun header rows → list_any (nat_eq call) (begun rows) ≡ false → config_taken call 0 rows ≡ None
 untaken header [] call run new = refl
 untaken header (row ∷ rows) call run new =
     let T : Trace = record { header = header; rows = rows } in
     let is = row_is T row run.0 in
     let now : is_begun (with_event T row.line row.event) call ≡ false = subst (λ r. list_any (nat_eq call) (begun (r ∷ rows)) ≡ false) is new in
-    ap (λ r. config_taken call (r ∷ rows)) is
+    ap (λ r. config_taken call 0 (r ∷ rows)) is
     ∙ untaken_row T row.line row.event call now (untaken header rows call run.2 (unbegun_before T row.line row.event call now))
 
-caused_first : (T : Trace) (call : ℕ) (b : Begun) → config_taken call T.rows ≡ None → Caused T call (known_first b)
+caused_first : (T : Trace) (call : ℕ) (b : Begun) → config_taken call 0 T.rows ≡ None → Caused T call (known_first b)
 caused_first T call b none =
     record {
-      config = ap (option_and_then (config_in b.options)) (sym none);
+      config = ap (option_and_then (config_in b.options 0)) (sym none);
       configured = inl refl;
       choosing = λ at. absurd (cc);
       prompting = λ at. absurd (cc);
     }
 
-pub caused_started : (T : Trace) (line : ℕ) (event : Event) (call : ℕ) (f : Facts) → IsNew T.rows event → config_taken call T.rows ≡ None → Starts T event call
+pub caused_started : (T : Trace) (line : ℕ) (event : Event) (call : ℕ) (f : Facts) → IsNew T.rows event → config_taken call 0 T.rows ≡ None → Starts T event call
     → facts_at (with_event T line event) call ≡ Some f → Caused (with_event T line event) call f
 caused_started T line event call f new none s is =
     subst (λ c. Caused (with_event T line event) c f) s.is_call
-    (go (first_turn (world_at T) s.busy s.begun.options (subst (IsNew T.rows) s.is_get new).1))
+    (go (first_turn (world_at T) s.busy s.begun.origin s.begun.options (subst (IsNew T.rows) s.is_get new).1))
   where
     o : Outcome
-    o = get_outcome (world_at T) s.busy s.begun.options
+    o = get_outcome (world_at T) s.busy s.begun.origin s.begun.options
 
     is_own : facts_at (with_event T line event) s.begun.call ≡ Some f
     is_own = subst (λ c. facts_at (with_event T line event) c ≡ Some f) (sym s.is_call) is
 
-    still : config_taken s.begun.call (with_event T line event).rows ≡ None
-    still = subst (λ c. config_taken c (with_event T line event).rows ≡ None) (sym s.is_call) (config_same T line event call (ap (input_to call) s.is_get) ∙ none)
+    still : config_taken s.begun.call 0 (with_event T line event).rows ≡ None
+    still = subst (λ c. config_taken c 0 (with_event T line event).rows ≡ None) (sym s.is_call) (config_same T line event call (ap (input_to call) s.is_get) ∙ none)
 
     go : FirstTurn o → Caused (with_event T line event) s.begun.call f
     go (FailsFirst failure ended asks gives) =

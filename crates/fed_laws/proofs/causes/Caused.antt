@@ -129,7 +129,7 @@ caused_then T line event call f f' s =
 
 -- ---- every row
 
-caused_by_row : (T : Trace) (line : ℕ) (event : Event) (call : ℕ) (f' : Facts) → (is_begun T call ≡ false → config_taken call T.rows ≡ None)
+caused_by_row : (T : Trace) (line : ℕ) (event : Event) (call : ℕ) (f' : Facts) → (is_begun T call ≡ false → config_taken call 0 T.rows ≡ None)
     → IsNew T.rows event → Invariant T call → ((f : Facts) → facts_at T call ≡ Some f → Caused T call f) → Stood (with_event T line event) call f'
     → facts_at (with_event T line event) call ≡ Some f' → Caused (with_event T line event) call f'
 caused_by_row T line event call f' nothing new h caused then is = go (happens T event call)

@@ -19,7 +19,8 @@ use Rattle.fed_consent.specs.declared.table.input.Input.TheVariants as inputs
 use Rattle.fed_consent.specs.Consent.{Candidate, chosen}
 use Rattle.fed_call.specs.Accounts.{candidate_of, listed_of, needs_metadata}
 use Rattle.fed_call.specs.Facts as call_facts
-use Rattle.fed_call.specs.Facts.{Facts, at_stage, facts_after, metadata_endpoint, provider_at, with_accounts, with_candidate, with_choice, with_input, with_list, with_listing, Outcome}
+use Rattle.fed_call.specs.Facts.{Facts, at_stage, facts_after, metadata_endpoint, provider_at, with_accounts, with_candidate, with_choice, with_input, with_list, with_listing}
+use Rattle.fed_consent.specs.Outcomes.{Outcome}
 use Rattle.fed_script.specs.declared.event.Event.{Event}
 use Rattle.fed_script.specs.declared.event.Event.TheVariants.{Choose, Reply}
 use Rattle.fed_laws.specs.Cause.{Accepted, IsReady, config_at, config_given, config_in, config_taken, is_metadata}
@@ -35,12 +36,12 @@ use Rattle.fed_laws.proofs.pending.Taken.{after_by, gives_at, input_keeps_pages}
 use Rattle.fed_trace.proofs.happens.Ends.{event_for}
 use Rattle.fed_trace.proofs.known.Facts.{same_origin_of, same_options}
 use Rattle.fed_laws.proofs.causes.Cause.{Caused, Opened, Path, Alone, AfterChoice, Prompts, accepted_on, chosen_id, only_chosen, path_ready}
-use Rattle.fed_laws.proofs.turns.Config.{AtEnd, AtReading, Configured, HasOne, config_told, keeps_config, told}
+use Rattle.fed_laws.proofs.turns.Config.{AtEnd, AtReading, Configured, HasOne, config_told, has_its_provider, keeps_config, told}
 use Rattle.fed_trace.proofs.effects.Outcome.{ignored_outcome}
 use Rattle.fed_trace.proofs.happens.Says.{own, outcome_begins, finish_of}
-use Rattle.fed_laws.proofs.tokens.Token.{first_place}
 use Rattle.fed_laws.proofs.turns.Turn.{Turn, Asks, Gives, Goes, turn_at}
 use Rattle.fed_laws.proofs.turns.Way.{TakesAccounts, TakesChoice, TakesMetadata}
+use Rattle.fed_laws.proofs.turns.Only.{first_place}
 
 -- ---- an input of a call that goes on
 
@@ -107,18 +108,18 @@ one_provider T call f s = ap (λ o. length o.providers) s.of_options ∙ s.one
 -- ---- the configuration
 
 pub config_then : (T : Trace) (line : ℕ) (event : Event) (call : ℕ) (f f' : Facts) → (s : Step T line event call f f')
-    → f'.config ≡ config_at (with_event T line event).rows call f'.options
+    → f'.config ≡ config_at (with_event T line event).rows call 0 f'.options
 config_then T line event call f f' s =
     let input = s.meets.takes.input in
     let o = outcome_of T f input in
     let ignored = list_any call_facts.is_ignored o.effects in
-    let said : config_given ignored (Some input) ≡ config_given (list_any is_ignored (effects_of T event)) (input_to call event) =
-    ap (λ b. config_given b (Some input)) (sym (ap (list_any is_ignored) (does_at T event call f s.meets) ∙ ignored_outcome (world_at T) (cookies_with T) call f.page o))
-    ∙ ap (config_given (list_any is_ignored (effects_of T event))) (sym s.meets.takes.input_is) in
+    let said : config_given 0 ignored (Some input) ≡ config_given 0 (list_any is_ignored (effects_of T event)) (input_to call event) =
+    ap (λ b. config_given 0 b (Some input)) (sym (ap (list_any is_ignored) (does_at T event call f s.meets) ∙ ignored_outcome (world_at T) (cookies_with T) call f.page o))
+    ∙ ap (config_given 0 (list_any is_ignored (effects_of T event))) (sym s.meets.takes.input_is) in
     ap (λ g. g.config) (after_step T line event call f f' s)
-    ∙ config_told (world_at T) ignored input f (config_taken call T.rows) s.caused.config
-    ∙ ap (λ x. option_and_then (config_in f.options) (option_or x (config_taken call T.rows))) said
-    ∙ ap (λ x. option_and_then (config_in x) (config_taken call (with_event T line event).rows)) (sym (options_then T line event call f f' s))
+    ∙ config_told (world_at T) ignored input f (config_taken call 0 T.rows) (one_provider T call f s.stood) (has_its_provider (world_at T) f input) s.caused.config
+    ∙ ap (λ x. option_and_then (config_in f.options 0) (option_or x (config_taken call 0 T.rows))) said
+    ∙ ap (λ x. option_and_then (config_in x 0) (config_taken call 0 (with_event T line event).rows)) (sym (options_then T line event call f f' s))
 
 pub configured_then : (T : Trace) (line : ℕ) (event : Event) (call : ℕ) (f f' : Facts) → (s : Step T line event call f f') → (f'.stage ≡ Reading) ⊎ (is_some f'.config ≡ true)
 configured_then T line event call f f' s = go (keeps_config (world_at T) f s.meets.takes.input s.caused.configured)

@@ -4,7 +4,7 @@ use Rattle.fed_call.specs.AssertingRows.{asserts}
 use Rattle.fed_call.specs.DialogRows.{agreed_to, chose, choice, settles, goes_on, went_on}
 use Rattle.fed_call.specs.Facts.{Facts, provider_at}
 use Rattle.fed_call.specs.ListingRows.{offers}
-use Rattle.fed_call.specs.Outcomes.{moves, after}
+use Rattle.fed_consent.specs.Outcomes.{moves, after}
 use Rattle.fed_call.specs.Row.{input_row, call_row}
 use Rattle.fed_consent.specs.Consent.{AssertionFields, Candidate, Listed, assertion_fields, chosen}
 use Rattle.fed_consent.specs.declared.table.input.Input.{Input}
@@ -37,16 +37,17 @@ use Rattle.fed_origin.specs.declared.stage.ReplyKind.TheVariants as kinds
 use Rattle.fed_script.specs.declared.event.Event.TheVariants as events
 use Rattle.std.proofs.lemmas.List.Folds.{list_any-append}
 use Rattle.fed_laws.proofs.pending.Asked.{invariant, row_is}
-use Rattle.fed_laws.proofs.tokens.Answered.{or_left, or_right, only_there}
+use Rattle.fed_laws.proofs.tokens.Answered.{or_left, or_right}
 use Rattle.fed_laws.proofs.causes.Cause.{chosen_id}
 use Rattle.fed_laws.proofs.causes.Dialog.{one_provider}
 use Rattle.fed_laws.proofs.pending.Stood.{Stood}
-use Rattle.fed_laws.proofs.tokens.Token.{first_place, row_of_trace}
+use Rattle.fed_laws.proofs.tokens.Token.{row_of_trace}
 use Rattle.fed_laws.proofs.pending.Begun.{or_true}
 use Rattle.fed_laws.proofs.causes.Caused.{caused}
 use Rattle.fed_laws.proofs.followed.Offers.{tracks_first, tracks_on, accepted_begun}
 use Rattle.fed_trace.proofs.happens.Says.{own}
 use Rattle.fed_laws.proofs.followed.Tracks.{How, AsOnly, AsChosen, Offering, ToChoose, ToGoOn, Tracks, began_before, begun_on}
+use Rattle.fed_laws.proofs.turns.Only.{first_place, only_there}
 
 -- ---- after the rows since
 
@@ -155,11 +156,11 @@ sends_choice : (T : Trace) (event : Event) (call : ℕ) (id : List ℕ) (listed 
 sends_choice T event call id listed candidate f s found some at lists named connected is =
     let only = only_there f.options.providers (one_provider T call f s) in
     let cfg = some_config f.config some in
-    sends_by T event call f (inputs.Choose 0 id) id (assertion_fields (agreed_to f candidate Chosen false) cfg.0.assertion f.origin only.0)
+    sends_by T event call f (inputs.Choose 0 id) id (assertion_fields (agreed_to f 0 candidate Chosen false) cfg.0.assertion f.origin only.0)
     (does_for T event call f (inputs.Choose 0 id) s found (ap (effects_of T) is))
-    (ap (λ st. chose (world_at T) f st 0 id) at ∙ ap (λ x. choice (world_at T) f x (option_and_then (chosen id) f.listed)) only.1
-    ∙ ap (λ l. choice (world_at T) f (Some only.0) (option_and_then (chosen id) l)) lists ∙ ap (choice (world_at T) f (Some only.0)) named
-    ∙ ap (settles (world_at T) f only.0 candidate) connected ∙ ap (λ x. asserts f (Some only.0) x (agreed_to f candidate Chosen false)) cfg.1)
+    (ap (λ st. chose (world_at T) f st 0 id) at ∙ ap (λ x. choice (world_at T) f 0 x (option_and_then (chosen id) f.listed)) only.1
+    ∙ ap (λ l. choice (world_at T) f 0 (Some only.0) (option_and_then (chosen id) l)) lists ∙ ap (choice (world_at T) f 0 (Some only.0)) named
+    ∙ ap (settles (world_at T) f 0 only.0 candidate) connected ∙ ap (λ x. asserts f 0 (Some only.0) x (agreed_to f 0 candidate Chosen false)) cfg.1)
     (chosen_id id listed candidate named)
 
 -- the user went on with the prompt
@@ -168,11 +169,11 @@ sends_going : (T : Trace) (event : Event) (call : ℕ) (candidate : Candidate) (
 sends_going T event call candidate f s found some at picks ready is =
     let only = only_there f.options.providers (one_provider T call f s) in
     let cfg = some_config f.config some in
-    let agreed = agreed_to f candidate Prompted (not candidate.connected) in
+    let agreed = agreed_to f 0 candidate Prompted (not candidate.connected) in
     sends_by T event call f inputs.GoOn candidate.account.id (assertion_fields agreed cfg.0.assertion f.origin only.0)
     (does_for T event call f inputs.GoOn s found (ap (effects_of T) is))
     (ap (λ st. went_on f st) at ∙ ap (λ w. goes_on f w f.picked) ready ∙ ap (goes_on f false) picks
-    ∙ ap (λ x. asserts f x f.config agreed) only.1 ∙ ap (λ x. asserts f (Some only.0) x agreed) cfg.1)
+    ∙ ap (λ x. asserts f 0 x f.config agreed) only.1 ∙ ap (λ x. asserts f 0 (Some only.0) x agreed) cfg.1)
     refl
 
 too_few : {A : Type 0} (xs : List Account) (x : Account) → 2 ≤ length xs → xs ≡ x ∷ [] → A
@@ -265,15 +266,15 @@ followed T event call provider id run cause =
     let begun_is : s.begun ≡ b = cc in
     let first = first_place b.options.providers provider a.options (ap (λ x. length x.options.providers) (sym begun_is) ∙ s.one) a.has_provider in (
       first,
-      acts T event call id a.listed cause.candidate (config_at T.rows call b.options) a.since
+      acts T event call id a.listed cause.candidate (config_at T.rows call 0 b.options) a.since
           (record {
             page = b.page;
             tracks = k;
             stood = s;
             configured = past_reading k.facts call a.listed a.since k.offering c.configured;
-            config_is = sym (c.config ∙ ap (config_at T.rows call) (s.of_options ∙ ap (λ x. x.options) begun_is));
+            config_is = sym (c.config ∙ ap (config_at T.rows call 0) (s.of_options ∙ ap (λ x. x.options) begun_is));
             named = cause.is_listed;
-            agreed = subst (λ p. Agreed event call p id a.listed cause.candidate (config_at T.rows call b.options) a.since) first cause.agreed;
+            agreed = subst (λ p. Agreed event call p id a.listed cause.candidate (config_at T.rows call p b.options) a.since) first cause.agreed;
           }),
     )
 

@@ -4,7 +4,7 @@ use Rattle.fed_accounts.specs.declared.step.AccountsStep.{AccountsStep}
 use Rattle.fed_call.specs.Accounts.{accounts_of, candidate_of, listed_of, needs_metadata}
 use Rattle.fed_call.specs.Facts.{Facts, provider_at, metadata_endpoint, is_ignored, with_input, with_accounts, with_list, with_listing, at_stage, with_candidate}
 use Rattle.fed_call.specs.ListingRows.{by_accounts, offers, accounts_reply}
-use Rattle.fed_call.specs.Outcomes.{stays}
+use Rattle.fed_consent.specs.Outcomes.{stays}
 use Rattle.fed_call.specs.Row.{stage_reply, call_row}
 use Rattle.fed_consent.specs.Consent.{Candidate, Listed, chosen}
 use Rattle.fed_consent.specs.declared.table.finish.Finish.{Finish}
@@ -188,12 +188,12 @@ tracks_first T line event call provider b options raw id listed candidate o h be
           found = found;
         }
 
-        outcome_is : (accounts : List Account) → accounts_of raw options ≡ Ok accounts → outcome_of T f input ≡ by_accounts (world_at T) f options (Ok accounts)
+        outcome_is : (accounts : List Account) → accounts_of raw options ≡ Ok accounts → outcome_of T f input ≡ by_accounts (world_at T) f provider options (Ok accounts)
         outcome_is accounts reads =
-            ap (λ st. stage_reply (world_at T) f st provider kinds.Accounts raw) at ∙ ap (λ p. accounts_reply (world_at T) f p raw) has_f
-            ∙ ap (by_accounts (world_at T) f options) reads
+            ap (λ st. stage_reply (world_at T) f st provider kinds.Accounts raw) at ∙ ap (λ p. accounts_reply (world_at T) f provider p raw) has_f
+            ∙ ap (by_accounts (world_at T) f provider options) reads
 
-        told_by : (accounts : List Account) → accounts_of raw options ≡ Ok accounts → list_any call_facts.is_ignored (by_accounts (world_at T) f options (Ok accounts)).effects ≡ false
+        told_by : (accounts : List Account) → accounts_of raw options ≡ Ok accounts → list_any call_facts.is_ignored (by_accounts (world_at T) f provider options (Ok accounts)).effects ≡ false
             → told (world_at T) f input (outcome_of T f input) ≡ with_accounts (world_at T) options accounts f
         told_by accounts reads taken =
             ap (told (world_at T) f input) (outcome_is accounts reads) ∙ ap (λ t. with_input (world_at T) t input f) taken
@@ -208,8 +208,8 @@ tracks_first T line event call provider b options raw id listed candidate o h be
                 let no : None ≡ Some candidate = ap (chosen id) listed_is ∙ named in absurd (cc)
             under (only ∷ []) reads listed_is =
                 let c = candidate_of (world_at T) f.origin options only in
-                let taken : list_any call_facts.is_ignored (by_accounts (world_at T) f options (Ok (only ∷ []))).effects ≡ false =
-                ap (λ t. t || false) (prompt_taken (world_at T) f options c c.connected (metadata_endpoint f.config)) in
+                let taken : list_any call_facts.is_ignored (by_accounts (world_at T) f provider options (Ok (only ∷ []))).effects ≡ false =
+                ap (λ t. t || false) (prompt_taken (world_at T) f provider options c c.connected (metadata_endpoint f.config)) in
                 let listed_f : listed_of (world_at T) f.origin options (only ∷ []) ≡ listed = ap (λ x. listed_of (world_at T) x options (only ∷ [])) origin_is ∙ listed_is in
                 record {
                   facts = record (with_candidate c f) { stage = Prompting };

@@ -1,8 +1,8 @@
 -- What a call offers since its accounts were accepted.
 use Rattle.fed_call.specs.Accounts.{needs_metadata}
 use Rattle.fed_call.specs.DialogRows.{choice}
-use Rattle.fed_call.specs.Facts.{Facts, metadata_endpoint, with_input, with_choice, at_stage, with_candidate, Outcome}
-use Rattle.fed_call.specs.Outcomes.{stays}
+use Rattle.fed_call.specs.Facts.{Facts, metadata_endpoint, with_input, with_choice, at_stage, with_candidate}
+use Rattle.fed_consent.specs.Outcomes.{Outcome, stays}
 use Rattle.fed_call.specs.Row.{call_row}
 use Rattle.fed_consent.specs.Consent.{Candidate, Listed, chosen}
 use Rattle.fed_consent.specs.declared.table.input.Input.{Input}
@@ -32,7 +32,6 @@ use Rattle.fed_consent.specs.declared.table.input.Input.TheVariants as inputs
 use Rattle.fed_origin.specs.declared.stage.ReplyKind.TheVariants as kinds
 use Rattle.fed_script.specs.declared.event.Event.TheVariants as events
 use Rattle.std.proofs.lemmas.List.Folds.{list_any-append}
-use Rattle.fed_laws.proofs.tokens.Answered.{only_there}
 use Rattle.fed_laws.proofs.causes.Cause.{chosen_id}
 use Rattle.fed_laws.proofs.causes.Caused.{chooses_no_account}
 use Rattle.fed_laws.proofs.turns.Config.{told}
@@ -43,8 +42,8 @@ use Rattle.fed_laws.proofs.turns.Open.{metadata_ready}
 use Rattle.fed_trace.proofs.happens.Says.{outcome_begins}
 use Rattle.fed_laws.proofs.pending.Stood.{Stood}
 use Rattle.fed_trace.proofs.happens.Taken.{Meets, facts_taken, outcome_of}
-use Rattle.fed_laws.proofs.tokens.Token.{first_place}
 use Rattle.fed_laws.proofs.turns.Way.{ChoosesNone, Elsewhere, OffersMany, OffersOne, Picks, Readies, TakesChoice, TakesMetadata, Unmoved, Way, is_open}
+use Rattle.fed_laws.proofs.turns.Only.{first_place, only_there}
 
 -- ---- how a call began does not change
 

@@ -5,7 +5,8 @@ use Rattle.std.specs.List.{filter_map, list_any}
 use Rattle.fed_origin.specs.declared.stage.Stage.TheVariants.{Choosing, Prompting, Asserting, Ended}
 use Rattle.fed_consent.specs.declared.table.input.Input.{Input}
 use Rattle.fed_consent.specs.Consent.{assertion_fields}
-use Rattle.fed_call.specs.Facts.{Facts, at_stage, with_input, facts_after, Outcome}
+use Rattle.fed_call.specs.Facts.{Facts, at_stage, with_input, facts_after}
+use Rattle.fed_consent.specs.Outcomes.{Outcome}
 use Rattle.fed_script.specs.declared.event.Event.{Event}
 use Rattle.fed_script.specs.declared.event.Header.{Header}
 use Rattle.fed_consent.specs.declared.table.ask.Ask.TheVariants as asks
@@ -28,6 +29,7 @@ use Rattle.fed_laws.proofs.pending.Begun.{when_started}
 use Rattle.fed_trace.proofs.happens.Taken.{Meets, outcome_of, does_at, facts_taken}
 use Rattle.fed_laws.proofs.pending.Taken.{input_keeps_pages, asks_at, gives_at, after_by, still_pending, StaysOrEnds, stays_asserting}
 use Rattle.fed_trace.proofs.happens.Over.{over_same, over_quiet}
+use Rattle.fed_laws.proofs.turns.Only.{first_place}
 
 -- what stands of a call that goes on after an input
 stood_after : (T : Trace) (line : ℕ) (event : Event) (call : ℕ) (f f' : Facts) → (m : Meets T event call f) → Stood T call f
@@ -67,10 +69,14 @@ when_asks T line event call f m h a =
     let s = h.stood f m.found in
     let ask = assertion_fields a.agreed a.config.assertion f.origin a.provider in
     let first = asks_first T call f m.takes.input (outcome_of T f m.takes.input) s a in
+    let place_is : a.place ≡ 0 =
+    first_place f.options.providers a.place a.provider (ap (λ o. length o.providers) s.of_options ∙ s.one) a.has_provider in
     let effects : effects_of T event ≡ Sent call 0 (asks.Assertion ask) (cookies_with T (asks.Assertion ask)) ∷ Move call Asserting ∷ [] =
-    does_at T event call f m ∙ ap (outcome_effects (world_at T) (cookies_with T) call f.page) a.is in
+    does_at T event call f m ∙ ap (outcome_effects (world_at T) (cookies_with T) call f.page) a.is
+    ∙ ap (λ p. Sent call p (asks.Assertion ask) (cookies_with T (asks.Assertion ask)) ∷ Move call Asserting ∷ []) place_is in
     let all : assertions call (with_event T line event).rows ≡ (0, ask) ∷ [] =
-    ap (λ xs. xs ++ filter_map (asked call) (effects_of T event)) first ∙ asks_at T event call f m ∙ ap (λ o. filter_map asks_token o.effects) a.is in
+    ap (λ xs. xs ++ filter_map (asked call) (effects_of T event)) first ∙ asks_at T event call f m ∙ ap (λ o. filter_map asks_token o.effects) a.is
+    ∙ ap (λ p. (p, ask) ∷ []) place_is in
     let asked_now : Asked (with_event T line event).rows call 0 =
     record {
       since = [];

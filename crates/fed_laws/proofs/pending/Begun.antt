@@ -6,7 +6,8 @@ use Rattle.std.specs.Option.{option_or}
 use Rattle.std.specs.List.{filter_map, list_any}
 use Rattle.fed_origin.specs.declared.stage.Stage.{Stage}
 use Rattle.fed_origin.specs.declared.stage.Stage.TheVariants.{Reading, Ended}
-use Rattle.fed_call.specs.Facts.{Facts, at_stage, Outcome}
+use Rattle.fed_call.specs.Facts.{Facts, at_stage}
+use Rattle.fed_consent.specs.Outcomes.{Outcome}
 use Rattle.fed_script.specs.declared.event.Event.{Event}
 use Rattle.fed_script.specs.declared.event.Event.TheVariants.{Get}
 use Rattle.fed_trace.specs.Begun.{Begun}
@@ -95,5 +96,5 @@ when_started T line event call new h s =
     let first = subst (IsNew T.rows) s.is_get new in
     let starts : Starts T event b.call = subst (Starts T event) (sym s.is_call) s in
     subst (Invariant (with_event T line event)) s.is_call
-    (when_begun T line event b (subst (Invariant T) (sym s.is_call) h) starts s.stands s.is_get first.1 (get_outcome (world_at T) s.busy b.options)
-    (first_turn (world_at T) s.busy b.options first.1) s.effects first.0)
+    (when_begun T line event b (subst (Invariant T) (sym s.is_call) h) starts s.stands s.is_get first.1 (get_outcome (world_at T) s.busy b.origin b.options)
+    (first_turn (world_at T) s.busy b.origin b.options first.1) s.effects first.0)

@@ -10,7 +10,8 @@ use Rattle.fed_status.specs.Shared.{World}
 use Rattle.fed_consent.specs.declared.table.input.Input.{Input}
 use Rattle.fed_call.specs.AssertingRows.{asserting_reply, assertion_reply}
 use Rattle.fed_call.specs.DialogRows.{chose, went_on, cancelled}
-use Rattle.fed_call.specs.Facts.{Facts, at_stage, provider_at, Outcome}
+use Rattle.fed_call.specs.Facts.{Facts, at_stage, provider_at}
+use Rattle.fed_consent.specs.Outcomes.{Outcome}
 use Rattle.fed_call.specs.Row.{input_row, stage_reply}
 use Rattle.fed_script.specs.declared.event.Event.{Event}
 use Rattle.fed_origin.specs.declared.stage.ReplyKind.TheVariants as kinds
@@ -79,21 +80,21 @@ still_pending call w now (Some Ended) going = let no : None ≡ Some (record w {
 abbrev pub StaysOrEnds : Outcome → Type 0
 StaysOrEnds o = (o.stage ≡ None) ⊎ (o.stage ≡ Some Ended)
 
-assertion_stays : (f : Facts) (provider : Option ProviderOptions) (raw : List ℕ) → StaysOrEnds (assertion_reply f provider raw)
-assertion_stays f None raw = inl refl
-assertion_stays f (Some provider) raw = inr refl
+assertion_stays : (f : Facts) (place : ℕ) (provider : Option ProviderOptions) (raw : List ℕ) → StaysOrEnds (assertion_reply f place provider raw)
+assertion_stays f place None raw = inl refl
+assertion_stays f place (Some provider) raw = inr refl
 
-asserting_stays : (f : Facts) (provider : Option ProviderOptions) (kind : ReplyKind) (raw : List ℕ) → StaysOrEnds (asserting_reply f provider kind raw)
-asserting_stays f provider kinds.Assertion raw = assertion_stays f provider raw
-asserting_stays f provider kinds.WellKnown raw = inl refl
-asserting_stays f provider kinds.Config raw = inl refl
-asserting_stays f provider kinds.Accounts raw = inl refl
-asserting_stays f provider kinds.Metadata raw = inl refl
-asserting_stays f provider kinds.Disconnect raw = inl refl
+asserting_stays : (f : Facts) (place : ℕ) (provider : Option ProviderOptions) (kind : ReplyKind) (raw : List ℕ) → StaysOrEnds (asserting_reply f place provider kind raw)
+asserting_stays f place provider kinds.Assertion raw = assertion_stays f place provider raw
+asserting_stays f place provider kinds.WellKnown raw = inl refl
+asserting_stays f place provider kinds.Config raw = inl refl
+asserting_stays f place provider kinds.Accounts raw = inl refl
+asserting_stays f place provider kinds.Metadata raw = inl refl
+asserting_stays f place provider kinds.Disconnect raw = inl refl
 
 pub stays_asserting : (world : World) (f : Facts) (input : Input) → f.stage ≡ Asserting → StaysOrEnds (input_row world f input)
 stays_asserting world f (inputs.Reply place kind raw) at =
-    subst (λ st. StaysOrEnds (stage_reply world f st place kind raw)) (sym at) (asserting_stays f (provider_at place f.options) kind raw)
+    subst (λ st. StaysOrEnds (stage_reply world f st place kind raw)) (sym at) (asserting_stays f place (provider_at place f.options) kind raw)
 stays_asserting world f (inputs.Choose place id) at = subst (λ st. StaysOrEnds (chose world f st place id)) (sym at) (inl refl)
 stays_asserting world f inputs.GoOn at = subst (λ st. StaysOrEnds (went_on f st)) (sym at) (inl refl)
 stays_asserting world f inputs.Cancel at = subst (λ st. StaysOrEnds (cancelled st)) (sym at) (inl refl)

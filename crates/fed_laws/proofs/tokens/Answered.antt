@@ -2,8 +2,8 @@
 use Rattle.fed_call.specs.AssertingRows.{asserting_reply, assertion_reply, token_given}
 use Rattle.fed_call.specs.DialogRows.{chose, went_on, cancelled}
 use Rattle.fed_call.specs.Facts as call_facts
-use Rattle.fed_call.specs.Facts.{Facts, at_stage, provider_at, with_input, Outcome}
-use Rattle.fed_call.specs.Outcomes.{finishes}
+use Rattle.fed_call.specs.Facts.{Facts, at_stage, provider_at, with_input}
+use Rattle.fed_consent.specs.Outcomes.{Outcome, finishes}
 use Rattle.fed_call.specs.Row.{call_row, input_row, stage_reply}
 use Rattle.fed_consent.specs.Consent.{AssertionFields, assertion_fields}
 use Rattle.fed_consent.specs.declared.table.ask.Ask.TheVariants as asks
@@ -49,6 +49,7 @@ use Rattle.std.proofs.lemmas.Bool.Decides.{nat_tests}
 use Rattle.std.specs.List.{filter_map, cons_option, list_any}
 use Rattle.std.specs.Map.{lookup}
 use Rattle.std.specs.Prelude.{filter, slice_get, unwrap_or, is_some}
+use Rattle.fed_laws.proofs.turns.Only.{first_place, only_there}
 
 -- ---- a call that ends with its page is of that page
 
@@ -98,21 +99,21 @@ record Awaits (T : Trace) (call page : ℕ) (origin : Origin) : Type 0 where
 abbrev StaysOrGives : Outcome → Type 0
 StaysOrGives o = (o.stage ≡ None) ⊎ ((finish : Finish) × (filter_map finish_of o.effects ≡ finish ∷ []))
 
-assertion_gives : (f : Facts) (provider : Option ProviderOptions) (raw : List ℕ) → StaysOrGives (assertion_reply f provider raw)
-assertion_gives f None raw = inl refl
-assertion_gives f (Some provider) raw = inr (token_given f.auto (AssertionOf raw (origin_text f.origin)), refl)
+assertion_gives : (f : Facts) (place : ℕ) (provider : Option ProviderOptions) (raw : List ℕ) → StaysOrGives (assertion_reply f place provider raw)
+assertion_gives f place None raw = inl refl
+assertion_gives f place (Some provider) raw = inr (token_given f.auto place (AssertionOf raw (origin_text f.origin)), refl)
 
-asserting_gives : (f : Facts) (provider : Option ProviderOptions) (kind : ReplyKind) (raw : List ℕ) → StaysOrGives (asserting_reply f provider kind raw)
-asserting_gives f provider kinds.Assertion raw = assertion_gives f provider raw
-asserting_gives f provider kinds.WellKnown raw = inl refl
-asserting_gives f provider kinds.Config raw = inl refl
-asserting_gives f provider kinds.Accounts raw = inl refl
-asserting_gives f provider kinds.Metadata raw = inl refl
-asserting_gives f provider kinds.Disconnect raw = inl refl
+asserting_gives : (f : Facts) (place : ℕ) (provider : Option ProviderOptions) (kind : ReplyKind) (raw : List ℕ) → StaysOrGives (asserting_reply f place provider kind raw)
+asserting_gives f place provider kinds.Assertion raw = assertion_gives f place provider raw
+asserting_gives f place provider kinds.WellKnown raw = inl refl
+asserting_gives f place provider kinds.Config raw = inl refl
+asserting_gives f place provider kinds.Accounts raw = inl refl
+asserting_gives f place provider kinds.Metadata raw = inl refl
+asserting_gives f place provider kinds.Disconnect raw = inl refl
 
 stays_or_gives : (world : World) (f : Facts) (input : Input) → f.stage ≡ Asserting → StaysOrGives (input_row world f input)
 stays_or_gives world f (inputs.Reply place kind raw) at =
-    subst (λ st. StaysOrGives (stage_reply world f st place kind raw)) (sym at) (asserting_gives f (provider_at place f.options) kind raw)
+    subst (λ st. StaysOrGives (stage_reply world f st place kind raw)) (sym at) (asserting_gives f place (provider_at place f.options) kind raw)
 stays_or_gives world f (inputs.Choose place id) at = subst (λ st. StaysOrGives (chose world f st place id)) (sym at) (inl refl)
 stays_or_gives world f inputs.GoOn at = subst (λ st. StaysOrGives (went_on f st)) (sym at) (inl refl)
 stays_or_gives world f inputs.Cancel at = subst (λ st. StaysOrGives (cancelled st)) (sym at) (inl refl)
@@ -225,9 +226,12 @@ awaits_first T line event call provider ask cookies b new h began has = go (happ
         let same : Some s.begun ≡ Some b = sym s.began ∙ began in
         let begun_is : s.begun ≡ b = cc in
         let made = assertion_fields a.agreed a.config.assertion f.origin a.provider in
-        let both : ◌≡◌ {A = ℕ × AssertionFields} (provider, ask) (0, made) =
-        says_one (asked call) (effects_of T event) sent (provider, ask) (0, made) has is (asks_at T event call f m ∙ ap (λ o. filter_map asks_token o.effects) a.is) in (
-          ap (λ x. x.0) both,
+        let place_is : a.place ≡ 0 =
+        first_place f.options.providers a.place a.provider (ap (λ o. length o.providers) s.of_options ∙ s.one) a.has_provider in
+        let both : ◌≡◌ {A = ℕ × AssertionFields} (provider, ask) (a.place, made) =
+        says_one (asked call) (effects_of T event) sent (provider, ask) (a.place, made) has is
+        (asks_at T event call f m ∙ ap (λ o. filter_map asks_token o.effects) a.is) in (
+          ap (λ x. x.0) both ∙ place_is,
           awaits_by T line event call b.page b.origin f m (ap (λ o. unwrap_or o.stage f.stage) a.is) (s.of_page ∙ ap (λ x. x.page) begun_is) (s.of_origin ∙ ap (λ x. x.origin) begun_is),
         )
 
@@ -237,11 +241,11 @@ awaits_first T line event call provider ask cookies b new h began has = go (happ
 
     begins_with : (s : Starts T event call) → (provider ≡ 0) × Awaits (with_event T line event) call b.page b.origin
     begins_with s =
-        let o = get_outcome (world_at T) s.busy s.begun.options in
+        let o = get_outcome (world_at T) s.busy s.begun.origin s.begun.options in
         never (ap (filter_map (asked call)) s.effects
         ∙ ap (λ c. filter_map (asked c) (outcome_effects (world_at T) (cookies_with T) s.begun.call s.begun.page o)) (sym s.is_call)
         ∙ outcome_asks (world_at T) (cookies_with T) s.begun.call s.begun.page o
-        ∙ first_asks_none o (first_turn (world_at T) s.busy s.begun.options (subst (IsNew T.rows) s.is_get new).1))
+        ∙ first_asks_none o (first_turn (world_at T) s.busy s.begun.origin s.begun.options (subst (IsNew T.rows) s.is_get new).1))
 
     go : Happens T event call → (provider ≡ 0) × Awaits (with_event T line event) call b.page b.origin
     go (Left l) = never l.quiet.asks
@@ -274,15 +278,11 @@ awaits_since header (row ∷ since) before asking call provider ask cookies b ru
 
 -- ---- the reply
 
-pub only_there : (providers : List ProviderOptions) → length providers ≡ 1 → (p : ProviderOptions) × (slice_get providers 0 ≡ Some p)
-only_there [] one = absurd (omega (arith, one))
-only_there (p ∷ more) one = (p, refl)
-
 -- what a call does that awaits the token of this reply
 answer_row : (world : World) (f : Facts) (raw token : List ℕ) (p : ProviderOptions) → f.stage ≡ Asserting → provider_at 0 f.options ≡ Some p
     → AssertionOf raw (origin_text f.origin) ≡ Ok token → input_row world f (inputs.Reply 0 kinds.Assertion raw) ≡ finishes (Token f.auto 0 token)
 answer_row world f raw token p at has reads =
-    ap (λ st. stage_reply world f st 0 kinds.Assertion raw) at ∙ ap (λ o. assertion_reply f o raw) has ∙ ap (λ r. finishes (token_given f.auto r)) reads
+    ap (λ st. stage_reply world f st 0 kinds.Assertion raw) at ∙ ap (λ o. assertion_reply f 0 o raw) has ∙ ap (λ r. finishes (token_given f.auto 0 r)) reads
 
 answered : (T : Trace) (event : Event) (call provider page : ℕ) (origin : Origin) (raw token : List ℕ) → Invariant T call → Awaits T call page origin → provider ≡ 0
     → event ≡ Reply call provider kinds.Assertion raw → AssertionOf raw (origin_text origin) ≡ Ok token

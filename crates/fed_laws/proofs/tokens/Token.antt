@@ -20,7 +20,7 @@ use Rattle.fed_trace.specs.Effect.{Effect, Result}
 use Rattle.fed_trace.specs.Known.{world_at, facts_at}
 use Rattle.fed_laws.specs.Laws.{OfRuns, ReachesItsPage, at}
 use Rattle.fed_trace.specs.Row.{effects_of, cookies_with, outcome_effects, get_outcome, page_of, IsNew, IsRun}
-use Rattle.fed_trace.specs.Trace.{Row, Trace}
+use Rattle.fed_trace.specs.Trace.{Row, Trace, page_at}
 use Rattle.fed_laws.proofs.pending.Asked.{invariant}
 use Rattle.fed_trace.proofs.happens.First.{FirstTurn, FailsFirst, ReadsFirst, first_turn}
 use Rattle.fed_laws.proofs.pending.Stood.{Stood, Invariant}
@@ -30,6 +30,7 @@ use Rattle.fed_trace.proofs.happens.Ends.{Happens, Left, Ends, Started, Took, St
 use Rattle.fed_trace.proofs.happens.Happens.{happens}
 use Rattle.fed_trace.proofs.happens.Says.{own, outcome_gives, finish_of}
 use Rattle.fed_laws.proofs.turns.Turn.{Turn, Asks, Gives, Goes, IfToken, InReply, turn_at}
+use Rattle.fed_laws.proofs.turns.Only.{first_place}
 
 -- ---- a row of what happened, and what happened before it
 
@@ -69,14 +70,6 @@ pub says_one : {A : Type 0} (said : Effect → Option A) (effects : List Effect)
 says_one said effects e x y has is one =
     only_among x y (filter_map said has.before) (filter_map said has.after) (sym (said_among said effects e x has is) ∙ one)
 
--- ---- the only provider
-
-pub first_place : (providers : List ProviderOptions) (place : ℕ) (provider : ProviderOptions) → length providers ≡ 1 → slice_get providers place ≡ Some provider → place ≡ 0
-first_place [] place provider one h = absurd (omega (arith, one))
-first_place (p ∷ q ∷ more) place provider one h = absurd (omega (arith, one))
-first_place (p ∷ []) zero provider one h = refl
-first_place (p ∷ []) (suc place) provider one h = let no : None ≡ Some provider = h in absurd (cc)
-
 -- ---- the token
 
 -- the event of a call that is answered
@@ -91,9 +84,10 @@ delivers T event call page provider token f m s is r =
       begun = s.begun;
       undisturbed = s.undisturbed;
       is_page = is ∙ s.of_page;
-      asked = subst (Asked T.rows call) (sym r.is_first) (s.asked_for r.asserting);
+      stands = ap (page_at T) is ∙ s.page ∙ ap Some s.of_origin;
+      asked = subst (Asked T.rows call) (sym (r.is_from ∙ place_is)) (s.asked_for r.asserting);
       raw = r.raw;
-      is_reply = reply ∙ ap (λ place. events.Reply call place kinds.Assertion r.raw) (place_is ∙ sym r.is_first);
+      is_reply = reply ∙ ap (λ place. events.Reply call place kinds.Assertion r.raw) (sym r.is_from);
       reads = ap (λ o. AssertionOf r.raw (origin_text o)) (sym s.of_origin) ∙ r.reads;
     }
 
@@ -127,16 +121,16 @@ delivered T event call page provider auto token new h has = go (happens T event 
         never (ap (filter_map (given call)) (t.effects ∙ ap (λ o. outcome_effects (world_at T) (cookies_with T) call (page_of o) (call_row (world_at T) o t.input)) found))
     taken t (Some f) found = turned f (record { takes = t; found = found }) (turn_at (world_at T) f t.input)
 
-    begins_with : (s : Starts T event call) → FirstTurn (get_outcome (world_at T) s.busy s.begun.options) → Delivers T event call page provider token
+    begins_with : (s : Starts T event call) → FirstTurn (get_outcome (world_at T) s.busy s.begun.origin s.begun.options) → Delivers T event call page provider token
     begins_with s turn = under turn
       where
-        gives : filter_map (given call) (effects_of T event) ≡ map (λ x. (s.begun.page, x)) (filter_map finish_of (get_outcome (world_at T) s.busy s.begun.options).effects)
+        gives : filter_map (given call) (effects_of T event) ≡ map (λ x. (s.begun.page, x)) (filter_map finish_of (get_outcome (world_at T) s.busy s.begun.origin s.begun.options).effects)
         gives =
             ap (filter_map (given call)) s.effects
-            ∙ ap (λ c. filter_map (given c) (outcome_effects (world_at T) (cookies_with T) s.begun.call s.begun.page (get_outcome (world_at T) s.busy s.begun.options))) (sym s.is_call)
-            ∙ outcome_gives (world_at T) (cookies_with T) s.begun.call s.begun.page (get_outcome (world_at T) s.busy s.begun.options)
+            ∙ ap (λ c. filter_map (given c) (outcome_effects (world_at T) (cookies_with T) s.begun.call s.begun.page (get_outcome (world_at T) s.busy s.begun.origin s.begun.options))) (sym s.is_call)
+            ∙ outcome_gives (world_at T) (cookies_with T) s.begun.call s.begun.page (get_outcome (world_at T) s.busy s.begun.origin s.begun.options)
 
-        under : FirstTurn (get_outcome (world_at T) s.busy s.begun.options) → Delivers T event call page provider token
+        under : FirstTurn (get_outcome (world_at T) s.busy s.begun.origin s.begun.options) → Delivers T event call page provider token
         under (ReadsFirst reading asks none) = never (gives ∙ ap (map (λ x. (s.begun.page, x))) none)
         under (FailsFirst failure ended asks fails) =
             let both = same s.begun.page (Failed failure) (gives ∙ ap (map (λ x. (s.begun.page, x))) fails) in
@@ -146,7 +140,7 @@ delivered T event call page provider auto token new h has = go (happens T event 
     go : Happens T event call → Delivers T event call page provider token
     go (Left l) = never l.quiet.gives
     go (Ends e) = never e.gives
-    go (Started s) = begins_with s (first_turn (world_at T) s.busy s.begun.options (subst (IsNew T.rows) s.is_get new).1)
+    go (Started s) = begins_with s (first_turn (world_at T) s.busy s.begun.origin s.begun.options (subst (IsNew T.rows) s.is_get new).1)
     go (Took t) = taken t (facts_at T call) refl
 
 pub token_lem : OfRuns ReachesItsPage

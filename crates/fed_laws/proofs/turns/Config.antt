@@ -1,6 +1,6 @@
 -- The configuration of a call is that of the reply that it took, and past Reading it has one.
-use Rattle.std.proofs.Common.{◌≡◌, ℕ, Bool, true, false, ◌⊎◌, inl, inr, List, [], ◌∷◌, Option, Some, None, Result as Answer, Ok, Err, refl, sym, ap, subst, ◌∙◌}
-use Rattle.std.specs.Prelude.{option_and_then, unwrap_or, is_some}
+use Rattle.std.proofs.Common.{◌≡◌, ℕ, Bool, true, false, ◌⊎◌, inl, inr, List, [], ◌∷◌, length, Option, Some, None, Result as Answer, Ok, Err, refl, sym, ap, subst, ◌∙◌}
+use Rattle.std.specs.Prelude.{option_and_then, unwrap_or, is_some, ⊤}
 use Rattle.std.specs.Option.{option_or}
 use Rattle.std.specs.List.{list_any}
 use Rattle.std.specs.Result.{result_ok}
@@ -19,11 +19,13 @@ use Rattle.fed_consent.specs.declared.table.input.Input.TheVariants as inputs
 use Rattle.fed_consent.specs.Consent.{Candidate, chosen}
 use Rattle.fed_call.specs.Accounts.{accounts_of}
 use Rattle.fed_call.specs.DialogRows.{chose, went_on, cancelled}
-use Rattle.fed_call.specs.Facts.{Facts, is_ignored, provider_at, with_accounts, with_choice, with_input, with_list, with_listing, config_read, Outcome}
-use Rattle.fed_call.specs.ReadingRows.{wellknown_of}
+use Rattle.fed_call.specs.Facts.{Facts, is_ignored, provider_at, with_accounts, with_choice, with_input, with_list, with_listing}
+use Rattle.fed_provider.specs.FirstReplies.{config_read, wellknown_of}
+use Rattle.fed_consent.specs.Outcomes.{Outcome}
 use Rattle.fed_call.specs.ReadingRows.{config_reply, wellknown_reply}
 use Rattle.fed_call.specs.Row.{input_row, stage_reply}
 use Rattle.fed_laws.specs.Cause.{config_given, config_in}
+use Rattle.fed_laws.proofs.turns.Only.{first_place}
 
 -- ---- what an input says of the configuration
 
@@ -44,8 +46,13 @@ choice_config : (candidate : Option Candidate) (f : Facts) → (with_choice cand
 choice_config None f = refl
 choice_config (Some candidate) f = refl
 
+-- the input is a reply with a configuration
+abbrev brings_config : Input → Bool
+brings_config (inputs.Reply place kinds.Config raw) = true
+brings_config _ = false
+
 -- an input that brings no configuration leaves it
-config_kept : (world : World) (ignored : Bool) (input : Input) (f : Facts) → config_given ignored (Some input) ≡ None → (with_input world ignored input f).config ≡ f.config
+config_kept : (world : World) (ignored : Bool) (input : Input) (f : Facts) → brings_config input ≡ false → (with_input world ignored input f).config ≡ f.config
 config_kept world true input f none = refl
 config_kept world false (inputs.Reply place kinds.WellKnown raw) f none = refl
 config_kept world false (inputs.Reply place kinds.Config raw) f none = absurd (cc)
@@ -61,23 +68,104 @@ config_kept world false inputs.Shut f none = refl
 config_kept world false inputs.Resume f none = refl
 config_kept world false inputs.Abort f none = refl
 
--- the configuration after an input is that of the reply that was taken last
-pub config_told : (world : World) (ignored : Bool) (input : Input) (f : Facts) (taken : Option (ℕ × List ℕ)) → f.config ≡ option_and_then (config_in f.options) taken
-    → (with_input world ignored input f).config ≡ option_and_then (config_in f.options) (option_or (config_given ignored (Some input)) taken)
-config_told world true input f taken is = is
-config_told world false (inputs.Reply place kinds.Config raw) f taken is = refl
-config_told world false (inputs.Reply place kinds.WellKnown raw) f taken is = is
-config_told world false (inputs.Reply place kinds.Accounts raw) f taken is = listing_config world raw (provider_at place f.options) f ∙ is
-config_told world false (inputs.Reply place kinds.Metadata raw) f taken is = is
-config_told world false (inputs.Reply place kinds.Assertion raw) f taken is = is
-config_told world false (inputs.Reply place kinds.Disconnect raw) f taken is = is
-config_told world false (inputs.Choose place account) f taken is = choice_config (option_and_then (chosen account) f.listed) f ∙ is
-config_told world false inputs.GoOn f taken is = is
-config_told world false inputs.Cancel f taken is = is
-config_told world false inputs.SignIn f taken is = is
-config_told world false inputs.Shut f taken is = is
-config_told world false inputs.Resume f taken is = is
-config_told world false inputs.Abort f taken is = is
+-- a configuration that is taken is of a provider of the call
+abbrev HasItsProvider : Bool → Input → Facts → Type 0
+HasItsProvider false (inputs.Reply place kinds.Config raw) f = (provider : ProviderOptions) × (provider_at place f.options ≡ Some provider)
+HasItsProvider _ _ f = ⊤
+
+no_provider : {A : Type 0} (place : ℕ) (heard : Bool) (config : Option Configuration)
+    → list_any is_ignored (config_reply place heard config None).effects ≡ false → A
+no_provider place heard (Some config) taken = absurd (cc)
+no_provider place heard None taken = absurd (cc)
+
+has_by : (f : Facts) (place : ℕ) (raw : List ℕ) (heard : Bool) (config : Option Configuration) (provider : Option ProviderOptions)
+    → provider_at place f.options ≡ provider → list_any is_ignored (config_reply place heard config (config_read raw provider)).effects ≡ false
+    → HasItsProvider false (inputs.Reply place kinds.Config raw) f
+has_by f place raw heard config None is taken = no_provider place heard config taken
+has_by f place raw heard config (Some provider) is taken = (provider, is)
+
+has_at : (world : World) (f : Facts) (stage : Stage) (place : ℕ) (raw : List ℕ)
+    → list_any is_ignored (stage_reply world f stage place kinds.Config raw).effects ≡ false → HasItsProvider false (inputs.Reply place kinds.Config raw) f
+has_at world f Reading place raw taken = has_by f place raw f.heard f.config (provider_at place f.options) refl taken
+has_at world f Listing place raw taken = absurd (cc)
+has_at world f Mismatch place raw taken = absurd (cc)
+has_at world f Choosing place raw taken = absurd (cc)
+has_at world f Prompting place raw taken = absurd (cc)
+has_at world f Asserting place raw taken = absurd (cc)
+has_at world f Ended place raw taken = absurd (cc)
+
+pub has_its_provider : (world : World) (f : Facts) (input : Input) → HasItsProvider (list_any is_ignored (input_row world f input).effects) input f
+has_its_provider world f (inputs.Reply place kinds.Config raw) = go (list_any is_ignored (stage_reply world f f.stage place kinds.Config raw).effects) refl
+  where
+    go : (b : Bool) → list_any is_ignored (stage_reply world f f.stage place kinds.Config raw).effects ≡ b → HasItsProvider b (inputs.Reply place kinds.Config raw) f
+    go true is = tt
+    go false is = has_at world f f.stage place raw is
+has_its_provider world f (inputs.Reply place kinds.WellKnown raw) = none (list_any is_ignored (stage_reply world f f.stage place kinds.WellKnown raw).effects)
+  where
+    none : (b : Bool) → HasItsProvider b (inputs.Reply place kinds.WellKnown raw) f
+    none true = tt
+    none false = tt
+has_its_provider world f (inputs.Reply place kinds.Accounts raw) = none (list_any is_ignored (stage_reply world f f.stage place kinds.Accounts raw).effects)
+  where
+    none : (b : Bool) → HasItsProvider b (inputs.Reply place kinds.Accounts raw) f
+    none true = tt
+    none false = tt
+has_its_provider world f (inputs.Reply place kinds.Metadata raw) = none (list_any is_ignored (stage_reply world f f.stage place kinds.Metadata raw).effects)
+  where
+    none : (b : Bool) → HasItsProvider b (inputs.Reply place kinds.Metadata raw) f
+    none true = tt
+    none false = tt
+has_its_provider world f (inputs.Reply place kinds.Assertion raw) = none (list_any is_ignored (stage_reply world f f.stage place kinds.Assertion raw).effects)
+  where
+    none : (b : Bool) → HasItsProvider b (inputs.Reply place kinds.Assertion raw) f
+    none true = tt
+    none false = tt
+has_its_provider world f (inputs.Reply place kinds.Disconnect raw) = none (list_any is_ignored (stage_reply world f f.stage place kinds.Disconnect raw).effects)
+  where
+    none : (b : Bool) → HasItsProvider b (inputs.Reply place kinds.Disconnect raw) f
+    none true = tt
+    none false = tt
+has_its_provider world f (inputs.Choose place id) = none (list_any is_ignored (input_row world f (inputs.Choose place id)).effects)
+  where
+    none : (b : Bool) → HasItsProvider b (inputs.Choose place id) f
+    none true = tt
+    none false = tt
+has_its_provider world f inputs.GoOn = none (list_any is_ignored (input_row world f inputs.GoOn).effects)
+  where
+    none : (b : Bool) → HasItsProvider b inputs.GoOn f
+    none true = tt
+    none false = tt
+has_its_provider world f inputs.Cancel = none (list_any is_ignored (input_row world f inputs.Cancel).effects)
+  where
+    none : (b : Bool) → HasItsProvider b inputs.Cancel f
+    none true = tt
+    none false = tt
+has_its_provider world f inputs.Abort = tt
+has_its_provider world f inputs.SignIn = tt
+has_its_provider world f inputs.Shut = tt
+has_its_provider world f inputs.Resume = tt
+
+-- the configuration after an input of a call with one provider is that of the reply that was taken last
+pub config_told : (world : World) (ignored : Bool) (input : Input) (f : Facts) (taken : Option (List ℕ)) → length f.options.providers ≡ 1
+    → HasItsProvider ignored input f → f.config ≡ option_and_then (config_in f.options 0) taken
+    → (with_input world ignored input f).config ≡ option_and_then (config_in f.options 0) (option_or (config_given 0 ignored (Some input)) taken)
+config_told world true input f taken one has is = is
+config_told world false (inputs.Reply place kinds.Config raw) f taken one has is =
+    subst (λ n. option_and_then result_ok (config_read raw (provider_at n f.options))
+    ≡ option_and_then (config_in f.options 0) (option_or (config_given 0 false (Some (inputs.Reply n kinds.Config raw))) taken))
+    (sym (first_place f.options.providers place has.0 one has.1)) refl
+config_told world false (inputs.Reply place kinds.WellKnown raw) f taken one has is = is
+config_told world false (inputs.Reply place kinds.Accounts raw) f taken one has is = listing_config world raw (provider_at place f.options) f ∙ is
+config_told world false (inputs.Reply place kinds.Metadata raw) f taken one has is = is
+config_told world false (inputs.Reply place kinds.Assertion raw) f taken one has is = is
+config_told world false (inputs.Reply place kinds.Disconnect raw) f taken one has is = is
+config_told world false (inputs.Choose place account) f taken one has is = choice_config (option_and_then (chosen account) f.listed) f ∙ is
+config_told world false inputs.GoOn f taken one has is = is
+config_told world false inputs.Cancel f taken one has is = is
+config_told world false inputs.SignIn f taken one has is = is
+config_told world false inputs.Shut f taken one has is = is
+config_told world false inputs.Resume f taken one has is = is
+config_told world false inputs.Abort f taken one has is = is
 
 -- ---- past Reading there is a configuration
 
@@ -94,7 +182,7 @@ abbrev Keeps : World → Facts → Input → Outcome → Type 0
 Keeps world f input o = Configured (unwrap_or o.stage f.stage) (told world f input o).config
 
 wellknown_keeps : (world : World) (f : Facts) (place : ℕ) (raw : List ℕ) (heard : Bool) (config : Option Configuration) (read : Option (Answer (Unit {0}) ProviderStep))
-    → f.stage ≡ Reading → f.config ≡ config → Keeps world f (inputs.Reply place kinds.WellKnown raw) (wellknown_reply heard config read)
+    → f.stage ≡ Reading → f.config ≡ config → Keeps world f (inputs.Reply place kinds.WellKnown raw) (wellknown_reply place heard config read)
 wellknown_keeps world f place raw true config read at is = AtReading at
 wellknown_keeps world f place raw false config None at is = AtReading at
 wellknown_keeps world f place raw false None (Some (Err step)) at is = AtEnd refl
@@ -103,7 +191,7 @@ wellknown_keeps world f place raw false None (Some (Ok u)) at is = AtReading at
 wellknown_keeps world f place raw false (Some config) (Some (Ok u)) at is = HasOne (ap is_some is)
 
 config_keeps : (world : World) (f : Facts) (place : ℕ) (raw : List ℕ) (heard : Bool) (config : Option Configuration) (read : Option (Answer Configuration ProviderStep))
-    → f.stage ≡ Reading → config_read raw (provider_at place f.options) ≡ read → Keeps world f (inputs.Reply place kinds.Config raw) (config_reply heard config read)
+    → f.stage ≡ Reading → config_read raw (provider_at place f.options) ≡ read → Keeps world f (inputs.Reply place kinds.Config raw) (config_reply place heard config read)
 config_keeps world f place raw heard (Some config) read at is = AtReading at
 config_keeps world f place raw heard None None at is = AtReading at
 config_keeps world f place raw false None (Some (Err step)) at is = AtEnd refl
@@ -135,31 +223,11 @@ later_config world f Ended place raw later = refl
 later_keeps : (world : World) (f : Facts) (stage : Stage) (place : ℕ) (kind : ReplyKind) (raw : List ℕ) → (stage ≡ Reading → ⊥) → is_some f.config ≡ true
     → Keeps world f (inputs.Reply place kind raw) (stage_reply world f stage place kind raw)
 later_keeps world f stage place kinds.Config raw later some = HasOne (ap is_some (later_config world f stage place raw later) ∙ some)
-later_keeps world f stage place kinds.WellKnown raw later some = HasOne (ap is_some (config_kept world _ _ f (unsaid _)) ∙ some)
-  where
-    unsaid : (b : Bool) → config_given b (Some (inputs.Reply place kinds.WellKnown raw)) ≡ None
-    unsaid true = refl
-    unsaid false = refl
-later_keeps world f stage place kinds.Accounts raw later some = HasOne (ap is_some (config_kept world _ _ f (unsaid _)) ∙ some)
-  where
-    unsaid : (b : Bool) → config_given b (Some (inputs.Reply place kinds.Accounts raw)) ≡ None
-    unsaid true = refl
-    unsaid false = refl
-later_keeps world f stage place kinds.Metadata raw later some = HasOne (ap is_some (config_kept world _ _ f (unsaid _)) ∙ some)
-  where
-    unsaid : (b : Bool) → config_given b (Some (inputs.Reply place kinds.Metadata raw)) ≡ None
-    unsaid true = refl
-    unsaid false = refl
-later_keeps world f stage place kinds.Assertion raw later some = HasOne (ap is_some (config_kept world _ _ f (unsaid _)) ∙ some)
-  where
-    unsaid : (b : Bool) → config_given b (Some (inputs.Reply place kinds.Assertion raw)) ≡ None
-    unsaid true = refl
-    unsaid false = refl
-later_keeps world f stage place kinds.Disconnect raw later some = HasOne (ap is_some (config_kept world _ _ f (unsaid _)) ∙ some)
-  where
-    unsaid : (b : Bool) → config_given b (Some (inputs.Reply place kinds.Disconnect raw)) ≡ None
-    unsaid true = refl
-    unsaid false = refl
+later_keeps world f stage place kinds.WellKnown raw later some = HasOne (ap is_some (config_kept world _ _ f refl) ∙ some)
+later_keeps world f stage place kinds.Accounts raw later some = HasOne (ap is_some (config_kept world _ _ f refl) ∙ some)
+later_keeps world f stage place kinds.Metadata raw later some = HasOne (ap is_some (config_kept world _ _ f refl) ∙ some)
+later_keeps world f stage place kinds.Assertion raw later some = HasOne (ap is_some (config_kept world _ _ f refl) ∙ some)
+later_keeps world f stage place kinds.Disconnect raw later some = HasOne (ap is_some (config_kept world _ _ f refl) ∙ some)
 
 is_reading : (stage : Stage) → (stage ≡ Reading) ⊎ (stage ≡ Reading → ⊥)
 is_reading Reading = inl refl
@@ -184,28 +252,16 @@ reply_keeps world f place kind raw h = go (is_reading f.stage) h
     go (inr later) (inr some) = later_keeps world f f.stage place kind raw later some
 
 -- another input brings no configuration
-other_keeps : (world : World) (f : Facts) (input : Input) (o : Stage → Outcome) → ((b : Bool) → config_given b (Some input) ≡ None) → (o Reading).stage ≡ None
+other_keeps : (world : World) (f : Facts) (input : Input) (o : Stage → Outcome) → brings_config input ≡ false → (o Reading).stage ≡ None
     → (f.stage ≡ Reading) ⊎ (is_some f.config ≡ true) → Keeps world f input (o f.stage)
-other_keeps world f input o unsaid still (inl at) = AtReading (ap (λ st. unwrap_or (o st).stage f.stage) at ∙ ap (λ s. unwrap_or s f.stage) still ∙ at)
-other_keeps world f input o unsaid still (inr some) = HasOne (ap is_some (config_kept world _ input f (unsaid _)) ∙ some)
+other_keeps world f input o none still (inl at) = AtReading (ap (λ st. unwrap_or (o st).stage f.stage) at ∙ ap (λ s. unwrap_or s f.stage) still ∙ at)
+other_keeps world f input o none still (inr some) = HasOne (ap is_some (config_kept world _ input f none) ∙ some)
 
 pub keeps_config : (world : World) (f : Facts) (input : Input) → (f.stage ≡ Reading) ⊎ (is_some f.config ≡ true) → Keeps world f input (input_row world f input)
 keeps_config world f (inputs.Reply place kind raw) h = reply_keeps world f place kind raw h
-keeps_config world f (inputs.Choose place id) h = other_keeps world f (inputs.Choose place id) (λ st. chose world f st place id) unsaid refl h
-  where
-    unsaid : (b : Bool) → config_given b (Some (inputs.Choose place id)) ≡ None
-    unsaid true = refl
-    unsaid false = refl
-keeps_config world f inputs.GoOn h = other_keeps world f inputs.GoOn (λ st. went_on f st) unsaid refl h
-  where
-    unsaid : (b : Bool) → config_given b (Some inputs.GoOn) ≡ None
-    unsaid true = refl
-    unsaid false = refl
-keeps_config world f inputs.Cancel h = other_keeps world f inputs.Cancel (λ st. cancelled st) unsaid refl h
-  where
-    unsaid : (b : Bool) → config_given b (Some inputs.Cancel) ≡ None
-    unsaid true = refl
-    unsaid false = refl
+keeps_config world f (inputs.Choose place id) h = other_keeps world f (inputs.Choose place id) (λ st. chose world f st place id) refl refl h
+keeps_config world f inputs.GoOn h = other_keeps world f inputs.GoOn (λ st. went_on f st) refl refl h
+keeps_config world f inputs.Cancel h = other_keeps world f inputs.Cancel (λ st. cancelled st) refl refl h
 keeps_config world f inputs.Abort h = AtEnd refl
 keeps_config world f inputs.SignIn (inl at) = AtReading at
 keeps_config world f inputs.SignIn (inr some) = HasOne some

@@ -20,7 +20,7 @@ use Rattle.fed_token.specs.Read.{AssertionOf}
 use Rattle.fed_status.specs.Login.{status_of}
 use Rattle.fed_status.specs.Shared.{World}
 use Rattle.fed_consent.specs.declared.table.effect.Effect.{Effect as CallEffect}
-use Rattle.fed_consent.specs.declared.table.finish.Failure.{Failure}
+use Rattle.fed_consent.specs.declared.table.failure.Failure.{Failure}
 use Rattle.fed_consent.specs.declared.table.finish.Finish.{Finish}
 use Rattle.fed_consent.specs.declared.table.finish.Finish.TheVariants.{Token, Disconnected, Failed, ProviderError}
 use Rattle.fed_consent.specs.declared.table.input.Input.{Input}
@@ -32,9 +32,10 @@ use Rattle.fed_consent.specs.Consent.{Agreement, Candidate, Listed, assertion_fi
 use Rattle.fed_call.specs.Accounts.{accounts_of, candidate_of, listed_of}
 use Rattle.fed_call.specs.AssertingRows.{asserts, token_given, assertion_reply, asserting_reply}
 use Rattle.fed_call.specs.DialogRows.{agreed_to, chose, choice, settles, goes_on, went_on, cancelled, prompting_reply, metadata_reply, links_shown}
-use Rattle.fed_call.specs.Facts.{Facts, provider_at, metadata_endpoint, config_read, Outcome}
-use Rattle.fed_call.specs.ReadingRows.{wellknown_of}
-use Rattle.fed_call.specs.Outcomes.{finishes, fails, ignored, stays, moves, after, plain, provider_failure, accounts_failure}
+use Rattle.fed_call.specs.Facts.{Facts, provider_at, metadata_endpoint}
+use Rattle.fed_provider.specs.FirstReplies.{config_read, wellknown_of}
+use Rattle.fed_consent.specs.Outcomes.{Outcome, finishes, fails, ignored, stays, moves, after, only_place}
+use Rattle.fed_consent.specs.Failures.{plain, provider_failure, accounts_failure}
 use Rattle.fed_call.specs.ListingRows.{listing_reply, by_accounts, offers, prompt_effect, prompt_dialog, choice_dialog, by_mismatch, is_mismatch, site_of}
 use Rattle.fed_call.specs.ReadingRows.{reading_reply, wellknown_reply, config_reply, asks_accounts}
 use Rattle.fed_call.specs.Row.{stage_reply, input_row}
@@ -42,7 +43,7 @@ use Rattle.fed_origin.specs.declared.stage.ReplyKind.TheVariants as kinds
 use Rattle.fed_token.specs.declared.step.TokenStep.TheVariants as token_steps
 use Rattle.fed_consent.specs.declared.table.ask.Ask.TheVariants as asks
 use Rattle.fed_consent.specs.declared.table.effect.Effect.TheVariants as does
-use Rattle.fed_consent.specs.declared.table.finish.FailStep.TheVariants as steps
+use Rattle.fed_consent.specs.declared.table.failure.FailStep.TheVariants as steps
 use Rattle.fed_consent.specs.declared.table.input.Input.TheVariants as inputs
 use Rattle.fed_trace.proofs.happens.Says.{asks_token, finish_of}
 
@@ -55,7 +56,7 @@ disclosed _ candidate = false
 pub data Word (f : Facts) (input : Input) (candidate : Candidate) (provider : ProviderOptions) : Type 0 where
   Chose : (place : ℕ) (id : List ℕ) (listed : Listed) → f.stage ≡ Choosing → input ≡ inputs.Choose place id → provider_at place f.options ≡ Some provider
       → f.listed ≡ Some listed → chosen id listed ≡ Some candidate → candidate.connected ≡ true → Word f input candidate provider
-  WentOn : f.stage ≡ Prompting → input ≡ inputs.GoOn → provider_at 0 f.options ≡ Some provider → f.waits ≡ false → f.picked ≡ Some candidate
+  WentOn : f.stage ≡ Prompting → input ≡ inputs.GoOn → provider_at only_place f.options ≡ Some provider → f.waits ≡ false → f.picked ≡ Some candidate
       → Word f input candidate provider
 
 pub record AsksToken (f : Facts) (input : Input) (o : Outcome) : Type 0 where
@@ -68,13 +69,15 @@ pub record AsksToken (f : Facts) (input : Input) (o : Outcome) : Type 0 where
   pub account : agreed.account ≡ candidate.account.id
   pub by_user : is_auto agreed.manner ≡ false
   pub disclosure : agreed.disclosure ≡ disclosed input candidate
-  pub is : o ≡ moves Asserting (does.Send 0 (asks.Assertion (assertion_fields agreed config.assertion f.origin provider)))
+  pub place : ℕ
+  pub has_provider : provider_at place f.options ≡ Some provider
+  pub is : o ≡ moves Asserting (does.Send place (asks.Assertion (assertion_fields agreed config.assertion f.origin provider)))
 
 -- the reply that a token is in
 pub record InReply (f : Facts) (input : Input) (from : ℕ) (token : List ℕ) : Type 0 where
   pub asserting : f.stage ≡ Asserting
-  pub is_first : from ≡ 0
   pub place : ℕ
+  pub is_from : from ≡ place
   pub raw : List ℕ
   pub is_reply : input ≡ inputs.Reply place kinds.Assertion raw
   pub provider : ProviderOptions
@@ -137,125 +140,125 @@ not_prompting h = cc
 
 -- ---- in Reading
 
-turn_asks_accounts : (f : Facts) (input : Input) (config : Configuration) → Turn f input (asks_accounts config)
-turn_asks_accounts f input config = turn_moves f input Listing (does.Send 0 (asks.Accounts config.accounts)) refl refl not_listing
+turn_asks_accounts : (f : Facts) (input : Input) (place : ℕ) (config : Configuration) → Turn f input (asks_accounts place config)
+turn_asks_accounts f input place config = turn_moves f input Listing (does.Send place (asks.Accounts config.accounts)) refl refl not_listing
 
-turn_wellknown : (f : Facts) (input : Input) (heard : Bool) (config : Option Configuration) (read : Option (Answer (Unit {0}) ProviderStep))
-    → Turn f input (wellknown_reply heard config read)
-turn_wellknown f input true config read = turn_ignored f input NotWaited
-turn_wellknown f input false config None = turn_ignored f input NotWaited
-turn_wellknown f input false None (Some (Err step)) = turn_fails f input (provider_failure step)
-turn_wellknown f input false (Some config) (Some (Err step)) = turn_fails f input (provider_failure step)
-turn_wellknown f input false None (Some (Ok u)) = turn_stays f input
-turn_wellknown f input false (Some config) (Some (Ok u)) = turn_asks_accounts f input config
+turn_wellknown : (f : Facts) (input : Input) (place : ℕ) (heard : Bool) (config : Option Configuration) (read : Option (Answer (Unit {0}) ProviderStep))
+    → Turn f input (wellknown_reply place heard config read)
+turn_wellknown f input place true config read = turn_ignored f input NotWaited
+turn_wellknown f input place false config None = turn_ignored f input NotWaited
+turn_wellknown f input place false None (Some (Err step)) = turn_fails f input (provider_failure step)
+turn_wellknown f input place false (Some config) (Some (Err step)) = turn_fails f input (provider_failure step)
+turn_wellknown f input place false None (Some (Ok u)) = turn_stays f input
+turn_wellknown f input place false (Some config) (Some (Ok u)) = turn_asks_accounts f input place config
 
-turn_config : (f : Facts) (input : Input) (heard : Bool) (config : Option Configuration) (read : Option (Answer Configuration ProviderStep))
-    → Turn f input (config_reply heard config read)
-turn_config f input heard (Some config) read = turn_ignored f input NotWaited
-turn_config f input heard None None = turn_ignored f input NotWaited
-turn_config f input false None (Some (Err step)) = turn_fails f input (provider_failure step)
-turn_config f input true None (Some (Err step)) = turn_fails f input (provider_failure step)
-turn_config f input false None (Some (Ok config)) = turn_stays f input
-turn_config f input true None (Some (Ok config)) = turn_asks_accounts f input config
+turn_config : (f : Facts) (input : Input) (place : ℕ) (heard : Bool) (config : Option Configuration) (read : Option (Answer Configuration ProviderStep))
+    → Turn f input (config_reply place heard config read)
+turn_config f input place heard (Some config) read = turn_ignored f input NotWaited
+turn_config f input place heard None None = turn_ignored f input NotWaited
+turn_config f input place false None (Some (Err step)) = turn_fails f input (provider_failure step)
+turn_config f input place true None (Some (Err step)) = turn_fails f input (provider_failure step)
+turn_config f input place false None (Some (Ok config)) = turn_stays f input
+turn_config f input place true None (Some (Ok config)) = turn_asks_accounts f input place config
 
-turn_reading : (world : World) (f : Facts) (input : Input) (provider : Option ProviderOptions) (kind : ReplyKind) (raw : List ℕ)
-    → Turn f input (reading_reply world.rules f.heard f.config provider kind raw)
-turn_reading world f input provider kinds.WellKnown raw = turn_wellknown f input f.heard f.config (wellknown_of world.rules raw provider)
-turn_reading world f input provider kinds.Config raw = turn_config f input f.heard f.config (config_read raw provider)
-turn_reading world f input provider kinds.Accounts raw = turn_ignored f input NotWaited
-turn_reading world f input provider kinds.Metadata raw = turn_ignored f input NotWaited
-turn_reading world f input provider kinds.Assertion raw = turn_ignored f input NotWaited
-turn_reading world f input provider kinds.Disconnect raw = turn_ignored f input NotWaited
+turn_reading : (world : World) (f : Facts) (input : Input) (place : ℕ) (provider : Option ProviderOptions) (kind : ReplyKind) (raw : List ℕ)
+    → Turn f input (reading_reply world.rules f.heard f.config place provider kind raw)
+turn_reading world f input place provider kinds.WellKnown raw = turn_wellknown f input place f.heard f.config (wellknown_of world.rules raw provider)
+turn_reading world f input place provider kinds.Config raw = turn_config f input place f.heard f.config (config_read raw provider)
+turn_reading world f input place provider kinds.Accounts raw = turn_ignored f input NotWaited
+turn_reading world f input place provider kinds.Metadata raw = turn_ignored f input NotWaited
+turn_reading world f input place provider kinds.Assertion raw = turn_ignored f input NotWaited
+turn_reading world f input place provider kinds.Disconnect raw = turn_ignored f input NotWaited
 
 -- ---- in Listing
 
-turn_refused : (f : Facts) (input : Input) (first : CallEffect) (site : List ℕ) (failure : Failure) (mismatch : Bool) → asks_token first ≡ None → finish_of first ≡ None
-    → Turn f input (after first (by_mismatch site failure mismatch))
-turn_refused f input first site failure true a g = turn_moves_after f input first _ Mismatch a g refl refl not_mismatch
-turn_refused f input first site failure false a g = turn_after f input first failure a g
+turn_refused : (f : Facts) (input : Input) (first : CallEffect) (place : ℕ) (site : List ℕ) (failure : Failure) (mismatch : Bool) → asks_token first ≡ None → finish_of first ≡ None
+    → Turn f input (after first (by_mismatch place site failure mismatch))
+turn_refused f input first place site failure true a g = turn_moves_after f input first _ Mismatch a g refl refl not_mismatch
+turn_refused f input first place site failure false a g = turn_after f input first failure a g
 
 -- what comes first of a prompt asks for no token, and gives nothing
-pub prompt_asks_none : (world : World) (f : Facts) (provider : ProviderOptions) (candidate : Candidate) (connected : Bool) (endpoint : Option Parts)
-    → asks_token (prompt_effect world f provider candidate connected endpoint) ≡ None
-prompt_asks_none world f provider candidate true endpoint = refl
-prompt_asks_none world f provider candidate false None = refl
-prompt_asks_none world f provider candidate false (Some to) = refl
+pub prompt_asks_none : (world : World) (f : Facts) (place : ℕ) (provider : ProviderOptions) (candidate : Candidate) (connected : Bool) (endpoint : Option Parts)
+    → asks_token (prompt_effect world f place provider candidate connected endpoint) ≡ None
+prompt_asks_none world f place provider candidate true endpoint = refl
+prompt_asks_none world f place provider candidate false None = refl
+prompt_asks_none world f place provider candidate false (Some to) = refl
 
-pub prompt_gives_none : (world : World) (f : Facts) (provider : ProviderOptions) (candidate : Candidate) (connected : Bool) (endpoint : Option Parts)
-    → finish_of (prompt_effect world f provider candidate connected endpoint) ≡ None
-prompt_gives_none world f provider candidate true endpoint = refl
-prompt_gives_none world f provider candidate false None = refl
-prompt_gives_none world f provider candidate false (Some to) = refl
+pub prompt_gives_none : (world : World) (f : Facts) (place : ℕ) (provider : ProviderOptions) (candidate : Candidate) (connected : Bool) (endpoint : Option Parts)
+    → finish_of (prompt_effect world f place provider candidate connected endpoint) ≡ None
+prompt_gives_none world f place provider candidate true endpoint = refl
+prompt_gives_none world f place provider candidate false None = refl
+prompt_gives_none world f place provider candidate false (Some to) = refl
 
-turn_offers : (world : World) (f : Facts) (input : Input) (provider : ProviderOptions) (first : CallEffect) (accounts : List Account) → asks_token first ≡ None → finish_of first ≡ None
-    → Turn f input (after first (offers world f provider accounts))
-turn_offers world f input provider first [] a g = turn_stays_after f input first a g
-turn_offers world f input provider first (only ∷ []) a g =
+turn_offers : (world : World) (f : Facts) (input : Input) (place : ℕ) (provider : ProviderOptions) (first : CallEffect) (accounts : List Account) → asks_token first ≡ None → finish_of first ≡ None
+    → Turn f input (after first (offers world f place provider accounts))
+turn_offers world f input place provider first [] a g = turn_stays_after f input first a g
+turn_offers world f input place provider first (only ∷ []) a g =
     let candidate = candidate_of world f.origin provider only in
-    turn_moves_after f input first (prompt_effect world f provider candidate candidate.connected (metadata_endpoint f.config)) Prompting a g
-    (prompt_asks_none world f provider candidate candidate.connected (metadata_endpoint f.config))
-    (prompt_gives_none world f provider candidate candidate.connected (metadata_endpoint f.config)) not_prompting
-turn_offers world f input provider first (one ∷ two ∷ more) a g =
-    turn_moves_after f input first (choice_dialog world f (listed_of world f.origin provider (one ∷ two ∷ more))) Choosing a g refl refl not_choosing
+    turn_moves_after f input first (prompt_effect world f place provider candidate candidate.connected (metadata_endpoint f.config)) Prompting a g
+    (prompt_asks_none world f place provider candidate candidate.connected (metadata_endpoint f.config))
+    (prompt_gives_none world f place provider candidate candidate.connected (metadata_endpoint f.config)) not_prompting
+turn_offers world f input place provider first (one ∷ two ∷ more) a g =
+    turn_moves_after f input first (choice_dialog world f place (listed_of world f.origin provider (one ∷ two ∷ more))) Choosing a g refl refl not_choosing
 
-turn_accounts : (world : World) (f : Facts) (input : Input) (provider : ProviderOptions) (read : Answer (List Account) AccountsStep)
-    → Turn f input (by_accounts world f provider read)
-turn_accounts world f input provider (Err step) =
-    turn_refused f input _ (site_of world f.origin) (accounts_failure step)
+turn_accounts : (world : World) (f : Facts) (input : Input) (place : ℕ) (provider : ProviderOptions) (read : Answer (List Account) AccountsStep)
+    → Turn f input (by_accounts world f place provider read)
+turn_accounts world f input place provider (Err step) =
+    turn_refused f input _ place (site_of world f.origin) (accounts_failure step)
     (is_mismatch f.options.mode f.options.mediation (status_of world.login (origin_of provider.config))) refl refl
-turn_accounts world f input provider (Ok accounts) = turn_offers world f input provider _ accounts refl refl
+turn_accounts world f input place provider (Ok accounts) = turn_offers world f input place provider _ accounts refl refl
 
-turn_listing : (world : World) (f : Facts) (input : Input) (provider : Option ProviderOptions) (kind : ReplyKind) (raw : List ℕ)
-    → Turn f input (listing_reply world f provider kind raw)
-turn_listing world f input None kinds.Accounts raw = turn_ignored f input NotWaited
-turn_listing world f input (Some provider) kinds.Accounts raw = turn_accounts world f input provider (accounts_of raw provider)
-turn_listing world f input provider kinds.WellKnown raw = turn_ignored f input NotWaited
-turn_listing world f input provider kinds.Config raw = turn_ignored f input NotWaited
-turn_listing world f input provider kinds.Metadata raw = turn_ignored f input NotWaited
-turn_listing world f input provider kinds.Assertion raw = turn_ignored f input NotWaited
-turn_listing world f input provider kinds.Disconnect raw = turn_ignored f input NotWaited
+turn_listing : (world : World) (f : Facts) (input : Input) (place : ℕ) (provider : Option ProviderOptions) (kind : ReplyKind) (raw : List ℕ)
+    → Turn f input (listing_reply world f place provider kind raw)
+turn_listing world f input place None kinds.Accounts raw = turn_ignored f input NotWaited
+turn_listing world f input place (Some provider) kinds.Accounts raw = turn_accounts world f input place provider (accounts_of raw provider)
+turn_listing world f input place provider kinds.WellKnown raw = turn_ignored f input NotWaited
+turn_listing world f input place provider kinds.Config raw = turn_ignored f input NotWaited
+turn_listing world f input place provider kinds.Metadata raw = turn_ignored f input NotWaited
+turn_listing world f input place provider kinds.Assertion raw = turn_ignored f input NotWaited
+turn_listing world f input place provider kinds.Disconnect raw = turn_ignored f input NotWaited
 
 -- ---- in Prompting
 
-turn_links : (world : World) (f : Facts) (input : Input) (picked : Option Candidate) (links : PolicyLinks) → Turn f input (links_shown world f picked links)
-turn_links world f input None links = turn_stays f input
-turn_links world f input (Some candidate) links = turn_moves f input Prompting (prompt_dialog world f candidate links) refl refl not_prompting
+turn_links : (world : World) (f : Facts) (input : Input) (place : ℕ) (picked : Option Candidate) (links : PolicyLinks) → Turn f input (links_shown world f place picked links)
+turn_links world f input place None links = turn_stays f input
+turn_links world f input place (Some candidate) links = Goes refl refl (λ h. h)
 
-turn_metadata : (world : World) (f : Facts) (input : Input) (waits : Bool) (provider : Option ProviderOptions) (raw : List ℕ)
-    → Turn f input (metadata_reply world f waits provider raw)
-turn_metadata world f input false provider raw = turn_ignored f input NotWaited
-turn_metadata world f input true None raw = turn_ignored f input NotWaited
-turn_metadata world f input true (Some provider) raw = turn_links world f input f.picked (MetadataOf raw)
+turn_metadata : (world : World) (f : Facts) (input : Input) (waits : Bool) (place : ℕ) (provider : Option ProviderOptions) (raw : List ℕ)
+    → Turn f input (metadata_reply world f waits place provider raw)
+turn_metadata world f input false place provider raw = turn_ignored f input NotWaited
+turn_metadata world f input true place None raw = turn_ignored f input NotWaited
+turn_metadata world f input true place (Some provider) raw = turn_links world f input place f.picked (MetadataOf raw)
 
-turn_prompting : (world : World) (f : Facts) (input : Input) (provider : Option ProviderOptions) (kind : ReplyKind) (raw : List ℕ)
-    → Turn f input (prompting_reply world f provider kind raw)
-turn_prompting world f input provider kinds.Metadata raw = turn_metadata world f input f.waits provider raw
-turn_prompting world f input provider kinds.WellKnown raw = turn_ignored f input NotWaited
-turn_prompting world f input provider kinds.Config raw = turn_ignored f input NotWaited
-turn_prompting world f input provider kinds.Accounts raw = turn_ignored f input NotWaited
-turn_prompting world f input provider kinds.Assertion raw = turn_ignored f input NotWaited
-turn_prompting world f input provider kinds.Disconnect raw = turn_ignored f input NotWaited
+turn_prompting : (world : World) (f : Facts) (input : Input) (place : ℕ) (provider : Option ProviderOptions) (kind : ReplyKind) (raw : List ℕ)
+    → Turn f input (prompting_reply world f place provider kind raw)
+turn_prompting world f input place provider kinds.Metadata raw = turn_metadata world f input f.waits place provider raw
+turn_prompting world f input place provider kinds.WellKnown raw = turn_ignored f input NotWaited
+turn_prompting world f input place provider kinds.Config raw = turn_ignored f input NotWaited
+turn_prompting world f input place provider kinds.Accounts raw = turn_ignored f input NotWaited
+turn_prompting world f input place provider kinds.Assertion raw = turn_ignored f input NotWaited
+turn_prompting world f input place provider kinds.Disconnect raw = turn_ignored f input NotWaited
 
 -- ---- in Asserting
 
 turn_token : (f : Facts) (place : ℕ) (raw : List ℕ) (provider : ProviderOptions) → f.stage ≡ Asserting → provider_at place f.options ≡ Some provider
     → (read : Answer (List ℕ) TokenStep) → AssertionOf raw (origin_text f.origin) ≡ read
-    → Turn f (inputs.Reply place kinds.Assertion raw) (finishes (token_given f.auto read))
+    → Turn f (inputs.Reply place kinds.Assertion raw) (finishes (token_given f.auto place read))
 turn_token f place raw provider at has (Ok token) reads =
-    Gives (Token f.auto 0 token) refl refl refl
-    (record { asserting = at; is_first = refl; place = place; raw = raw; is_reply = refl; provider = provider; has_provider = has; reads = reads })
+    Gives (Token f.auto place token) refl refl refl
+    (record { asserting = at; place = place; is_from = refl; raw = raw; is_reply = refl; provider = provider; has_provider = has; reads = reads })
 turn_token f place raw provider at has (Err (token_steps.Reply s)) reads = Gives _ refl refl refl tt
 turn_token f place raw provider at has (Err token_steps.Cors) reads = Gives _ refl refl refl tt
 turn_token f place raw provider at has (Err token_steps.Shape) reads = Gives _ refl refl refl tt
 turn_token f place raw provider at has (Err (token_steps.ProviderError code url)) reads = Gives _ refl refl refl tt
 
 turn_assertion : (f : Facts) (place : ℕ) (raw : List ℕ) → f.stage ≡ Asserting → (provider : Option ProviderOptions) → provider_at place f.options ≡ provider
-    → Turn f (inputs.Reply place kinds.Assertion raw) (assertion_reply f provider raw)
+    → Turn f (inputs.Reply place kinds.Assertion raw) (assertion_reply f place provider raw)
 turn_assertion f place raw at None has = turn_ignored f _ NotWaited
 turn_assertion f place raw at (Some provider) has = turn_token f place raw provider at has (AssertionOf raw (origin_text f.origin)) refl
 
 turn_asserting : (f : Facts) (place : ℕ) (kind : ReplyKind) (raw : List ℕ) → f.stage ≡ Asserting
-    → Turn f (inputs.Reply place kind raw) (asserting_reply f (provider_at place f.options) kind raw)
+    → Turn f (inputs.Reply place kind raw) (asserting_reply f place (provider_at place f.options) kind raw)
 turn_asserting f place kinds.Assertion raw at = turn_assertion f place raw at (provider_at place f.options) refl
 turn_asserting f place kinds.WellKnown raw at = turn_ignored f _ NotWaited
 turn_asserting f place kinds.Config raw at = turn_ignored f _ NotWaited
@@ -265,47 +268,50 @@ turn_asserting f place kinds.Disconnect raw at = turn_ignored f _ NotWaited
 
 turn_reply : (world : World) (f : Facts) (stage : Stage) → f.stage ≡ stage → (place : ℕ) (kind : ReplyKind) (raw : List ℕ)
     → Turn f (inputs.Reply place kind raw) (stage_reply world f stage place kind raw)
-turn_reply world f Reading at place kind raw = turn_reading world f _ (provider_at place f.options) kind raw
-turn_reply world f Listing at place kind raw = turn_listing world f _ (provider_at place f.options) kind raw
+turn_reply world f Reading at place kind raw = turn_reading world f _ place (provider_at place f.options) kind raw
+turn_reply world f Listing at place kind raw = turn_listing world f _ place (provider_at place f.options) kind raw
 turn_reply world f Mismatch at place kind raw = turn_ignored f _ NotWaited
 turn_reply world f Choosing at place kind raw = turn_ignored f _ NotWaited
-turn_reply world f Prompting at place kind raw = turn_prompting world f _ (provider_at place f.options) kind raw
+turn_reply world f Prompting at place kind raw = turn_prompting world f _ place (provider_at place f.options) kind raw
 turn_reply world f Asserting at place kind raw = turn_asserting f place kind raw at
 turn_reply world f Ended at place kind raw = turn_ignored f _ CallEnded
 
 -- ---- the user's words
 
 -- the token is asked for, where the call has its configuration
-turn_asserts : (f : Facts) (input : Input) (provider : ProviderOptions) (candidate : Candidate) (manner : Manner) (disclosure : Bool) → is_auto manner ≡ false → disclosure ≡ disclosed input candidate → Word f input candidate provider
-    → (config : Option Configuration) → f.config ≡ config → Turn f input (asserts f (Some provider) config (agreed_to f candidate manner disclosure))
-turn_asserts f input provider candidate manner disclosure user told word None configured = turn_stays f input
-turn_asserts f input provider candidate manner disclosure user told word (Some config) configured =
+turn_asserts : (f : Facts) (input : Input) (place : ℕ) (provider : ProviderOptions) (candidate : Candidate) (manner : Manner) (disclosure : Bool) → is_auto manner ≡ false → disclosure ≡ disclosed input candidate → Word f input candidate provider
+    → provider_at place f.options ≡ Some provider
+    → (config : Option Configuration) → f.config ≡ config → Turn f input (asserts f place (Some provider) config (agreed_to f place candidate manner disclosure))
+turn_asserts f input place provider candidate manner disclosure user told word has None configured = turn_stays f input
+turn_asserts f input place provider candidate manner disclosure user told word has (Some config) configured =
     Asks (record {
       candidate = candidate;
       provider = provider;
       word = word;
       config = config;
       configured = configured;
-      agreed = agreed_to f candidate manner disclosure;
+      agreed = agreed_to f place candidate manner disclosure;
       account = refl;
       by_user = user;
       disclosure = told;
+      place = place;
+      has_provider = has;
       is = refl;
     })
 
 turn_settles : (world : World) (f : Facts) (place : ℕ) (id : List ℕ) (listed : Listed) (provider : ProviderOptions) (candidate : Candidate) → f.stage ≡ Choosing
     → provider_at place f.options ≡ Some provider → f.listed ≡ Some listed → chosen id listed ≡ Some candidate → (connected : Bool) → candidate.connected ≡ connected
-    → Turn f (inputs.Choose place id) (settles world f provider candidate connected)
+    → Turn f (inputs.Choose place id) (settles world f place provider candidate connected)
 turn_settles world f place id listed provider candidate at has lists is true connected =
-    turn_asserts f _ provider candidate Chosen false refl refl (Chose place id listed at refl has lists is connected) f.config refl
+    turn_asserts f _ place provider candidate Chosen false refl refl (Chose place id listed at refl has lists is connected) has f.config refl
 turn_settles world f place id listed provider candidate at has lists is false connected =
-    turn_moves f _ Prompting (prompt_effect world f provider candidate candidate.connected (metadata_endpoint f.config))
-    (prompt_asks_none world f provider candidate candidate.connected (metadata_endpoint f.config))
-    (prompt_gives_none world f provider candidate candidate.connected (metadata_endpoint f.config)) not_prompting
+    turn_moves f _ Prompting (prompt_effect world f place provider candidate candidate.connected (metadata_endpoint f.config))
+    (prompt_asks_none world f place provider candidate candidate.connected (metadata_endpoint f.config))
+    (prompt_gives_none world f place provider candidate candidate.connected (metadata_endpoint f.config)) not_prompting
 
 turn_choice : (world : World) (f : Facts) (place : ℕ) (id : List ℕ) → f.stage ≡ Choosing → (provider : Option ProviderOptions) → provider_at place f.options ≡ provider
     → (listed : Option Listed) → f.listed ≡ listed → (candidate : Option Candidate) → option_and_then (chosen id) listed ≡ candidate
-    → Turn f (inputs.Choose place id) (choice world f provider candidate)
+    → Turn f (inputs.Choose place id) (choice world f place provider candidate)
 turn_choice world f place id at None has listed lists candidate is = turn_ignored f _ NoAccount
 turn_choice world f place id at (Some provider) has listed lists None is = turn_ignored f _ NoAccount
 turn_choice world f place id at (Some provider) has None lists (Some candidate) is = absurd (cc)
@@ -323,17 +329,17 @@ turn_chose world f Asserting at place id = turn_ignored f _ NotOffered
 turn_chose world f Ended at place id = turn_ignored f _ NotOffered
 
 turn_asserts_by : (f : Facts) (candidate : Candidate) → f.stage ≡ Prompting → f.waits ≡ false → f.picked ≡ Some candidate
-    → (provider : Option ProviderOptions) → provider_at 0 f.options ≡ provider
-    → Turn f inputs.GoOn (asserts f provider f.config (agreed_to f candidate Prompted (not candidate.connected)))
+    → (provider : Option ProviderOptions) → provider_at only_place f.options ≡ provider
+    → Turn f inputs.GoOn (asserts f only_place provider f.config (agreed_to f only_place candidate Prompted (not candidate.connected)))
 turn_asserts_by f candidate at ready picks None has = turn_stays f _
 turn_asserts_by f candidate at ready picks (Some provider) has =
-    turn_asserts f _ provider candidate Prompted (not candidate.connected) refl refl (WentOn at refl has ready picks) f.config refl
+    turn_asserts f _ only_place provider candidate Prompted (not candidate.connected) refl refl (WentOn at refl has ready picks) has f.config refl
 
 turn_goes_on : (f : Facts) → f.stage ≡ Prompting → (waits : Bool) → f.waits ≡ waits → (picked : Option Candidate) → f.picked ≡ picked
     → Turn f inputs.GoOn (goes_on f waits picked)
 turn_goes_on f at true ready picked picks = turn_ignored f _ NotOffered
 turn_goes_on f at false ready None picks = turn_stays f _
-turn_goes_on f at false ready (Some candidate) picks = turn_asserts_by f candidate at ready picks (provider_at 0 f.options) refl
+turn_goes_on f at false ready (Some candidate) picks = turn_asserts_by f candidate at ready picks (provider_at only_place f.options) refl
 
 turn_went_on : (f : Facts) (stage : Stage) → f.stage ≡ stage → Turn f inputs.GoOn (went_on f stage)
 turn_went_on f Prompting at = turn_goes_on f at f.waits refl f.picked refl

@@ -20,7 +20,7 @@ use Rattle.fed_status.specs.Login.{status_of}
 use Rattle.fed_status.specs.Shared.{World}
 use Rattle.fed_consent.specs.declared.table.effect.Effect.{Effect as CallEffect}
 use Rattle.fed_consent.specs.declared.table.effect.Effect.TheVariants as does
-use Rattle.fed_consent.specs.declared.table.finish.Failure.{Failure}
+use Rattle.fed_consent.specs.declared.table.failure.Failure.{Failure}
 use Rattle.fed_consent.specs.declared.table.input.Input.{Input}
 use Rattle.fed_consent.specs.declared.table.input.Input.TheVariants as inputs
 use Rattle.fed_consent.specs.declared.consent.manner.Manner.TheVariants.{Chosen, Prompted}
@@ -29,9 +29,10 @@ use Rattle.fed_consent.specs.Consent.{Agreement, Candidate, Listed, chosen}
 use Rattle.fed_call.specs.Accounts.{accounts_of, candidate_of, listed_of}
 use Rattle.fed_call.specs.AssertingRows.{asserts, asserting_reply, assertion_reply}
 use Rattle.fed_call.specs.DialogRows.{agreed_to, chose, choice, settles, goes_on, went_on, cancelled, prompting_reply, metadata_reply, links_shown}
-use Rattle.fed_call.specs.Facts.{Facts, is_ignored, metadata_endpoint, provider_at, with_input, config_read, Outcome}
-use Rattle.fed_call.specs.ReadingRows.{wellknown_of}
-use Rattle.fed_call.specs.Outcomes.{ignored, after, accounts_failure}
+use Rattle.fed_call.specs.Facts.{Facts, is_ignored, metadata_endpoint, provider_at, with_input}
+use Rattle.fed_provider.specs.FirstReplies.{config_read, wellknown_of}
+use Rattle.fed_consent.specs.Outcomes.{Outcome, ignored, after, only_place}
+use Rattle.fed_consent.specs.Failures.{accounts_failure}
 use Rattle.fed_call.specs.ListingRows.{listing_reply, accounts_reply, by_accounts, offers, prompt_effect, choice_dialog, by_mismatch, is_mismatch, site_of}
 use Rattle.fed_call.specs.ReadingRows.{reading_reply, wellknown_reply, config_reply}
 use Rattle.fed_call.specs.Row.{stage_reply, input_row}
@@ -107,52 +108,52 @@ reply_chooses_none f place kind raw other id is = absurd (cc)
 
 -- ---- in Reading
 
-way_wellknown : (f : Facts) (input : Input) (heard : Bool) (config : Option Configuration) (read : Option (Answer (Unit {0}) ProviderStep)) → is_open f.stage ≡ false
-    → Way f input (wellknown_reply heard config read)
-way_wellknown f input true config read at = Elsewhere at
-way_wellknown f input false config None at = Elsewhere at
-way_wellknown f input false None (Some (Err step)) at = Elsewhere refl
-way_wellknown f input false (Some config) (Some (Err step)) at = Elsewhere refl
-way_wellknown f input false None (Some (Ok u)) at = Elsewhere at
-way_wellknown f input false (Some config) (Some (Ok u)) at = Elsewhere refl
+way_wellknown : (f : Facts) (input : Input) (place : ℕ) (heard : Bool) (config : Option Configuration) (read : Option (Answer (Unit {0}) ProviderStep)) → is_open f.stage ≡ false
+    → Way f input (wellknown_reply place heard config read)
+way_wellknown f input place true config read at = Elsewhere at
+way_wellknown f input place false config None at = Elsewhere at
+way_wellknown f input place false None (Some (Err step)) at = Elsewhere refl
+way_wellknown f input place false (Some config) (Some (Err step)) at = Elsewhere refl
+way_wellknown f input place false None (Some (Ok u)) at = Elsewhere at
+way_wellknown f input place false (Some config) (Some (Ok u)) at = Elsewhere refl
 
-way_config : (f : Facts) (input : Input) (heard : Bool) (config : Option Configuration) (read : Option (Answer Configuration ProviderStep)) → is_open f.stage ≡ false
-    → Way f input (config_reply heard config read)
-way_config f input heard (Some config) read at = Elsewhere at
-way_config f input heard None None at = Elsewhere at
-way_config f input false None (Some (Err step)) at = Elsewhere refl
-way_config f input true None (Some (Err step)) at = Elsewhere refl
-way_config f input false None (Some (Ok config)) at = Elsewhere at
-way_config f input true None (Some (Ok config)) at = Elsewhere refl
+way_config : (f : Facts) (input : Input) (place : ℕ) (heard : Bool) (config : Option Configuration) (read : Option (Answer Configuration ProviderStep)) → is_open f.stage ≡ false
+    → Way f input (config_reply place heard config read)
+way_config f input place heard (Some config) read at = Elsewhere at
+way_config f input place heard None None at = Elsewhere at
+way_config f input place false None (Some (Err step)) at = Elsewhere refl
+way_config f input place true None (Some (Err step)) at = Elsewhere refl
+way_config f input place false None (Some (Ok config)) at = Elsewhere at
+way_config f input place true None (Some (Ok config)) at = Elsewhere refl
 
-way_reading : (world : World) (f : Facts) (input : Input) (provider : Option ProviderOptions) (kind : ReplyKind) (raw : List ℕ) → is_open f.stage ≡ false
-    → Way f input (reading_reply world.rules f.heard f.config provider kind raw)
-way_reading world f input provider kinds.WellKnown raw at = way_wellknown f input f.heard f.config (wellknown_of world.rules raw provider) at
-way_reading world f input provider kinds.Config raw at = way_config f input f.heard f.config (config_read raw provider) at
-way_reading world f input provider kinds.Accounts raw at = Elsewhere at
-way_reading world f input provider kinds.Metadata raw at = Elsewhere at
-way_reading world f input provider kinds.Assertion raw at = Elsewhere at
-way_reading world f input provider kinds.Disconnect raw at = Elsewhere at
+way_reading : (world : World) (f : Facts) (input : Input) (place : ℕ) (provider : Option ProviderOptions) (kind : ReplyKind) (raw : List ℕ) → is_open f.stage ≡ false
+    → Way f input (reading_reply world.rules f.heard f.config place provider kind raw)
+way_reading world f input place provider kinds.WellKnown raw at = way_wellknown f input place f.heard f.config (wellknown_of world.rules raw provider) at
+way_reading world f input place provider kinds.Config raw at = way_config f input place f.heard f.config (config_read raw provider) at
+way_reading world f input place provider kinds.Accounts raw at = Elsewhere at
+way_reading world f input place provider kinds.Metadata raw at = Elsewhere at
+way_reading world f input place provider kinds.Assertion raw at = Elsewhere at
+way_reading world f input place provider kinds.Disconnect raw at = Elsewhere at
 
 -- ---- in Listing
 
-way_refused : (f : Facts) (input : Input) (first : CallEffect) (site : List ℕ) (failure : Failure) (mismatch : Bool) → Way f input (after first (by_mismatch site failure mismatch))
-way_refused f input first site failure true = Elsewhere refl
-way_refused f input first site failure false = Elsewhere refl
+way_refused : (f : Facts) (input : Input) (first : CallEffect) (place : ℕ) (site : List ℕ) (failure : Failure) (mismatch : Bool) → Way f input (after first (by_mismatch place site failure mismatch))
+way_refused f input first place site failure true = Elsewhere refl
+way_refused f input first place site failure false = Elsewhere refl
 
-pub prompt_taken : (world : World) (f : Facts) (provider : ProviderOptions) (candidate : Candidate) (connected : Bool) (endpoint : Option Parts)
-    → is_ignored (prompt_effect world f provider candidate connected endpoint) ≡ false
-prompt_taken world f provider candidate true endpoint = refl
-prompt_taken world f provider candidate false None = refl
-prompt_taken world f provider candidate false (Some to) = refl
+pub prompt_taken : (world : World) (f : Facts) (place : ℕ) (provider : ProviderOptions) (candidate : Candidate) (connected : Bool) (endpoint : Option Parts)
+    → is_ignored (prompt_effect world f place provider candidate connected endpoint) ≡ false
+prompt_taken world f place provider candidate true endpoint = refl
+prompt_taken world f place provider candidate false None = refl
+prompt_taken world f place provider candidate false (Some to) = refl
 
 way_offers : (world : World) (f : Facts) (place : ℕ) (raw : List ℕ) (provider : ProviderOptions) (accounts : List Account) → f.stage ≡ Listing
     → provider_at place f.options ≡ Some provider → accounts_of raw provider ≡ Ok accounts
-    → Way f (inputs.Reply place kinds.Accounts raw) (after (does.SetLogin (origin_of provider.config) LoggedIn) (offers world f provider accounts))
+    → Way f (inputs.Reply place kinds.Accounts raw) (after (does.SetLogin (origin_of provider.config) LoggedIn) (offers world f place provider accounts))
 way_offers world f place raw provider [] at has reads = Elsewhere (ap is_open at)
 way_offers world f place raw provider (only ∷ []) at has reads =
     let candidate = candidate_of world f.origin provider only in
-    let effect = prompt_effect world f provider candidate candidate.connected (metadata_endpoint f.config) in
+    let effect = prompt_effect world f place provider candidate candidate.connected (metadata_endpoint f.config) in
     OffersOne only at refl
     (record {
       place = place;
@@ -161,7 +162,7 @@ way_offers world f place raw provider (only ∷ []) at has reads =
       provider = provider;
       has_provider = has;
       reads = reads;
-      taken = ap (λ b. b || false) (prompt_taken world f provider candidate candidate.connected (metadata_endpoint f.config));
+      taken = ap (λ b. b || false) (prompt_taken world f place provider candidate candidate.connected (metadata_endpoint f.config));
       effect = effect;
       effects = refl;
     })
@@ -175,25 +176,25 @@ way_offers world f place raw provider (one ∷ two ∷ more) at has reads =
       has_provider = has;
       reads = reads;
       taken = refl;
-      effect = choice_dialog world f (listed_of world f.origin provider (one ∷ two ∷ more));
+      effect = choice_dialog world f place (listed_of world f.origin provider (one ∷ two ∷ more));
       effects = refl;
     })
 
 way_accounts : (world : World) (f : Facts) (place : ℕ) (raw : List ℕ) (provider : ProviderOptions) (read : Answer (List Account) AccountsStep) → f.stage ≡ Listing
     → provider_at place f.options ≡ Some provider → accounts_of raw provider ≡ read
-    → Way f (inputs.Reply place kinds.Accounts raw) (by_accounts world f provider read)
+    → Way f (inputs.Reply place kinds.Accounts raw) (by_accounts world f place provider read)
 way_accounts world f place raw provider (Err step) at has reads =
-    way_refused f _ _ (site_of world f.origin) (accounts_failure step)
+    way_refused f _ _ place (site_of world f.origin) (accounts_failure step)
     (is_mismatch f.options.mode f.options.mediation (status_of world.login (origin_of provider.config)))
 way_accounts world f place raw provider (Ok accounts) at has reads = way_offers world f place raw provider accounts at has reads
 
 way_accounts_reply : (world : World) (f : Facts) (place : ℕ) (raw : List ℕ) (provider : Option ProviderOptions) → f.stage ≡ Listing
-    → provider_at place f.options ≡ provider → Way f (inputs.Reply place kinds.Accounts raw) (accounts_reply world f provider raw)
+    → provider_at place f.options ≡ provider → Way f (inputs.Reply place kinds.Accounts raw) (accounts_reply world f place provider raw)
 way_accounts_reply world f place raw None at has = Elsewhere (ap is_open at)
 way_accounts_reply world f place raw (Some provider) at has = way_accounts world f place raw provider (accounts_of raw provider) at has refl
 
 way_listing : (world : World) (f : Facts) (place : ℕ) (kind : ReplyKind) (raw : List ℕ) → f.stage ≡ Listing
-    → Way f (inputs.Reply place kind raw) (listing_reply world f (provider_at place f.options) kind raw)
+    → Way f (inputs.Reply place kind raw) (listing_reply world f place (provider_at place f.options) kind raw)
 way_listing world f place kinds.Accounts raw at = way_accounts_reply world f place raw (provider_at place f.options) at refl
 way_listing world f place kinds.WellKnown raw at = Elsewhere (ap is_open at)
 way_listing world f place kinds.Config raw at = Elsewhere (ap is_open at)
@@ -207,20 +208,20 @@ not_choosing : {A : Type 0} (f : Facts) → f.stage ≡ Prompting → f.stage �
 not_choosing f at other = let no : Prompting ≡ Choosing = sym at ∙ other in absurd (cc)
 
 way_links : (world : World) (f : Facts) (place : ℕ) (raw : List ℕ) (provider : ProviderOptions) (picked : Option Candidate) (links : PolicyLinks) → f.stage ≡ Prompting
-    → provider_at place f.options ≡ Some provider → Way f (inputs.Reply place kinds.Metadata raw) (links_shown world f picked links)
+    → provider_at place f.options ≡ Some provider → Way f (inputs.Reply place kinds.Metadata raw) (links_shown world f place picked links)
 way_links world f place raw provider None links at has =
     Readies at at (record { place = place; raw = raw; is_reply = refl; provider = provider; has_provider = has; taken = refl })
 way_links world f place raw provider (Some candidate) links at has =
-    Readies at refl (record { place = place; raw = raw; is_reply = refl; provider = provider; has_provider = has; taken = refl })
+    Readies at at (record { place = place; raw = raw; is_reply = refl; provider = provider; has_provider = has; taken = refl })
 
 way_metadata : (world : World) (f : Facts) (place : ℕ) (raw : List ℕ) (waits : Bool) (provider : Option ProviderOptions) → f.stage ≡ Prompting
-    → provider_at place f.options ≡ provider → Way f (inputs.Reply place kinds.Metadata raw) (metadata_reply world f waits provider raw)
+    → provider_at place f.options ≡ provider → Way f (inputs.Reply place kinds.Metadata raw) (metadata_reply world f waits place provider raw)
 way_metadata world f place raw false provider at has = open_ignored f _ _ (ap is_open at) (λ other. not_choosing f at other)
 way_metadata world f place raw true None at has = open_ignored f _ _ (ap is_open at) (λ other. not_choosing f at other)
 way_metadata world f place raw true (Some provider) at has = way_links world f place raw provider f.picked (MetadataOf raw) at has
 
 way_prompting : (world : World) (f : Facts) (place : ℕ) (kind : ReplyKind) (raw : List ℕ) → f.stage ≡ Prompting
-    → Way f (inputs.Reply place kind raw) (prompting_reply world f (provider_at place f.options) kind raw)
+    → Way f (inputs.Reply place kind raw) (prompting_reply world f place (provider_at place f.options) kind raw)
 way_prompting world f place kinds.Metadata raw at = way_metadata world f place raw f.waits (provider_at place f.options) at refl
 way_prompting world f place kinds.WellKnown raw at = open_ignored f _ _ (ap is_open at) (λ other. not_choosing f at other)
 way_prompting world f place kinds.Config raw at = open_ignored f _ _ (ap is_open at) (λ other. not_choosing f at other)
@@ -230,41 +231,41 @@ way_prompting world f place kinds.Disconnect raw at = open_ignored f _ _ (ap is_
 
 -- ---- in Asserting
 
-way_assertion : (f : Facts) (input : Input) (provider : Option ProviderOptions) (raw : List ℕ) → f.stage ≡ Asserting → Way f input (assertion_reply f provider raw)
-way_assertion f input None raw at = Elsewhere (ap is_open at)
-way_assertion f input (Some provider) raw at = Elsewhere refl
+way_assertion : (f : Facts) (input : Input) (place : ℕ) (provider : Option ProviderOptions) (raw : List ℕ) → f.stage ≡ Asserting → Way f input (assertion_reply f place provider raw)
+way_assertion f input place None raw at = Elsewhere (ap is_open at)
+way_assertion f input place (Some provider) raw at = Elsewhere refl
 
-way_asserting : (f : Facts) (input : Input) (provider : Option ProviderOptions) (kind : ReplyKind) (raw : List ℕ) → f.stage ≡ Asserting
-    → Way f input (asserting_reply f provider kind raw)
-way_asserting f input provider kinds.Assertion raw at = way_assertion f input provider raw at
-way_asserting f input provider kinds.WellKnown raw at = Elsewhere (ap is_open at)
-way_asserting f input provider kinds.Config raw at = Elsewhere (ap is_open at)
-way_asserting f input provider kinds.Accounts raw at = Elsewhere (ap is_open at)
-way_asserting f input provider kinds.Metadata raw at = Elsewhere (ap is_open at)
-way_asserting f input provider kinds.Disconnect raw at = Elsewhere (ap is_open at)
+way_asserting : (f : Facts) (input : Input) (place : ℕ) (provider : Option ProviderOptions) (kind : ReplyKind) (raw : List ℕ) → f.stage ≡ Asserting
+    → Way f input (asserting_reply f place provider kind raw)
+way_asserting f input place provider kinds.Assertion raw at = way_assertion f input place provider raw at
+way_asserting f input place provider kinds.WellKnown raw at = Elsewhere (ap is_open at)
+way_asserting f input place provider kinds.Config raw at = Elsewhere (ap is_open at)
+way_asserting f input place provider kinds.Accounts raw at = Elsewhere (ap is_open at)
+way_asserting f input place provider kinds.Metadata raw at = Elsewhere (ap is_open at)
+way_asserting f input place provider kinds.Disconnect raw at = Elsewhere (ap is_open at)
 
 way_reply : (world : World) (f : Facts) (stage : Stage) → f.stage ≡ stage → (place : ℕ) (kind : ReplyKind) (raw : List ℕ)
     → Way f (inputs.Reply place kind raw) (stage_reply world f stage place kind raw)
-way_reply world f Reading at place kind raw = way_reading world f _ (provider_at place f.options) kind raw (ap is_open at)
+way_reply world f Reading at place kind raw = way_reading world f _ place (provider_at place f.options) kind raw (ap is_open at)
 way_reply world f Listing at place kind raw = way_listing world f place kind raw at
 way_reply world f Mismatch at place kind raw = Elsewhere (ap is_open at)
 way_reply world f Choosing at place kind raw = open_ignored f _ _ (ap is_open at) (λ other. reply_chooses_none f place kind raw)
 way_reply world f Prompting at place kind raw = way_prompting world f place kind raw at
-way_reply world f Asserting at place kind raw = way_asserting f _ (provider_at place f.options) kind raw at
+way_reply world f Asserting at place kind raw = way_asserting f _ place (provider_at place f.options) kind raw at
 way_reply world f Ended at place kind raw = Elsewhere (ap is_open at)
 
 -- ---- the user's words
 
-way_asserts : (f : Facts) (input : Input) (provider : ProviderOptions) (config : Option Configuration) (agreed : Agreement) → is_some config ≡ true
-    → Way f input (asserts f (Some provider) config agreed)
-way_asserts f input provider None agreed some = absurd (cc)
-way_asserts f input provider (Some config) agreed some = Elsewhere refl
+way_asserts : (f : Facts) (input : Input) (place : ℕ) (provider : ProviderOptions) (config : Option Configuration) (agreed : Agreement) → is_some config ≡ true
+    → Way f input (asserts f place (Some provider) config agreed)
+way_asserts f input place provider None agreed some = absurd (cc)
+way_asserts f input place provider (Some config) agreed some = Elsewhere refl
 
 way_settles : (world : World) (f : Facts) (place : ℕ) (id : List ℕ) (listed : Listed) (provider : ProviderOptions) (candidate : Candidate) → f.stage ≡ Choosing
     → provider_at place f.options ≡ Some provider → f.listed ≡ Some listed → chosen id listed ≡ Some candidate → is_some f.config ≡ true
-    → (connected : Bool) → candidate.connected ≡ connected → Way f (inputs.Choose place id) (settles world f provider candidate connected)
+    → (connected : Bool) → candidate.connected ≡ connected → Way f (inputs.Choose place id) (settles world f place provider candidate connected)
 way_settles world f place id listed provider candidate at has lists is some true connected =
-    way_asserts f _ provider f.config (agreed_to f candidate Chosen false) some
+    way_asserts f _ place provider f.config (agreed_to f place candidate Chosen false) some
 way_settles world f place id listed provider candidate at has lists is some false connected =
     Picks at refl
     (record {
@@ -278,12 +279,12 @@ way_settles world f place id listed provider candidate at has lists is some fals
       candidate = candidate;
       is = is;
       unconnected = connected;
-      taken = ap (λ b. b || false) (prompt_taken world f provider candidate candidate.connected (metadata_endpoint f.config));
+      taken = ap (λ b. b || false) (prompt_taken world f place provider candidate candidate.connected (metadata_endpoint f.config));
     })
 
 way_choice : (world : World) (f : Facts) (place : ℕ) (id : List ℕ) → f.stage ≡ Choosing → is_some f.config ≡ true → (provider : Option ProviderOptions)
     → provider_at place f.options ≡ provider → (listed : Option Listed) → f.listed ≡ listed → (candidate : Option Candidate) → option_and_then (chosen id) listed ≡ candidate
-    → Way f (inputs.Choose place id) (choice world f provider candidate)
+    → Way f (inputs.Choose place id) (choice world f place provider candidate)
 way_choice world f place id at some None has listed lists candidate is =
     open_ignored f _ _ (ap is_open at) (λ other p i same. inl (let k : place ≡ p = cc in ap (λ n. provider_at n f.options) (sym k) ∙ has))
 way_choice world f place id at some (Some provider) has listed lists None is =
@@ -308,17 +309,17 @@ way_chose world f Ended at some place id = Elsewhere (ap is_open at)
 going_chooses_none : (f : Facts) → ChoosesNone f inputs.GoOn
 going_chooses_none f place id is = absurd (cc)
 
-way_goes_asserts : (f : Facts) (provider : Option ProviderOptions) (config : Option Configuration) (agreed : Agreement) → f.stage ≡ Prompting
-    → Way f inputs.GoOn (asserts f provider config agreed)
-way_goes_asserts f None config agreed at = Unmoved (ap is_open at) refl (λ world. refl) (λ other. going_chooses_none f)
-way_goes_asserts f (Some provider) None agreed at = Unmoved (ap is_open at) refl (λ world. refl) (λ other. going_chooses_none f)
-way_goes_asserts f (Some provider) (Some config) agreed at = Elsewhere refl
+way_goes_asserts : (f : Facts) (place : ℕ) (provider : Option ProviderOptions) (config : Option Configuration) (agreed : Agreement) → f.stage ≡ Prompting
+    → Way f inputs.GoOn (asserts f place provider config agreed)
+way_goes_asserts f place None config agreed at = Unmoved (ap is_open at) refl (λ world. refl) (λ other. going_chooses_none f)
+way_goes_asserts f place (Some provider) None agreed at = Unmoved (ap is_open at) refl (λ world. refl) (λ other. going_chooses_none f)
+way_goes_asserts f place (Some provider) (Some config) agreed at = Elsewhere refl
 
 way_goes_on : (f : Facts) (waits : Bool) (picked : Option Candidate) → f.stage ≡ Prompting → Way f inputs.GoOn (goes_on f waits picked)
 way_goes_on f true picked at = Unmoved (ap is_open at) refl (λ world. refl) (λ other. going_chooses_none f)
 way_goes_on f false None at = Unmoved (ap is_open at) refl (λ world. refl) (λ other. going_chooses_none f)
 way_goes_on f false (Some candidate) at =
-    way_goes_asserts f (provider_at 0 f.options) f.config (agreed_to f candidate Prompted (not candidate.connected)) at
+    way_goes_asserts f only_place (provider_at only_place f.options) f.config (agreed_to f only_place candidate Prompted (not candidate.connected)) at
 
 way_went_on : (f : Facts) (stage : Stage) → f.stage ≡ stage → Way f inputs.GoOn (went_on f stage)
 way_went_on f Prompting at = way_goes_on f f.waits f.picked at

@@ -22,7 +22,8 @@ use Rattle.fed_script.specs.Line.{kind_of, event_of_kind, event_named}
 use Rattle.fed_script.specs.Used.{IsKnown, SaysKnown, HasOneProvider, HasKnownStatus}
 
 -- what is so of each answer of the next step, where this one's answer is so
-after : {A B : Type 0} (Q : A → Type 0) (P : B → Type 0) (r : Result A LineCause) (f : A → Result B LineCause) → IfOk r Q → ((x : A) → Q x → IfOk (f x) P) → IfOk (r >>= f) P
+after : {A B : Type 0} (Q : A → Type 0) (P : B → Type 0) (r : Result A LineCause) (f : A → Result B LineCause) → IfOk r Q
+    → ((x : A) → Q x → IfOk (f x) P) → IfOk (r >>= f) P
 after Q P (Ok x) f so each = each x so
 after Q P (Err cause) f so each = tt
 
@@ -61,7 +62,9 @@ login_known d =
     (λ status so. always SaysKnown (url_of text) _ (λ url. so)))
 
 cookie_known : (d : Data) → IfOk (cookie_of d) SaysKnown
-cookie_known d = always SaysKnown (required as_str names.Url d) _ (λ text. always SaysKnown (required_bytes d) _ (λ field. always SaysKnown (url_of text) _ (λ url. tt)))
+cookie_known d =
+    always SaysKnown (required as_str names.Url d) _
+    (λ text. always SaysKnown (required_bytes d) _ (λ field. always SaysKnown (url_of text) _ (λ url. tt)))
 
 said_known : (d : Data) (cause : LineCause) (a b : Bool) → IfOk (cond a (login_of d) (cond b (cookie_of d) (Err cause))) SaysKnown
 said_known d cause true b = login_known d
@@ -113,7 +116,9 @@ setstatus_good d =
     (λ page. after IsKnown Good (required (as_word status_of_word) names.Status d) _ (known d) (λ status so. (tt, so)))
 
 one_good : (d : Data) (cause : LineCause) (a b c e f g h i j k l : Bool)
-    → IfOk (cond a (have_of d) (cond b (at_of d) (cond c (load_of d) (cond e (closepage_of d) (cond f (get_of d) (cond g (abort_of d) (cond h (go_on_of d) (cond i (cancel_of d) (cond j (reply_of d) (cond k (choose_of d) (cond l (setstatus_of d) (Err cause)))))))))))) Good
+    → IfOk (cond a (have_of d) (cond b (at_of d) (cond c (load_of d) (cond e (closepage_of d) (cond f (get_of d)
+    (cond g (abort_of d) (cond h (go_on_of d) (cond i (cancel_of d) (cond j (reply_of d) (cond k (choose_of d)
+    (cond l (setstatus_of d) (Err cause)))))))))))) Good
 one_good d cause true b c e f g h i j k l = have_good d
 one_good d cause false true c e f g h i j k l = at_good d
 one_good d cause false false true e f g h i j k l = load_good d
@@ -129,7 +134,8 @@ one_good d cause false false false false false false false false false false fal
 
 kind_good : (kind : List ℕ) (d : Data) → IfOk (event_of_kind kind d) Good
 kind_good kind d =
-    one_good d _ (bytes_eq kind (codes "have")) (bytes_eq kind (codes "at")) (bytes_eq kind (codes "load")) (bytes_eq kind (codes "closepage"))
+    one_good d _ (bytes_eq kind (codes "have")) (bytes_eq kind (codes "at")) (bytes_eq kind (codes "load"))
+    (bytes_eq kind (codes "closepage"))
     (bytes_eq kind (codes "get")) (bytes_eq kind (codes "abort")) (bytes_eq kind (codes "continue")) (bytes_eq kind (codes "cancel"))
     (bytes_eq kind (codes "reply")) (bytes_eq kind (codes "choose")) (bytes_eq kind (codes "setstatus"))
 

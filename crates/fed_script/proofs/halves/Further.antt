@@ -12,7 +12,8 @@ Leaves events events' used used' n line cause =
     (more : List (List ℕ)) → with_events events' (goes_on cause n used' more) ≡ with_events events (events_of used n (line ∷ more))
 
 -- after a line the rest goes on to the whole
-pub goes_further : (events events' : List Numbered) (used used' : UsedState) {whole : Events} {cause : Option LineCause} (n : ℕ) (rest line further : List ℕ)
+pub goes_further : (events events' : List Numbered) (used used' : UsedState) {whole : Events} {cause : Option LineCause} (n : ℕ)
+    (rest line further : List ℕ)
     → cause ≡ None
     → Leaves events events' used used' n line cause
     → lines_of rest ≡ line ∷ lines_of further
@@ -29,7 +30,8 @@ no_more : (events : List Numbered) (bad : Option (ℕ × LineCause)) → record 
 no_more events bad = ap (λ (found : List Numbered). record { good = found; bad = bad }) (sym (append-nil events))
 
 -- at a bad line the whole ends
-pub stops_here : (events events' : List Numbered) (used used' : UsedState) {whole : Events} {found : Option LineCause} {cause : LineCause} (n : ℕ) (rest line further : List ℕ)
+pub stops_here : (events events' : List Numbered) (used used' : UsedState) {whole : Events} {found : Option LineCause} {cause : LineCause}
+    (n : ℕ) (rest line further : List ℕ)
     → found ≡ Some cause
     → Leaves events events' used used' n line found
     → lines_of rest ≡ line ∷ lines_of further

@@ -1,5 +1,7 @@
 -- A walk over the lines of bytes, up to one that passes a test.
-use Rattle.std.proofs.Common.{◌≡◌, ◌∙◌, ℕ, suc, ◌+◌, ◌-◌, ◌<◌, ◌≤◌, Bool, true, false, cond, ◌||◌, not, eqb, ltb, List, [], ◌∷◌, ◌++◌, length, get_or, take, drop, Option, Some, None, refl, sym, ap, subst, arith, append_assoc, append-nil, length-append, ltb-true, ltb-false, eqb-true}
+use Rattle.std.proofs.Common.{◌≡◌, ◌∙◌, ℕ, suc, ◌+◌, ◌-◌, ◌<◌, ◌≤◌, Bool, true, false, cond, ◌||◌, not, eqb, ltb, List}
+use Rattle.std.proofs.Common.{[], ◌∷◌, ◌++◌, length, get_or, take, drop, Option, Some, None, refl, sym, ap, subst}
+use Rattle.std.proofs.Common.{arith, append_assoc, append-nil, length-append, ltb-true, ltb-false, eqb-true}
 use Rattle.std.proofs.Math.Seq.{take-append_seam, drop-append-add}
 use Rattle.std.proofs.lemmas.List.{drop_all}
 use Rattle.std.proofs.lemmas.List.Folds.{list_any-append}
@@ -20,7 +22,8 @@ none_before : {X : Type 0} (p : X → Bool) (xs : List X) → list_any p (before
 none_before p [] = refl
 none_before {X} p (x ∷ xs) = by (p x) refl (none_before p xs)
   where
-    by : (passes : Bool) → p x ≡ passes → list_any p (before_first p xs) ≡ false → list_any p (take (cond (not passes) (1 + position_or_len p xs) 0) (x ∷ xs)) ≡ false
+    by : (passes : Bool) → p x ≡ passes → list_any p (before_first p xs) ≡ false
+        → list_any p (take (cond (not passes) (1 + position_or_len p xs) 0) (x ∷ xs)) ≡ false
     by true is none = refl
     by false is none =
         let here : 1 + position_or_len p xs ≡ suc (position_or_len p xs) = omega arith in
@@ -52,7 +55,8 @@ cut_all rest line after none lines = record {
 }
 
 -- bytes that are there are cut after their first line
-cut_of : (b : ℕ) (bytes : List ℕ) (found : Bool) → ltb (position_or_len is_lf (b ∷ bytes)) (length (b ∷ bytes)) ≡ found → Cut (b ∷ bytes) (before_first is_lf (b ∷ bytes)) (after_first is_lf (b ∷ bytes))
+cut_of : (b : ℕ) (bytes : List ℕ) (found : Bool) → ltb (position_or_len is_lf (b ∷ bytes)) (length (b ∷ bytes)) ≡ found
+    → Cut (b ∷ bytes) (before_first is_lf (b ∷ bytes)) (after_first is_lf (b ∷ bytes))
 cut_of b bytes true test =
     let within : position_or_len is_lf (b ∷ bytes) < length (b ∷ bytes) = ltb-true _ _ test in
     let lf : get_or (b ∷ bytes) (position_or_len is_lf (b ∷ bytes)) 0 ≡ 10 = eqb-true _ _ (passes_at_first is_lf (b ∷ bytes) 0 within) in
@@ -100,14 +104,16 @@ walk_begins p bytes = record {
 
 -- one line more
 pub walks_on : (p : List ℕ → Bool) (bytes rest line after : List ℕ) (before : ℕ)
-    → Walked p bytes rest before → Some (line, after) ≡ first_line rest → lines_of rest ≡ line ∷ lines_of after → length after < length rest → p line ≡ false
+    → Walked p bytes rest before → Some (line, after) ≡ first_line rest → lines_of rest ≡ line ∷ lines_of after → length after < length rest
+    → p line ≡ false
     → Walked p bytes after (before + 1)
 walks_on p bytes rest line after before so first lines shorter fails = by (cut_first rest line after first)
   where
     by : Cut rest line after → Walked p bytes after (before + 1)
     by cut =
         let some : 0 < length rest = omega arith in
-        let here : lines_of (so.front ++ cut.piece) ≡ lines_of so.front ++ line ∷ [] = so.ends some cut.piece ∙ ap (λ ls. lines_of so.front ++ ls) cut.only in
+        let here : lines_of (so.front ++ cut.piece) ≡ lines_of so.front ++ line ∷ [] =
+        so.ends some cut.piece ∙ ap (λ ls. lines_of so.front ++ ls) cut.only in
         record {
           front = so.front ++ cut.piece;
           whole = so.whole ∙ ap (λ r. so.front ++ r) cut.whole ∙ sym (append_assoc so.front cut.piece after);
@@ -138,11 +144,13 @@ front_is front rest bytes whole =
     ap (λ n. take n bytes) size ∙ ap (take (length front)) whole ∙ take-append_seam front rest
 
 -- the first that passes stands after all that do not
-first_place : {X : Type 0} (p : X → Bool) (xs ys : List X) (x : X) → list_any p xs ≡ false → p x ≡ true → position_or_len p (xs ++ x ∷ ys) ≡ length xs
+first_place : {X : Type 0} (p : X → Bool) (xs ys : List X) (x : X) → list_any p xs ≡ false → p x ≡ true
+    → position_or_len p (xs ++ x ∷ ys) ≡ length xs
 first_place p [] ys x none passes = ap (λ b. cond (not b) (1 + position_or_len p ys) 0) passes
 first_place {X} p (y ∷ xs) ys x none passes = by (p y) none (first_place p xs ys x)
   where
-    by : (b : Bool) → (b || list_any p xs) ≡ false → (list_any p xs ≡ false → p x ≡ true → position_or_len p (xs ++ x ∷ ys) ≡ length xs) → cond (not b) (1 + position_or_len p (xs ++ x ∷ ys)) 0 ≡ length (y ∷ xs)
+    by : (b : Bool) → (b || list_any p xs) ≡ false → (list_any p xs ≡ false → p x ≡ true → position_or_len p (xs ++ x ∷ ys) ≡ length xs)
+        → cond (not b) (1 + position_or_len p (xs ++ x ∷ ys)) 0 ≡ length (y ∷ xs)
     by true any later = absurd (cc)
     by false any later = omega (arith, later any passes)
 
@@ -154,7 +162,8 @@ halved first second = Some (record { first = first; second = second })
 pub divided : (p : List ℕ → Bool) (xs ys : List (List ℕ)) (x : List ℕ) → list_any p xs ≡ false → p x ≡ true
     → cond (list_any p (xs ++ x ∷ ys)) (halved (before_first p (xs ++ x ∷ ys)) (after_first p (xs ++ x ∷ ys))) None ≡ halved xs ys
 divided p xs ys x none passes =
-    let any : list_any p (xs ++ x ∷ ys) ≡ true = list_any-append p xs (x ∷ ys) ∙ ap (λ b. b || (p x || list_any p ys)) none ∙ ap (λ b. b || list_any p ys) passes in
+    let any : list_any p (xs ++ x ∷ ys) ≡ true =
+    list_any-append p xs (x ∷ ys) ∙ ap (λ b. b || (p x || list_any p ys)) none ∙ ap (λ b. b || list_any p ys) passes in
     let place = first_place p xs ys x none passes in
     let first : before_first p (xs ++ x ∷ ys) ≡ xs = ap (λ n. take n (xs ++ x ∷ ys)) place ∙ take-append_seam xs (x ∷ ys) in
     let second : after_first p (xs ++ x ∷ ys) ≡ ys = ap (λ n. drop (n + 1) (xs ++ x ∷ ys)) place ∙ drop-append-add xs (x ∷ ys) 1 in
@@ -164,7 +173,8 @@ divided p xs ys x none passes =
 
 -- at a dividing line: the bytes on its two sides
 pub walk_divides : (bytes rest line after first : List ℕ) (before : ℕ)
-    → Walked is_divider bytes rest before → lines_of rest ≡ line ∷ lines_of after → is_divider line ≡ true → first ≡ take (length bytes - length rest) bytes
+    → Walked is_divider bytes rest before → lines_of rest ≡ line ∷ lines_of after → is_divider line ≡ true
+    → first ≡ take (length bytes - length rest) bytes
     → halved (lines_of first) (lines_of after) ≡ halves_of (lines_of bytes)
 walk_divides bytes rest line after first before so lines passes is =
     let same : first ≡ so.front = is ∙ front_is so.front rest bytes so.whole in
@@ -174,21 +184,25 @@ walk_divides bytes rest line after first before so lines passes is =
     ∙ ap halves_of (sym all)
 
 -- the number of the lines before it
-pub walk_counts : (bytes rest first : List ℕ) (before : ℕ) → Walked is_divider bytes rest before → first ≡ take (length bytes - length rest) bytes → before ≡ length (lines_of first)
+pub walk_counts : (bytes rest first : List ℕ) (before : ℕ) → Walked is_divider bytes rest before
+    → first ≡ take (length bytes - length rest) bytes → before ≡ length (lines_of first)
 walk_counts bytes rest first before so is =
     so.count ∙ ap (λ f. length (lines_of f)) (sym (is ∙ front_is so.front rest bytes so.whole))
 
 -- at the end the walk has gone over all lines
-walk_ends : (bytes rest : List ℕ) (before : ℕ) → (so : Walked is_divider bytes rest before) → first_line rest ≡ None → lines_of bytes ≡ lines_of so.front
+walk_ends : (bytes rest : List ℕ) (before : ℕ) → (so : Walked is_divider bytes rest before) → first_line rest ≡ None
+    → lines_of bytes ≡ lines_of so.front
 walk_ends bytes rest before so last =
     so.lines ∙ ap (λ ls. lines_of so.front ++ ls) (no_line rest last) ∙ append-nil (lines_of so.front)
 
 -- so no line divides
-pub walk_undivided : (bytes rest : List ℕ) (before : ℕ) → Walked is_divider bytes rest before → first_line rest ≡ None → None ≡ halves_of (lines_of bytes)
+pub walk_undivided : (bytes rest : List ℕ) (before : ℕ) → Walked is_divider bytes rest before → first_line rest ≡ None
+    → None ≡ halves_of (lines_of bytes)
 walk_undivided bytes rest before so last =
     let none : list_any is_divider (lines_of bytes) ≡ false = ap (list_any is_divider) (walk_ends bytes rest before so last) ∙ so.none in
     sym (ap (λ b. cond b (halved (before_first is_divider (lines_of bytes)) (after_first is_divider (lines_of bytes))) None) none)
 
 -- and they are all counted
-pub walk_counts_all : (bytes rest : List ℕ) (before : ℕ) → Walked is_divider bytes rest before → first_line rest ≡ None → before ≡ length (lines_of bytes)
+pub walk_counts_all : (bytes rest : List ℕ) (before : ℕ) → Walked is_divider bytes rest before → first_line rest ≡ None
+    → before ≡ length (lines_of bytes)
 walk_counts_all bytes rest before so last = so.count ∙ ap length (sym (walk_ends bytes rest before so last))

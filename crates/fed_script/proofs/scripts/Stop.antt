@@ -1,5 +1,6 @@
 -- Where scripts stop.
-use Rattle.std.proofs.Common.{◌≡◌, ℕ, ◌+◌, ◌<◌, ◌≤◌, Bool, true, false, cond, eqb, List, [], ◌∷◌, length, Option, Some, None, refl, ap, arith}
+use Rattle.std.proofs.Common.{◌≡◌, ℕ, ◌+◌, ◌<◌, ◌≤◌, Bool, true, false, cond, eqb, List}
+use Rattle.std.proofs.Common.{[], ◌∷◌, length, Option, Some, None, refl, ap, arith}
 use Rattle.std.specs.List.{onto_first}
 use Rattle.std.specs.Prelude.{Result, Ok, Err}
 use Rattle.fed_script.specs.declared.cause.BadLine.{BadLine}
@@ -9,7 +10,8 @@ use Rattle.fed_script.specs.declared.event.Event.{Event}
 use Rattle.fed_script.specs.declared.event.Header.{Header}
 use Rattle.fed_script.specs.declared.event.Numbered.{Numbered}
 use Rattle.fed_script.specs.Line.{event_of, header_of}
-use Rattle.fed_script.specs.Script.{Script, Stop, events_of, after_line as events_after, is_blank, lines_of, script_of, script_of_lines, script_after, ended_by, no_header, bad_line, or_bad_line}
+use Rattle.fed_script.specs.Script.{Script, Stop, events_of, after_line as events_after, is_blank, lines_of, script_of}
+use Rattle.fed_script.specs.Script.{script_of_lines, script_after, ended_by, no_header, bad_line, or_bad_line}
 use Rattle.fed_script.specs.Used.{UsedState, unused, used_after}
 
 -- a line is one of so many, from line n on
@@ -18,14 +20,17 @@ pub record IsAmong (n count line : ℕ) : Type 0 where
   pub to : line < n + count
 
 -- a bad line is one of the lines
-pub bad_is_among : (used : UsedState) (n : ℕ) (lines : List (List ℕ)) (bad : ℕ × LineCause) → (events_of used n lines).bad ≡ Some bad → IsAmong n (length lines) bad.0
+pub bad_is_among : (used : UsedState) (n : ℕ) (lines : List (List ℕ)) (bad : ℕ × LineCause) → (events_of used n lines).bad ≡ Some bad
+    → IsAmong n (length lines) bad.0
 bad_is_among used n [] bad is = absurd (cc)
-bad_is_among used n (line ∷ lines) bad is = by (is_blank line) (event_of line used) is (bad_is_among used (n + 1) lines bad) (λ after. bad_is_among after (n + 1) lines bad)
+bad_is_among used n (line ∷ lines) bad is =
+    by (is_blank line) (event_of line used) is (bad_is_among used (n + 1) lines bad) (λ after. bad_is_among after (n + 1) lines bad)
   where
     later : IsAmong (n + 1) (length lines) bad.0 → IsAmong n (length (line ∷ lines)) bad.0
     later so = let from = so.from in let to = so.to in record { from = omega arith; to = omega arith }
 
-    by : (blank : Bool) (r : Result Event LineCause) → (cond blank (events_of used (n + 1) lines) (events_after n used r (λ after. events_of after (n + 1) lines))).bad ≡ Some bad
+    by : (blank : Bool) (r : Result Event LineCause)
+        → (cond blank (events_of used (n + 1) lines) (events_after n used r (λ after. events_of after (n + 1) lines))).bad ≡ Some bad
         → ((events_of used (n + 1) lines).bad ≡ Some bad → IsAmong (n + 1) (length lines) bad.0)
         → ((after : UsedState) → (events_of after (n + 1) lines).bad ≡ Some bad → IsAmong (n + 1) (length lines) bad.0)
         → IsAmong n (length (line ∷ lines)) bad.0
@@ -47,7 +52,9 @@ pub stop_is_among : (lines : List (List ℕ)) (stop : Stop) → script_of_lines 
 stop_is_among [] stop is = stops_first NotJson stop 0 (cc)
 stop_is_among (line ∷ lines) stop is = by (header_of line) is
   where
-    ended : (header : Header) (good : List Numbered) (bad : Option (ℕ × LineCause)) → ((b : ℕ × LineCause) → bad ≡ Some b → IsAmong 2 (length lines) b.0) → ended_by header good bad ≡ Err stop → IsAmong 1 (1 + length (line ∷ lines)) stop.line
+    ended : (header : Header) (good : List Numbered) (bad : Option (ℕ × LineCause))
+        → ((b : ℕ × LineCause) → bad ≡ Some b → IsAmong 2 (length lines) b.0) → ended_by header good bad ≡ Err stop
+        → IsAmong 1 (1 + length (line ∷ lines)) stop.line
     ended header good None among is = absurd (cc)
     ended header good (Some bad) among is =
         let same : record { header = Some header; events = good; line = bad.0; cause = bad.1 } ≡ stop = cc in
@@ -68,7 +75,8 @@ pub length-lines_of : (bytes : List ℕ) → length (lines_of bytes) ≤ length 
 length-lines_of [] = omega arith
 length-lines_of (b ∷ bytes) = by (eqb b 10) (lines_of bytes) (length-lines_of bytes)
   where
-    by : (ends : Bool) (lines : List (List ℕ)) → length lines ≤ length bytes → length (cond ends ([] ∷ lines) (onto_first b lines)) ≤ length (b ∷ bytes)
+    by : (ends : Bool) (lines : List (List ℕ)) → length lines ≤ length bytes
+        → length (cond ends ([] ∷ lines) (onto_first b lines)) ≤ length (b ∷ bytes)
     by true lines few = omega arith
     by false [] few = omega arith
     by false (line ∷ lines) few = omega arith

@@ -9,7 +9,7 @@ use Rattle.fed_status.specs.Kept.{triples_of_pair}
 use Rattle.fed_status.specs.Login.{Logins, with_status}
 use Rattle.fed_consent.specs.declared.table.ask.Ask.{Ask}
 use Rattle.fed_consent.specs.declared.table.effect.Effect.{Effect as CallEffect}
-use Rattle.fed_call.specs.Facts.{Outcome}
+use Rattle.fed_consent.specs.Outcomes.{Outcome}
 use Rattle.fed_consent.specs.declared.table.effect.Effect.TheVariants as does
 use Rattle.fed_trace.specs.Effect.{Effect, Sent, Shown, Window, Result, Ignored, login_change}
 use Rattle.fed_trace.specs.Keyed.{entries_after}

@@ -25,7 +25,7 @@ use Rattle.fed_trace.specs.Known.{known_in, facts_at}
 use Rattle.fed_trace.specs.Records.{record_of, records_of}
 use Rattle.fed_trace.specs.Row.{effects_of, with_event, cookies_from, have_cookies, have_logins, set_cookies, set_logins, cookie_effects, login_effects, ends_of, load_effects, close_effects, status_effects}
 use Rattle.fed_session.specs.Session.{State, Stands, origins_of, get_of, numbers_of, pending_calls, kept_at}
-use Rattle.fed_session.specs.StepParts.{without_get, with_statuses, have_statuses, status_at, close_records}
+use Rattle.fed_session.specs.StepParts.{sight_of, without_get, with_statuses, have_statuses, status_at, close_records}
 use Rattle.fed_trace.specs.Trace.{Trace, pages, pending, pending_of, page_at, calls_of, now_at}
 use Rattle.fed_session.specs.declared.page.Page as kept
 use Rattle.fed_trace.proofs.calls.Begins.{AreApart, apart_begun}
@@ -34,6 +34,7 @@ use Rattle.fed_session.proofs.kept.Calls.{numbers-set_value, pending-set_ended, 
 use Rattle.fed_trace.proofs.keyed.Keyed.{AreDistinct, distinct_standing, lookup-standing, lookup-insert_entry, lookup-remove_entry, entries_after-append}
 use Rattle.fed_session.proofs.kept.Pages.{origins_of-insert_entry, origins_of-remove, distinct_from_origins, lookup-origins_of}
 use Rattle.fed_trace.proofs.calls.Pending.{others, ended, ends_silent, load_rest_silent, load_silent, load_pages, load_calls, load_writes, written_then, set_after, calls_of-others_same, calls_of-others_other}
+use Rattle.fed_session.proofs.clauses.Sight.{sees}
 use Rattle.fed_session.proofs.clauses.Statuses.{load_sets}
 use Rattle.fed_trace.proofs.effects.Silent.{AllSilent, entries_silent, said_silent, last_silent, last_said_silent}
 use Rattle.fed_session.proofs.stands.Stands.{Owes, owes_aside}
@@ -47,11 +48,11 @@ have_sets (haves.Cookie url field) logins = refl
 have_sets (haves.Login origin status) logins = refl
 
 pub owes_have : (s s' : State) (T : Trace) (line : ℕ) (have : Have) → Stands s T
-    → s'.rules ≡ s.rules → s'.kept ≡ s.kept → s'.flags ≡ s.flags → s'.time ≡ s.time
-    → s'.cookies ≡ cookies_after s.cookies (have_cookies s.rules s.time have)
-    → s'.login ≡ have_statuses have s.login → s'.pages ≡ s.pages → s'.calls ≡ s.calls
+    → sight_of s' ≡ record (sight_of s) { jar = cookies_after s.cookies (have_cookies s.rules s.time have); login = have_statuses have s.login }
+    → s'.pages ≡ s.pages → s'.calls ≡ s.calls
     → Owes s s' T line (events.Have have)
-owes_have s s' T line have h rules kept_same flags time written login kept_pages kept_calls =
+owes_have s s' T line have h sight kept_pages kept_calls =
+    let seen = sees s' _ sight in
     let found = have_cookies T.header.rules (now_at T) have in
     let same : have_cookies s.rules s.time have ≡ found =
     ap (λ r. have_cookies r s.time have) h.rules ∙ ap (λ t. have_cookies T.header.rules t have) h.time in
@@ -66,10 +67,10 @@ owes_have s s' T line have h rules kept_same flags time written login kept_pages
       flags = have_silent flag_change (λ c. refl) (λ o s. refl) found have;
       inputs = λ q f. refl;
     })
-    rules kept_same flags
-    (time ∙ sym (ap (λ o. unwrap_or o s.time) (last_silent time_of (cookie_effects found ++ have_logins have) (have_silent time_of (λ c. refl) (λ o s. refl) found have))))
-    (written ∙ ap (cookies_after s.cookies) (same ∙ sym (written_then found (have_logins have) (logins_write_none have))))
-    (login ∙ sym (set_after found (have_logins have) s.login ∙ have_sets have s.login))
+    seen.rules seen.kept seen.flags
+    (seen.time ∙ sym (ap (λ o. unwrap_or o s.time) (last_silent time_of (cookie_effects found ++ have_logins have) (have_silent time_of (λ c. refl) (λ o s. refl) found have))))
+    (seen.cookies ∙ ap (cookies_after s.cookies) (same ∙ sym (written_then found (have_logins have) (logins_write_none have))))
+    (seen.login ∙ sym (set_after found (have_logins have) s.login ∙ have_sets have s.login))
     kept_pages kept_calls
 
 -- ---- a page sets a status
@@ -79,11 +80,12 @@ pub page_kept : (s : State) (T : Trace) (page : ℕ) → Stands s T → option_m
 page_kept s T page h = sym (lookup-origins_of page s.pages) ∙ ap (lookup (nat_eq page)) h.pages ∙ lookup-standing page_change page T.rows
 
 pub owes_status : (s s' : State) (T : Trace) (line page : ℕ) (status : LoginStatus) → Stands s T
-    → s'.rules ≡ s.rules → s'.kept ≡ s.kept → s'.flags ≡ s.flags → s'.time ≡ s.time → s'.cookies ≡ s.cookies
+    → sight_of s' ≡ record (sight_of s) { login = s'.login }
     → s'.login ≡ entries_after same_origin login_change (status_at (lookup (nat_eq page) s.pages) status) s.login
     → s'.pages ≡ s.pages → s'.calls ≡ s.calls
     → Owes s s' T line (SetStatus page status)
-owes_status s s' T line page status h rules kept_same flags time written login kept_pages kept_calls =
+owes_status s s' T line page status h sight login kept_pages kept_calls =
+    let seen = sees s' _ sight in
     let o = page_at T page in
     owes_aside s s' T line (SetStatus page status) h
     (record {
@@ -96,9 +98,9 @@ owes_status s s' T line page status h rules kept_same flags time written login k
       flags = status_silent flag_change (λ o s. refl) (λ w. refl) o status;
       inputs = λ q f. refl;
     })
-    rules kept_same flags
-    (time ∙ sym (ap (λ x. unwrap_or x s.time) (last_silent time_of (status_effects o status) (status_silent time_of (λ o s. refl) (λ w. refl) o status))))
-    (written ∙ ap (cookies_after s.cookies) (sym (said_silent written_by (status_effects o status) (status_silent written_by (λ o s. refl) (λ w. refl) o status))))
+    seen.rules seen.kept seen.flags
+    (seen.time ∙ sym (ap (λ x. unwrap_or x s.time) (last_silent time_of (status_effects o status) (status_silent time_of (λ o s. refl) (λ w. refl) o status))))
+    (seen.cookies ∙ ap (cookies_after s.cookies) (sym (said_silent written_by (status_effects o status) (status_silent written_by (λ o s. refl) (λ w. refl) o status))))
     (login ∙ ap (λ x. entries_after same_origin login_change (status_effects x status) s.login) (page_kept s T page h))
     kept_pages kept_calls
 
@@ -181,13 +183,12 @@ pages_distinct s T h = distinct_from_origins s.pages (subst AreDistinct (sym h.p
 -- ---- a load
 
 pub owes_load : (s s' : State) (T : Trace) (line page : ℕ) (url : Parts) (raw : Option (List ℕ)) → Stands s T
-    → s'.rules ≡ s.rules → s'.kept ≡ s.kept → s'.flags ≡ s.flags → s'.time ≡ s.time
-    → s'.cookies ≡ cookies_after s.cookies (cookies_from s.rules url s.time (set_cookies raw))
-    → s'.login ≡ with_statuses (origin_of url) (set_logins raw) s.login
+    → sight_of s' ≡ record (sight_of s) { jar = cookies_after s.cookies (cookies_from s.rules url s.time (set_cookies raw)); login = with_statuses (origin_of url) (set_logins raw) s.login }
     → s'.pages ≡ insert_entry nat_eq s.pages page (record { origin = origin_of url; get = None })
     → s'.calls ≡ without_get (lookup (nat_eq page) s.pages) s.calls
     → Owes s s' T line (Load page url raw)
-owes_load s s' T line page url raw h rules kept_same flags time written login kept_pages kept_calls =
+owes_load s s' T line page url raw h sight kept_pages kept_calls =
+    let seen = sees s' _ sight in
     let found = cookies_from T.header.rules url (now_at T) (set_cookies raw) in
     let statuses = set_logins raw in
     let same : cookies_from s.rules url s.time (set_cookies raw) ≡ found =
@@ -199,14 +200,14 @@ owes_load s s' T line page url raw h rules kept_same flags time written login ke
     let effects : effects_of T (Load page url raw) ≡ ends_of (option_to_list get) ++ rest = ap (λ calls. ends_of calls ++ rest) (sym (h.gets page)) in
     let is_calls = kept_calls ∙ without_get-is get s.calls in
     record {
-      rules = rules;
-      kept = kept_same;
-      flags = flags;
+      rules = seen.rules;
+      kept = seen.kept;
+      flags = seen.flags;
       keeps_none = load_silent kept_change (λ c. refl) (λ p o. refl) (λ c. refl) (λ o s. refl) (calls_of page es) page url found statuses;
       flags_none = load_silent flag_change (λ c. refl) (λ p o. refl) (λ c. refl) (λ o s. refl) (calls_of page es) page url found statuses;
-      time = time ∙ sym (ap (λ o. unwrap_or o s.time) (last_silent time_of (load_effects (calls_of page es) page url found statuses) (load_silent time_of (λ c. refl) (λ p o. refl) (λ c. refl) (λ o s. refl) (calls_of page es) page url found statuses)));
-      cookies = written ∙ ap (cookies_after s.cookies) (same ∙ sym (load_writes (calls_of page es) page url found statuses));
-      login = login ∙ sym (load_sets (calls_of page es) page url found statuses s.login);
+      time = seen.time ∙ sym (ap (λ o. unwrap_or o s.time) (last_silent time_of (load_effects (calls_of page es) page url found statuses) (load_silent time_of (λ c. refl) (λ p o. refl) (λ c. refl) (λ o s. refl) (calls_of page es) page url found statuses)));
+      cookies = seen.cookies ∙ ap (cookies_after s.cookies) (same ∙ sym (load_writes (calls_of page es) page url found statuses));
+      login = seen.login ∙ sym (load_sets (calls_of page es) page url found statuses s.login);
       pages = ap origins_of kept_pages ∙ origins_of-insert_entry page p s.pages ∙ ap (λ os. insert_entry nat_eq os page (origin_of url)) h.pages
           ∙ sym (load_pages (calls_of page es) page url found statuses (pages T));
       gets = λ q. ap (λ ps. option_to_list (get_of (lookup (nat_eq q) ps))) kept_pages ∙ get_after_load q page p s.pages es refl (h.gets q)
@@ -224,11 +225,12 @@ owes_load s s' T line page url raw h rules kept_same flags time written login ke
 
 -- a page that stands
 owes_close_standing : (s s' : State) (T : Trace) (line page : ℕ) (p : kept.Page) → lookup (nat_eq page) s.pages ≡ Some p → Stands s T
-    → s'.rules ≡ s.rules → s'.kept ≡ s.kept → s'.flags ≡ s.flags → s'.time ≡ s.time → s'.cookies ≡ s.cookies → s'.login ≡ s.login
+    → sight_of s' ≡ sight_of s
     → s'.pages ≡ shift_remove_entry (nat_eq page) s.pages
     → s'.calls ≡ without_get (lookup (nat_eq page) s.pages) s.calls
     → Owes s s' T line (ClosePage page)
-owes_close_standing s s' T line page p found h rules kept_same flags time written login kept_pages kept_calls =
+owes_close_standing s s' T line page p found h sight kept_pages kept_calls =
+    let seen = sees s' _ sight in
     let es = pending T in
     let get = get_of (lookup (nat_eq page) s.pages) in
     let rest = Closed page ∷ [] in
@@ -236,14 +238,14 @@ owes_close_standing s s' T line page p found h rules kept_same flags time writte
     let effects : effects_of T (ClosePage page) ≡ ends_of (option_to_list get) ++ rest = closes ∙ ap (λ calls. ends_of calls ++ rest) (sym (h.gets page)) in
     let is_calls = kept_calls ∙ without_get-is get s.calls in
     record {
-      rules = rules;
-      kept = kept_same;
-      flags = flags;
+      rules = seen.rules;
+      kept = seen.kept;
+      flags = seen.flags;
       keeps_none = silent kept_change (λ c. refl) (λ p. refl);
       flags_none = silent flag_change (λ c. refl) (λ p. refl);
-      time = time ∙ sym (ap (λ o. unwrap_or o s.time) (last_silent time_of (effects_of T (ClosePage page)) (silent time_of (λ c. refl) (λ p. refl))));
-      cookies = written ∙ ap (cookies_after s.cookies) (sym (said_silent written_by (effects_of T (ClosePage page)) (silent written_by (λ c. refl) (λ p. refl))));
-      login = login ∙ sym (entries_silent same_origin login_change (effects_of T (ClosePage page)) s.login (silent login_change (λ c. refl) (λ p. refl)));
+      time = seen.time ∙ sym (ap (λ o. unwrap_or o s.time) (last_silent time_of (effects_of T (ClosePage page)) (silent time_of (λ c. refl) (λ p. refl))));
+      cookies = seen.cookies ∙ ap (cookies_after s.cookies) (sym (said_silent written_by (effects_of T (ClosePage page)) (silent written_by (λ c. refl) (λ p. refl))));
+      login = seen.login ∙ sym (entries_silent same_origin login_change (effects_of T (ClosePage page)) s.login (silent login_change (λ c. refl) (λ p. refl)));
       pages = ap origins_of kept_pages ∙ origins_of-remove page s.pages ∙ ap (shift_remove_entry (nat_eq page)) h.pages
           ∙ sym (ap (λ xs. entries_after nat_eq page_change xs (pages T)) closes ∙ entries_after-append nat_eq page_change (ends_of (calls_of page es)) rest (pages T)
           ∙ ap (shift_remove_entry (nat_eq page)) (entries_silent nat_eq page_change (ends_of (calls_of page es)) (pages T) (ends_silent page_change (λ c. refl) (calls_of page es))));
@@ -265,10 +267,11 @@ owes_close_standing s s' T line page p found h rules kept_same flags time writte
 
 -- a page that does not stand
 owes_close_absent : (s s' : State) (T : Trace) (line page : ℕ) → lookup (nat_eq page) s.pages ≡ None → Stands s T
-    → s'.rules ≡ s.rules → s'.kept ≡ s.kept → s'.flags ≡ s.flags → s'.time ≡ s.time → s'.cookies ≡ s.cookies → s'.login ≡ s.login
+    → sight_of s' ≡ sight_of s
     → s'.pages ≡ s.pages → s'.calls ≡ s.calls
     → Owes s s' T line (ClosePage page)
-owes_close_absent s s' T line page none h rules kept_same flags time written login kept_pages kept_calls =
+owes_close_absent s s' T line page none h sight kept_pages kept_calls =
+    let seen = sees s' _ sight in
     owes_aside s s' T line (ClosePage page) h
     (record {
       pages = silent page_change refl;
@@ -280,10 +283,10 @@ owes_close_absent s s' T line page none h rules kept_same flags time written log
       flags = silent flag_change refl;
       inputs = λ q f. refl;
     })
-    rules kept_same flags
-    (time ∙ sym (ap (λ o. unwrap_or o s.time) (last_silent time_of (effects_of T (ClosePage page)) (silent time_of refl))))
-    (written ∙ ap (cookies_after s.cookies) (sym (said_silent written_by (effects_of T (ClosePage page)) (silent written_by refl))))
-    (login ∙ sym (entries_silent same_origin login_change (effects_of T (ClosePage page)) s.login (silent login_change refl)))
+    seen.rules seen.kept seen.flags
+    (seen.time ∙ sym (ap (λ o. unwrap_or o s.time) (last_silent time_of (effects_of T (ClosePage page)) (silent time_of refl))))
+    (seen.cookies ∙ ap (cookies_after s.cookies) (sym (said_silent written_by (effects_of T (ClosePage page)) (silent written_by refl))))
+    (seen.login ∙ sym (entries_silent same_origin login_change (effects_of T (ClosePage page)) s.login (silent login_change refl)))
     kept_pages kept_calls
   where
     effects : effects_of T (ClosePage page) ≡ Ignored NoPage ∷ []
@@ -293,16 +296,16 @@ owes_close_absent s s' T line page none h rules kept_same flags time written log
     silent said is = subst (AllSilent said) (sym effects) (is, tt)
 
 pub owes_close : (s s' : State) (T : Trace) (line page : ℕ) → Stands s T
-    → s'.rules ≡ s.rules → s'.kept ≡ s.kept → s'.flags ≡ s.flags → s'.time ≡ s.time → s'.cookies ≡ s.cookies → s'.login ≡ s.login
+    → sight_of s' ≡ sight_of s
     → s'.pages ≡ shift_remove_entry (nat_eq page) s.pages
     → s'.calls ≡ without_get (lookup (nat_eq page) s.pages) s.calls
     → Owes s s' T line (ClosePage page)
-owes_close s s' T line page h rules kept_same flags time written login kept_pages kept_calls = go (lookup (nat_eq page) s.pages) refl
+owes_close s s' T line page h sight kept_pages kept_calls = go (lookup (nat_eq page) s.pages) refl
   where
     go : (found : Option kept.Page) → lookup (nat_eq page) s.pages ≡ found → Owes s s' T line (ClosePage page)
-    go (Some p) is = owes_close_standing s s' T line page p is h rules kept_same flags time written login kept_pages kept_calls
+    go (Some p) is = owes_close_standing s s' T line page p is h sight kept_pages kept_calls
     go None is =
-        owes_close_absent s s' T line page is h rules kept_same flags time written login (kept_pages ∙ remove_absent page s.pages is)
+        owes_close_absent s s' T line page is h sight (kept_pages ∙ remove_absent page s.pages is)
         (kept_calls ∙ ap (λ found. without_get found s.calls) is)
 
 -- ---- records

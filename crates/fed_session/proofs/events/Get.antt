@@ -7,6 +7,7 @@ use Rattle.std.specs.Map.{lookup, set_value}
 use Rattle.std.specs.List.{filter_map, list_any}
 use Rattle.indexmap.specs.IndexMap.{insert_entry}
 use Rattle.url.specs.Parts.{Parts}
+use Rattle.fed_origin.specs.declared.origin.Origin.{Origin}
 use Rattle.fed_origin.specs.declared.options.GetOptions.{GetOptions}
 use Rattle.fed_origin.specs.declared.options.Mode.{Mode}
 use Rattle.fed_origin.specs.declared.options.ProviderOptions.{ProviderOptions}
@@ -23,7 +24,8 @@ use Rattle.fed_status.specs.Login.{Logins, status_of}
 use Rattle.fed_status.specs.Shared.{World}
 use Rattle.fed_consent.specs.declared.table.why.Why.{Why}
 use Rattle.fed_consent.specs.declared.table.why.Why.TheVariants.{NoPage, PageInsecure}
-use Rattle.fed_call.specs.Facts.{Facts, at_stage, started, Outcome}
+use Rattle.fed_call.specs.Facts.{Facts, at_stage, started}
+use Rattle.fed_consent.specs.Outcomes.{Outcome, only_place}
 use Rattle.fed_call.specs.ReadingRows.{start_row, start_at, by_scheme, by_gate, is_gated}
 use Rattle.fed_script.specs.declared.event.Event.TheVariants.{Get}
 use Rattle.fed_consent.specs.declared.table.ask.Ask.{Ask}
@@ -34,7 +36,7 @@ use Rattle.fed_trace.specs.Known.{world_at, known_first, facts_at}
 use Rattle.fed_trace.specs.Records.{records_of}
 use Rattle.fed_trace.specs.Row.{effects_of, with_event, cookies_with, get_outcome, get_effects, standing_get, outcome_effects, moves}
 use Rattle.fed_session.specs.Session.{State, Stands, origins_of, get_of, numbers_of, pending_calls, kept_at}
-use Rattle.fed_session.specs.StepParts.{CanApplyAll, world_kept, cookies_by, call_records, login_after, get_at, get_kept, begun_as, standing_kept, with_new, holding, with_get}
+use Rattle.fed_session.specs.StepParts.{CanApplyAll, sight_of, world_in, cookies_of, call_records, login_after, get_at, get_kept, begun_as, standing_kept, with_new, holding, with_get}
 use Rattle.fed_trace.specs.Trace as trace
 use Rattle.fed_trace.specs.Trace.{Trace, logins, pages, pending, page_at, begun, calls_of}
 use Rattle.fed_session.specs.declared.page.Page as kept
@@ -48,7 +50,7 @@ use Rattle.fed_session.proofs.kept.Pages.{origins_of-set_value}
 use Rattle.fed_trace.proofs.calls.Pending.{outcome_silent, outcome_begins_none, calls_of-insert_same, calls_of-insert_other}
 use Rattle.fed_session.proofs.clauses.Statuses.{is_busy-kept}
 use Rattle.fed_session.proofs.clauses.Sets.{keeps_no_permission, sets_no_flag, get_can_apply}
-use Rattle.fed_session.proofs.clauses.Sight.{cookies_same}
+use Rattle.fed_session.proofs.clauses.Sight.{sees, cookies_same}
 use Rattle.fed_trace.proofs.effects.Same.{same_get}
 use Rattle.fed_trace.proofs.effects.Silent.{entries_silent, said_silent, last_silent, silent_is}
 use Rattle.fed_session.proofs.stands.Stands.{Owes, owes_aside}
@@ -57,7 +59,7 @@ use Rattle.fed_trace.proofs.events.Aside.{aside_ignored}
 
 -- ---- what all calls look at
 
-pub world_same : (s : State) (T : Trace) → Stands s T → world_kept s ≡ world_at T
+pub world_same : (s : State) (T : Trace) → Stands s T → world_in (sight_of s) ≡ world_at T
 world_same s T h =
     ap (λ r. let w : World = record { rules = r; login = s.login; kept = s.kept; flags = s.flags } in w) h.rules
     ∙ ap (λ l. let w : World = record { rules = T.header.rules; login = l; kept = s.kept; flags = s.flags } in w) h.login
@@ -66,7 +68,7 @@ world_same s T h =
 
 -- the effects of a get by what the session keeps are those by the trace
 pub get_at-stands : (s : State) (T : Trace) (page call : ℕ) (options : GetOptions) → Stands s T
-    → get_at (world_kept s) (cookies_with T) (lookup (nat_eq page) s.pages) page call options ≡ effects_of T (Get page call options)
+    → get_at (world_in (sight_of s)) (cookies_with T) (lookup (nat_eq page) s.pages) page call options ≡ effects_of T (Get page call options)
 get_at-stands s T page call options h =
     let found = lookup (nat_eq page) s.pages in
     ap (λ w. get_effects w (cookies_with T) (option_map (λ p. p.origin) found) (is_some (get_of found)) page call options) (world_same s T h)
@@ -76,13 +78,14 @@ get_at-stands s T page call options h =
 -- ---- a get that is not taken
 
 owes_ignored : (s s' : State) (T : Trace) (line page call : ℕ) (options : GetOptions) (why : Why) → Stands s T → effects_of T (Get page call options) ≡ Ignored why ∷ []
-    → s'.rules ≡ s.rules → s'.kept ≡ s.kept → s'.flags ≡ s.flags → s'.time ≡ s.time → s'.cookies ≡ s.cookies → s'.login ≡ s.login → s'.pages ≡ s.pages → s'.calls ≡ s.calls
+    → sight_of s' ≡ sight_of s → s'.pages ≡ s.pages → s'.calls ≡ s.calls
     → Owes s s' T line (Get page call options)
-owes_ignored s s' T line page call options why h is rules kept_same flags time written login kept_pages kept_calls =
-    owes_aside s s' T line (Get page call options) h (aside_ignored T line page call options why is) rules kept_same flags
-    (time ∙ sym (ap (λ xs. unwrap_or (last_of time_of xs) s.time) is))
-    (written ∙ sym (ap (λ xs. cookies_after s.cookies (filter_map written_by xs)) is))
-    (login ∙ sym (ap (λ xs. entries_after same_origin login_change xs s.login) is))
+owes_ignored s s' T line page call options why h is sight kept_pages kept_calls =
+    let seen = sees s' _ sight in
+    owes_aside s s' T line (Get page call options) h (aside_ignored T line page call options why is) seen.rules seen.kept seen.flags
+    (seen.time ∙ sym (ap (λ xs. unwrap_or (last_of time_of xs) s.time) is))
+    (seen.cookies ∙ sym (ap (λ xs. cookies_after s.cookies (filter_map written_by xs)) is))
+    (seen.login ∙ sym (ap (λ xs. entries_after same_origin login_change xs s.login) is))
     kept_pages kept_calls
 
 -- ---- a get that is taken
@@ -147,11 +150,12 @@ enters page call facts stage p ps cs es same free found absent unbegun gets is =
 owes_taken : (s s' : State) (T : Trace) (line : ℕ) (b : Begun) (p : kept.Page) (world : World) (outcome : Outcome) (stage : Stage) → Stands s T
     → effects_of T (Get b.page b.call b.options) ≡ Begin b ∷ outcome_effects world (cookies_with T) b.call b.page outcome → outcome.stage ≡ Some stage → CanApplyAll outcome.effects → (stage ≡ Ended) ⊎ (p.get ≡ None)
     → lookup (nat_eq b.page) s.pages ≡ Some p → lookup (nat_eq b.call) s.calls ≡ None → login_after outcome.effects s.login ≡ s.login
-    → s'.rules ≡ s.rules → s'.kept ≡ s.kept → s'.flags ≡ s.flags → s'.time ≡ s.time → s'.cookies ≡ s.cookies → s'.login ≡ s.login
+    → sight_of s' ≡ sight_of s
     → s'.pages ≡ holding b.page b.call (Some (at_stage stage (known_first b))) s.pages
     → s'.calls ≡ insert_entry nat_eq s.calls b.call (at_stage stage (known_first b))
     → Owes s s' T line (Get b.page b.call b.options)
-owes_taken s s' T line b p world outcome stage h effects moved can free found fresh still rules kept_same flags time written login kept_pages kept_calls =
+owes_taken s s' T line b p world outcome stage h effects moved can free found fresh still sight kept_pages kept_calls =
+    let seen = sees s' _ sight in
     let event = Get b.page b.call b.options in
     let does = outcome_effects world (cookies_with T) b.call b.page outcome in
     let es = pending T in
@@ -166,14 +170,14 @@ owes_taken s s' T line b p world outcome stage h effects moved can free found fr
     let begins_of : (q : ℕ) → last_of (begins q) (effects_of T event) ≡ cond (nat_eq q b.call) (Some b) None =
     λ q. ap (last_of (begins q)) effects ∙ ap (λ o. option_or o (cond (nat_eq q b.call) (Some b) None)) (last_silent (begins q) does (outcome_silent (begins q) (λ c p a k. refl) (λ c d. refl) (λ c p u. refl) (λ o s. refl) (λ t k. refl) (λ o k. refl) (λ c p f. refl) (λ w. refl) (λ c s. refl) world (cookies_with T) b.call b.page outcome)) in
     record {
-      rules = rules;
-      kept = kept_same;
-      flags = flags;
+      rules = seen.rules;
+      kept = seen.kept;
+      flags = seen.flags;
       keeps_none = silent_is kept_change (effects_of T event) (Begin b ∷ does) effects (refl, keeps_no_permission world (cookies_with T) b.call b.page outcome can);
       flags_none = silent_is flag_change (effects_of T event) (Begin b ∷ does) effects (refl, sets_no_flag world (cookies_with T) b.call b.page outcome can);
-      time = time ∙ sym (ap (λ o. unwrap_or o s.time) (last_silent time_of (effects_of T event) (silent_is time_of (effects_of T event) (Begin b ∷ does) effects (refl, outcome_silent time_of (λ c p a k. refl) (λ c d. refl) (λ c p u. refl) (λ o s. refl) (λ t k. refl) (λ o k. refl) (λ c p f. refl) (λ w. refl) (λ c s. refl) world (cookies_with T) b.call b.page outcome))));
-      cookies = written ∙ ap (cookies_after s.cookies) (sym (said_silent written_by (effects_of T event) (silent_is written_by (effects_of T event) (Begin b ∷ does) effects (refl, outcome_silent written_by (λ c p a k. refl) (λ c d. refl) (λ c p u. refl) (λ o s. refl) (λ t k. refl) (λ o k. refl) (λ c p f. refl) (λ w. refl) (λ c s. refl) world (cookies_with T) b.call b.page outcome))));
-      login = login ∙ sym (ap (λ xs. entries_after same_origin login_change xs s.login) effects ∙ outcome_logins world (cookies_with T) b.call b.page outcome s.login ∙ still);
+      time = seen.time ∙ sym (ap (λ o. unwrap_or o s.time) (last_silent time_of (effects_of T event) (silent_is time_of (effects_of T event) (Begin b ∷ does) effects (refl, outcome_silent time_of (λ c p a k. refl) (λ c d. refl) (λ c p u. refl) (λ o s. refl) (λ t k. refl) (λ o k. refl) (λ c p f. refl) (λ w. refl) (λ c s. refl) world (cookies_with T) b.call b.page outcome))));
+      cookies = seen.cookies ∙ ap (cookies_after s.cookies) (sym (said_silent written_by (effects_of T event) (silent_is written_by (effects_of T event) (Begin b ∷ does) effects (refl, outcome_silent written_by (λ c p a k. refl) (λ c d. refl) (λ c p u. refl) (λ o s. refl) (λ t k. refl) (λ o k. refl) (λ c p f. refl) (λ w. refl) (λ c s. refl) world (cookies_with T) b.call b.page outcome))));
+      login = seen.login ∙ sym (ap (λ xs. entries_after same_origin login_change xs s.login) effects ∙ outcome_logins world (cookies_with T) b.call b.page outcome s.login ∙ still);
       pages = ap origins_of kept_pages ∙ enter.pages ∙ h.pages ∙ sym (entries_silent nat_eq page_change (effects_of T event) (pages T) (silent_is page_change (effects_of T event) (Begin b ∷ does) effects (refl, outcome_silent page_change (λ c p a k. refl) (λ c d. refl) (λ c p u. refl) (λ o s. refl) (λ t k. refl) (λ o k. refl) (λ c p f. refl) (λ w. refl) (λ c s. refl) world (cookies_with T) b.call b.page outcome)));
       gets = λ q. ap (λ ps. option_to_list (get_of (lookup (nat_eq q) ps))) kept_pages ∙ enter.gets q ∙ ap (calls_of q) (sym calls_is);
       taken = ap numbers_of kept_calls ∙ numbers-insert b.call facts s.calls fresh
@@ -201,41 +205,43 @@ record Comes (outcome : Outcome) : Type 0 where
   stage : Stage
   is : outcome.stage ≡ Some stage
 
-gate_comes : (config wellknown : Parts) (gated : Bool) → Comes (by_gate config wellknown gated)
-gate_comes config wellknown true = record { stage = Ended; is = refl }
-gate_comes config wellknown false = record { stage = Reading; is = refl }
+gate_comes : (place : ℕ) (config wellknown : Parts) (gated : Bool) → Comes (by_gate place config wellknown gated)
+gate_comes place config wellknown true = record { stage = Ended; is = refl }
+gate_comes place config wellknown false = record { stage = Reading; is = refl }
 
-scheme_comes : (scheme : Scheme) (config : Parts) (wellknown : Answer Parts ProviderStep) (gated : Bool) → Comes (by_scheme scheme config wellknown gated)
-scheme_comes Http config wellknown gated = record { stage = Ended; is = refl }
-scheme_comes Https config (Err step) gated = record { stage = Ended; is = refl }
-scheme_comes Https config (Ok wellknown) gated = gate_comes config wellknown gated
+scheme_comes : (place : ℕ) (scheme : Scheme) (config : Parts) (wellknown : Answer Parts ProviderStep) (gated : Bool)
+    → Comes (by_scheme place scheme config wellknown gated)
+scheme_comes place Http config wellknown gated = record { stage = Ended; is = refl }
+scheme_comes place Https config (Err step) gated = record { stage = Ended; is = refl }
+scheme_comes place Https config (Ok wellknown) gated = gate_comes place config wellknown gated
 
-start_comes : (world : World) (mode : Mode) (providers : List ProviderOptions) → length providers ≡ 1 → Comes (start_at world mode (slice_get providers 0))
+start_comes : (world : World) (mode : Mode) (providers : List ProviderOptions) → length providers ≡ 1
+    → Comes (start_at world mode only_place (slice_get providers only_place))
 start_comes world mode [] one = absurd (omega (arith, one))
 start_comes world mode (provider ∷ others) one =
-    scheme_comes (scheme_of provider.config) provider.config (WellKnownUrlOf world.rules provider.config) (is_gated mode (status_of world.login (origin_of provider.config)))
+    scheme_comes only_place (scheme_of provider.config) provider.config (WellKnownUrlOf world.rules provider.config) (is_gated mode (status_of world.login (origin_of provider.config)))
 
 -- a get sets no status
-gate_still : (config wellknown : Parts) (gated : Bool) (logins : Logins) → login_after (by_gate config wellknown gated).effects logins ≡ logins
-gate_still config wellknown true logins = refl
-gate_still config wellknown false logins = refl
+gate_still : (place : ℕ) (config wellknown : Parts) (gated : Bool) (logins : Logins)
+    → login_after (by_gate place config wellknown gated).effects logins ≡ logins
+gate_still place config wellknown true logins = refl
+gate_still place config wellknown false logins = refl
 
-scheme_still : (scheme : Scheme) (config : Parts) (wellknown : Answer Parts ProviderStep) (gated : Bool) (logins : Logins) → login_after (by_scheme scheme config wellknown gated).effects logins ≡ logins
-scheme_still Http config wellknown gated logins = refl
-scheme_still Https config (Err step) gated logins = refl
-scheme_still Https config (Ok wellknown) gated logins = gate_still config wellknown gated logins
+scheme_still : (place : ℕ) (scheme : Scheme) (config : Parts) (wellknown : Answer Parts ProviderStep) (gated : Bool) (logins : Logins)
+    → login_after (by_scheme place scheme config wellknown gated).effects logins ≡ logins
+scheme_still place Http config wellknown gated logins = refl
+scheme_still place Https config (Err step) gated logins = refl
+scheme_still place Https config (Ok wellknown) gated logins = gate_still place config wellknown gated logins
 
-still_at : (world : World) (mode : Mode) (provider : Option ProviderOptions) (logins : Logins) → login_after (start_at world mode provider).effects logins ≡ logins
-still_at world mode None logins = refl
-still_at world mode (Some provider) logins =
-    scheme_still (scheme_of provider.config) provider.config (WellKnownUrlOf world.rules provider.config) (is_gated mode (status_of world.login (origin_of provider.config))) logins
+still_at : (world : World) (mode : Mode) (place : ℕ) (provider : Option ProviderOptions) (logins : Logins)
+    → login_after (start_at world mode place provider).effects logins ≡ logins
+still_at world mode place None logins = refl
+still_at world mode place (Some provider) logins =
+    scheme_still place (scheme_of provider.config) provider.config (WellKnownUrlOf world.rules provider.config) (is_gated mode (status_of world.login (origin_of provider.config))) logins
 
-pub start_still : (world : World) (options : GetOptions) (logins : Logins) → login_after (start_row world options).effects logins ≡ logins
-start_still world options logins = still_at world options.mode (slice_get options.providers 0) logins
-
-pub get_still : (world : World) (busy : Bool) (options : GetOptions) (logins : Logins) → login_after (get_outcome world busy options).effects logins ≡ logins
-get_still world true options logins = refl
-get_still world false options logins = start_still world options logins
+start_still : (world : World) (origin : Origin) (options : GetOptions) (logins : Logins)
+    → login_after (start_row world origin options).effects logins ≡ logins
+start_still world origin options logins = still_at world options.mode only_place (slice_get options.providers only_place) logins
 
 -- what is kept of a get by its stage
 started_is : (b : Begun) (outcome : Outcome) (stage : Stage) → outcome.stage ≡ Some stage → started b.call b.page b.origin b.options outcome ≡ at_stage stage (known_first b)
@@ -243,62 +249,62 @@ started_is b outcome stage is = ap (λ o. at_stage (unwrap_or o Reading) (known_
 
 pub owes_get : (s s' : State) (T : Trace) (line page call : ℕ) (options : GetOptions) → Stands s T
     → lookup (nat_eq call) s.calls ≡ None → length options.providers ≡ 1
-    → s'.rules ≡ s.rules → s'.kept ≡ s.kept → s'.flags ≡ s.flags → s'.time ≡ s.time → s'.cookies ≡ s.cookies → s'.login ≡ s.login
-    → s'.pages ≡ holding page call (get_kept (world_kept s) (lookup (nat_eq page) s.pages) page call options) s.pages
-    → s'.calls ≡ with_new call (get_kept (world_kept s) (lookup (nat_eq page) s.pages) page call options) s.calls
+    → sight_of s' ≡ sight_of s
+    → s'.pages ≡ holding page call (get_kept (world_in (sight_of s)) (lookup (nat_eq page) s.pages) page call options) s.pages
+    → s'.calls ≡ with_new call (get_kept (world_in (sight_of s)) (lookup (nat_eq page) s.pages) page call options) s.calls
     → Owes s s' T line (Get page call options)
-owes_get s s' T line page call options h fresh one rules kept_same flags time written login kept_pages kept_calls = go (lookup (nat_eq page) s.pages) refl
+owes_get s s' T line page call options h fresh one sight kept_pages kept_calls = go (lookup (nat_eq page) s.pages) refl
   where
-    is_effects : effects_of T (Get page call options) ≡ get_at (world_kept s) (cookies_with T) (lookup (nat_eq page) s.pages) page call options
+    is_effects : effects_of T (Get page call options) ≡ get_at (world_in (sight_of s)) (cookies_with T) (lookup (nat_eq page) s.pages) page call options
     is_effects = sym (get_at-stands s T page call options h)
 
     busy : (p : kept.Page) → lookup (nat_eq page) s.pages ≡ Some p → (get : Option ℕ) → p.get ≡ get
-        → effects_of T (Get page call options) ≡ standing_get (world_kept s) (cookies_with T) true (is_some get) (record { call = call; page = page; origin = p.origin; options = options })
-        → s'.pages ≡ holding page call (Some (begun_as (world_kept s) (is_some get) page call p.origin options)) s.pages
-        → s'.calls ≡ insert_entry nat_eq s.calls call (begun_as (world_kept s) (is_some get) page call p.origin options)
+        → effects_of T (Get page call options) ≡ standing_get (world_in (sight_of s)) (cookies_with T) true (is_some get) (record { call = call; page = page; origin = p.origin; options = options })
+        → s'.pages ≡ holding page call (Some (begun_as (world_in (sight_of s)) (is_some get) page call p.origin options)) s.pages
+        → s'.calls ≡ insert_entry nat_eq s.calls call (begun_as (world_in (sight_of s)) (is_some get) page call p.origin options)
         → Owes s s' T line (Get page call options)
     busy p found (Some other) is effects kept_pages kept_calls =
         let b : Begun = record { call = call; page = page; origin = p.origin; options = options } in
-        owes_taken s s' T line b p (world_kept s) (get_outcome (world_kept s) true options) Ended h effects refl (get_can_apply (world_kept s) true options) (inl refl) found fresh refl rules kept_same flags time written login kept_pages kept_calls
+        owes_taken s s' T line b p (world_in (sight_of s)) (get_outcome (world_in (sight_of s)) true p.origin options) Ended h effects refl (get_can_apply (world_in (sight_of s)) true p.origin options) (inl refl) found fresh refl sight kept_pages kept_calls
     busy p found None is effects kept_pages kept_calls =
         let b : Begun = record { call = call; page = page; origin = p.origin; options = options } in
-        let comes = start_comes (world_kept s) options.mode options.providers one in
-        let begun_is = started_is b (start_row (world_kept s) options) comes.stage comes.is in
-        owes_taken s s' T line b p (world_kept s) (start_row (world_kept s) options) comes.stage h effects comes.is (get_can_apply (world_kept s) false options) (inr is) found fresh (start_still (world_kept s) options s.login) rules kept_same flags time written login
+        let comes = start_comes (world_in (sight_of s)) options.mode options.providers one in
+        let begun_is = started_is b (start_row (world_in (sight_of s)) p.origin options) comes.stage comes.is in
+        owes_taken s s' T line b p (world_in (sight_of s)) (start_row (world_in (sight_of s)) p.origin options) comes.stage h effects comes.is (get_can_apply (world_in (sight_of s)) false p.origin options) (inr is) found fresh (start_still (world_in (sight_of s)) p.origin options s.login) sight
         (kept_pages ∙ ap (λ facts. holding page call (Some facts) s.pages) begun_is) (kept_calls ∙ ap (insert_entry nat_eq s.calls call) begun_is)
 
     trusted : (p : kept.Page) → lookup (nat_eq page) s.pages ≡ Some p → (t : Bool) → is_trustworthy p.origin ≡ t
-        → effects_of T (Get page call options) ≡ standing_get (world_kept s) (cookies_with T) t (is_some p.get) (record { call = call; page = page; origin = p.origin; options = options })
-        → s'.pages ≡ holding page call (standing_kept (world_kept s) t (is_some p.get) page call p.origin options) s.pages
-        → s'.calls ≡ with_new call (standing_kept (world_kept s) t (is_some p.get) page call p.origin options) s.calls
+        → effects_of T (Get page call options) ≡ standing_get (world_in (sight_of s)) (cookies_with T) t (is_some p.get) (record { call = call; page = page; origin = p.origin; options = options })
+        → s'.pages ≡ holding page call (standing_kept (world_in (sight_of s)) t (is_some p.get) page call p.origin options) s.pages
+        → s'.calls ≡ with_new call (standing_kept (world_in (sight_of s)) t (is_some p.get) page call p.origin options) s.calls
         → Owes s s' T line (Get page call options)
-    trusted p found false is effects kept_pages kept_calls = owes_ignored s s' T line page call options PageInsecure h effects rules kept_same flags time written login kept_pages kept_calls
+    trusted p found false is effects kept_pages kept_calls = owes_ignored s s' T line page call options PageInsecure h effects sight kept_pages kept_calls
     trusted p found true is effects kept_pages kept_calls = busy p found p.get refl effects kept_pages kept_calls
 
     go : (found : Option kept.Page) → lookup (nat_eq page) s.pages ≡ found → Owes s s' T line (Get page call options)
     go None is =
-        owes_ignored s s' T line page call options NoPage h (is_effects ∙ ap (λ o. get_at (world_kept s) (cookies_with T) o page call options) is) rules kept_same flags time written login
-        (kept_pages ∙ ap (λ o. holding page call (get_kept (world_kept s) o page call options) s.pages) is) (kept_calls ∙ ap (λ o. with_new call (get_kept (world_kept s) o page call options) s.calls) is)
+        owes_ignored s s' T line page call options NoPage h (is_effects ∙ ap (λ o. get_at (world_in (sight_of s)) (cookies_with T) o page call options) is) sight
+        (kept_pages ∙ ap (λ o. holding page call (get_kept (world_in (sight_of s)) o page call options) s.pages) is) (kept_calls ∙ ap (λ o. with_new call (get_kept (world_in (sight_of s)) o page call options) s.calls) is)
     go (Some p) is =
-        trusted p is (is_trustworthy p.origin) refl (is_effects ∙ ap (λ o. get_at (world_kept s) (cookies_with T) o page call options) is)
-        (kept_pages ∙ ap (λ o. holding page call (get_kept (world_kept s) o page call options) s.pages) is) (kept_calls ∙ ap (λ o. with_new call (get_kept (world_kept s) o page call options) s.calls) is)
+        trusted p is (is_trustworthy p.origin) refl (is_effects ∙ ap (λ o. get_at (world_in (sight_of s)) (cookies_with T) o page call options) is)
+        (kept_pages ∙ ap (λ o. holding page call (get_kept (world_in (sight_of s)) o page call options) s.pages) is) (kept_calls ∙ ap (λ o. with_new call (get_kept (world_in (sight_of s)) o page call options) s.calls) is)
 
 -- ---- records
 
 -- the records of a get of a page that stands and is trustworthy
 pub get_records : (line : ℕ) (world : World) (cookies : Ask → List ℕ) (found : Option kept.Page) (p : kept.Page) (page call : ℕ) (options : GetOptions) → found ≡ Some p → is_trustworthy p.origin ≡ true
-    → call_records line cookies call page (get_outcome world (is_some p.get) options).effects ≡ records_of line (get_at world cookies found page call options)
+    → call_records line cookies call page (get_outcome world (is_some p.get) p.origin options).effects ≡ records_of line (get_at world cookies found page call options)
 get_records line world cookies found p page call options is trusted =
-    sym (outcome_records line world cookies call page (get_outcome world (is_some p.get) options))
+    sym (outcome_records line world cookies call page (get_outcome world (is_some p.get) p.origin options))
     ∙ ap (λ t. records_of line (standing_get world cookies t (is_some p.get) (record { call = call; page = page; origin = p.origin; options = options }))) (sym trusted)
     ∙ ap (λ o. records_of line (get_at world cookies o page call options)) (sym is)
 
 -- by what is seen of a session they are those of the row
 pub get_records-stand : (s : State) (T : Trace) (line page call : ℕ) (options : GetOptions) → Stands s T
-    → records_of line (get_at (world_kept s) (cookies_by s.rules s.time s.cookies) (lookup (nat_eq page) s.pages) page call options) ≡ records_of line (effects_of T (Get page call options))
+    → records_of line (get_at (world_in (sight_of s)) (cookies_of (sight_of s)) (lookup (nat_eq page) s.pages) page call options) ≡ records_of line (effects_of T (Get page call options))
 get_records-stand s T line page call options h =
     let found = lookup (nat_eq page) s.pages in
-    ap (records_of line) (same_get (cookies_by s.rules s.time s.cookies) (cookies_with T) (λ ask. cookies_same s T ask h) (world_kept s) (option_map (λ p. p.origin) found) (is_some (get_of found)) page call options)
+    ap (records_of line) (same_get (cookies_of (sight_of s)) (cookies_with T) (λ ask. cookies_same s T ask h) (world_in (sight_of s)) (option_map (λ p. p.origin) found) (is_some (get_of found)) page call options)
     ∙ ap (records_of line) (get_at-stands s T page call options h)
 
 -- a call that the session never took began in no row

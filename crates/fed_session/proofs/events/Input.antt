@@ -6,7 +6,6 @@ use Rattle.std.specs.Option.{option_to_list, option_map_or}
 use Rattle.std.specs.Map.{lookup, set_value}
 use Rattle.std.specs.List.{filter_map, list_any}
 use Rattle.indexmap.specs.IndexMap.{shift_remove_entry}
-use Rattle.fed_origin.specs.declared.stage.ReplyKind.{ReplyKind}
 use Rattle.fed_origin.specs.declared.stage.Stage.{Stage}
 use Rattle.fed_origin.specs.declared.stage.Stage.TheVariants.{Ended}
 use Rattle.fed_origin.specs.Origin.{same_origin}
@@ -16,10 +15,10 @@ use Rattle.fed_consent.specs.declared.table.ask.Ask.{Ask}
 use Rattle.fed_consent.specs.declared.table.input.Input.{Input}
 use Rattle.fed_consent.specs.declared.table.why.Why.{Why}
 use Rattle.fed_consent.specs.declared.table.why.Why.TheVariants.{NoCall, CallEnded}
-use Rattle.fed_call.specs.Facts.{Facts, at_stage, with_input, facts_after, Outcome}
+use Rattle.fed_call.specs.Facts.{Facts, at_stage, with_input, facts_after}
+use Rattle.fed_consent.specs.Outcomes.{Outcome}
 use Rattle.fed_call.specs.Row.{call_row}
 use Rattle.fed_script.specs.declared.event.Event.{Event}
-use Rattle.fed_consent.specs.declared.table.input.Input.TheVariants as inputs
 use Rattle.fed_call.specs.Facts as call_facts
 use Rattle.fed_script.specs.declared.event.Event.TheVariants as events
 use Rattle.fed_trace.specs.Effect.{Ignored, last_of, page_change, login_change, kept_change, flag_change, call_change, stage_change, begun_by, begins, written_by, time_of, is_ignored}
@@ -28,9 +27,10 @@ use Rattle.fed_trace.specs.Known.{world_at, is_begun, input_of, for_call, input_
 use Rattle.fed_trace.specs.Records.{records_of}
 use Rattle.fed_trace.specs.Row.{IsNew, effects_of, with_event, cookies_with, outcome_effects, moves, input_effects, brought_effects}
 use Rattle.fed_session.specs.Session.{State, Stands, origins_of, get_of, numbers_of, pending_calls, kept_at}
-use Rattle.fed_session.specs.StepParts.{CanApplyAll, world_kept, cookies_by, call_records, login_after, outcome_at, with_ended, kept_after, input_at, input_kept, freed, freed_by, with_kept, without_call}
+use Rattle.fed_session.specs.StepParts.{CanApplyAll, sight_of, world_in, cookies_of, call_records, login_after, outcome_at, with_ended, kept_after, input_at, input_kept, freed, freed_by, with_kept, without_call}
 use Rattle.fed_trace.specs.Trace.{Trace, pages, pending, stage_at, calls_of}
 use Rattle.fed_session.specs.declared.page.Page as kept
+use Rattle.fed_session.specs.declared.sight.Sight.{Sight}
 use Rattle.fed_trace.proofs.keyed.Entries.{lookup-set_value, set_absent, set_again, set_same}
 use Rattle.fed_session.proofs.kept.Calls.{with_kept-is, numbers-set_value, pending-set_ended}
 use Rattle.fed_session.proofs.events.Event.{calls_distinct}
@@ -42,7 +42,7 @@ use Rattle.fed_session.proofs.clauses.Outcome.{outcome_logins, outcome_records}
 use Rattle.fed_session.proofs.kept.Pages.{origins_of-set_value}
 use Rattle.fed_trace.proofs.calls.Pending.{outcome_silent, outcome_begins_none, calls_of-remove_other, is_listed, calls_of-remove_same}
 use Rattle.fed_session.proofs.clauses.Sets.{keeps_no_permission, sets_no_flag, row_can_apply}
-use Rattle.fed_session.proofs.clauses.Sight.{cookies_same}
+use Rattle.fed_session.proofs.clauses.Sight.{sees, cookies_same}
 use Rattle.fed_trace.proofs.effects.Same.{same_input}
 use Rattle.fed_trace.proofs.effects.Silent.{AllSilent, entries_silent, said_silent, last_silent, silent_is}
 use Rattle.fed_session.proofs.stands.Stands.{Owes, owes_aside}
@@ -85,21 +85,22 @@ begun_kept k (c ∷ cs) = go (begun_kept k cs) (nat_eq k c.0)
 
 -- the effects of an input by what the session keeps are those by the trace
 pub input_at-stands : (s : State) (T : Trace) (call : ℕ) (input : Input) → Stands s T
-    → input_at (world_kept s) (cookies_by s.rules s.time s.cookies) (lookup (nat_eq call) s.calls) call input
+    → input_at (world_in (sight_of s)) (cookies_of (sight_of s)) (lookup (nat_eq call) s.calls) call input
     ≡ input_effects (world_at T) (cookies_with T) (is_begun T call) call (facts_at T call) input
 input_at-stands s T call input h =
     let taken_is : is_some (lookup (nat_eq call) s.calls) ≡ is_begun T call = sym (begun_kept call s.calls) ∙ ap (list_any (nat_eq call)) h.taken in
-    ap (λ w. input_at w (cookies_by s.rules s.time s.cookies) (lookup (nat_eq call) s.calls) call input) (world_same s T h)
-    ∙ same_input (cookies_by s.rules s.time s.cookies) (cookies_with T) (λ ask. cookies_same s T ask h) (world_at T) (is_some (lookup (nat_eq call) s.calls)) call (kept_at call s.calls) input
+    ap (λ w. input_at w (cookies_of (sight_of s)) (lookup (nat_eq call) s.calls) call input) (world_same s T h)
+    ∙ same_input (cookies_of (sight_of s)) (cookies_with T) (λ ask. cookies_same s T ask h) (world_at T) (is_some (lookup (nat_eq call) s.calls)) call (kept_at call s.calls) input
     ∙ ap (λ b. input_effects (world_at T) (cookies_with T) b call (kept_at call s.calls) input) taken_is
     ∙ ap (λ f. input_effects (world_at T) (cookies_with T) (is_begun T call) call f input) (h.facts call)
 
 -- ---- an input that is not taken
 
 owes_refused : (s s' : State) (T : Trace) (line : ℕ) (event : Event) (why : Why) → Stands s T → effects_of T event ≡ Ignored why ∷ []
-    → s'.rules ≡ s.rules → s'.kept ≡ s.kept → s'.flags ≡ s.flags → s'.time ≡ s.time → s'.cookies ≡ s.cookies → s'.login ≡ s.login → s'.pages ≡ s.pages → s'.calls ≡ s.calls
+    → sight_of s' ≡ sight_of s → s'.pages ≡ s.pages → s'.calls ≡ s.calls
     → Owes s s' T line event
-owes_refused s s' T line event why h is rules kept_same flags time written login kept_pages kept_calls =
+owes_refused s s' T line event why h is sight kept_pages kept_calls =
+    let seen = sees s' _ sight in
     owes_aside s s' T line event h
     (record {
       pages = subst (AllSilent page_change) (sym is) (refl, tt);
@@ -111,10 +112,10 @@ owes_refused s s' T line event why h is rules kept_same flags time written login
       flags = subst (AllSilent flag_change) (sym is) (refl, tt);
       inputs = λ q f. ap (λ xs. with_said (world_at T) (list_any is_ignored xs) (input_to q event) f) is ∙ ignored_says (world_at T) (input_to q event) f;
     })
-    rules kept_same flags
-    (time ∙ sym (ap (λ xs. unwrap_or (last_of time_of xs) s.time) is))
-    (written ∙ sym (ap (λ xs. cookies_after s.cookies (filter_map written_by xs)) is))
-    (login ∙ sym (ap (λ xs. entries_after same_origin login_change xs s.login) is))
+    seen.rules seen.kept seen.flags
+    (seen.time ∙ sym (ap (λ xs. unwrap_or (last_of time_of xs) s.time) is))
+    (seen.cookies ∙ sym (ap (λ xs. cookies_after s.cookies (filter_map written_by xs)) is))
+    (seen.login ∙ sym (ap (λ xs. entries_after same_origin login_change xs s.login) is))
     kept_pages kept_calls
 
 -- ---- an input of a pending call
@@ -256,11 +257,12 @@ leaves world call facts input ignored (Some stage) ps cs es going found distinct
 
 owes_pending : (s s' : State) (T : Trace) (line : ℕ) (event : Event) (call : ℕ) (input : Input) (facts : Facts) (outcome : Outcome) → Stands s T → Brings T event call input → CanApplyAll outcome.effects
     → effects_of T event ≡ outcome_effects (world_at T) (cookies_with T) call facts.page outcome → lookup (nat_eq call) s.calls ≡ Some (Some facts)
-    → s'.rules ≡ s.rules → s'.kept ≡ s.kept → s'.flags ≡ s.flags → s'.time ≡ s.time → s'.cookies ≡ s.cookies → s'.login ≡ login_after outcome.effects s.login
+    → sight_of s' ≡ record (sight_of s) { login = login_after outcome.effects s.login }
     → s'.pages ≡ freed (Some facts) (facts_after (world_at T) facts input outcome) s.pages
     → s'.calls ≡ set_value (nat_eq call) s.calls (facts_after (world_at T) facts input outcome)
     → Owes s s' T line event
-owes_pending s s' T line event call input facts outcome h brings can effects found rules kept_same flags time written login kept_pages kept_calls =
+owes_pending s s' T line event call input facts outcome h brings can effects found sight kept_pages kept_calls =
+    let seen = sees s' _ sight in
     let ignored = list_any call_facts.is_ignored outcome.effects in
     let after = facts_after (world_at T) facts input outcome in
     let does = outcome_effects (world_at T) (cookies_with T) call facts.page outcome in
@@ -275,14 +277,14 @@ owes_pending s s' T line event call input facts outcome h brings can effects fou
     λ q f. ap (λ xs. with_said (world_at T) (list_any is_ignored xs) (input_to q event) f) effects ∙ ap (λ b. with_said (world_at T) b (input_to q event) f) (ignored_outcome (world_at T) (cookies_with T) call facts.page outcome)
     ∙ ap (λ i. with_said (world_at T) ignored i f) (brings.inputs q) in
     record {
-      rules = rules;
-      kept = kept_same;
-      flags = flags;
+      rules = seen.rules;
+      kept = seen.kept;
+      flags = seen.flags;
       keeps_none = silent_is kept_change (effects_of T event) does effects (keeps_no_permission (world_at T) (cookies_with T) call facts.page outcome can);
       flags_none = silent_is flag_change (effects_of T event) does effects (sets_no_flag (world_at T) (cookies_with T) call facts.page outcome can);
-      time = time ∙ sym (ap (λ o. unwrap_or o s.time) (last_silent time_of (effects_of T event) (silent_is time_of (effects_of T event) does effects (outcome_silent time_of (λ c p a k. refl) (λ c d. refl) (λ c p u. refl) (λ o s. refl) (λ t k. refl) (λ o k. refl) (λ c p f. refl) (λ w. refl) (λ c s. refl) (world_at T) (cookies_with T) call facts.page outcome))));
-      cookies = written ∙ ap (cookies_after s.cookies) (sym (said_silent written_by (effects_of T event) (silent_is written_by (effects_of T event) does effects (outcome_silent written_by (λ c p a k. refl) (λ c d. refl) (λ c p u. refl) (λ o s. refl) (λ t k. refl) (λ o k. refl) (λ c p f. refl) (λ w. refl) (λ c s. refl) (world_at T) (cookies_with T) call facts.page outcome))));
-      login = login ∙ sym (ap (λ xs. entries_after same_origin login_change xs s.login) effects ∙ outcome_logins (world_at T) (cookies_with T) call facts.page outcome s.login);
+      time = seen.time ∙ sym (ap (λ o. unwrap_or o s.time) (last_silent time_of (effects_of T event) (silent_is time_of (effects_of T event) does effects (outcome_silent time_of (λ c p a k. refl) (λ c d. refl) (λ c p u. refl) (λ o s. refl) (λ t k. refl) (λ o k. refl) (λ c p f. refl) (λ w. refl) (λ c s. refl) (world_at T) (cookies_with T) call facts.page outcome))));
+      cookies = seen.cookies ∙ ap (cookies_after s.cookies) (sym (said_silent written_by (effects_of T event) (silent_is written_by (effects_of T event) does effects (outcome_silent written_by (λ c p a k. refl) (λ c d. refl) (λ c p u. refl) (λ o s. refl) (λ t k. refl) (λ o k. refl) (λ c p f. refl) (λ w. refl) (λ c s. refl) (world_at T) (cookies_with T) call facts.page outcome))));
+      login = seen.login ∙ sym (ap (λ xs. entries_after same_origin login_change xs s.login) effects ∙ outcome_logins (world_at T) (cookies_with T) call facts.page outcome s.login);
       pages = ap origins_of kept_pages ∙ leave.pages ∙ h.pages ∙ sym (entries_silent nat_eq page_change (effects_of T event) (pages T) (silent_is page_change (effects_of T event) does effects (outcome_silent page_change (λ c p a k. refl) (λ c d. refl) (λ c p u. refl) (λ o s. refl) (λ t k. refl) (λ o k. refl) (λ c p f. refl) (λ w. refl) (λ c s. refl) (world_at T) (cookies_with T) call facts.page outcome)));
       gets = λ q. ap (λ ps. option_to_list (get_of (lookup (nat_eq q) ps))) kept_pages ∙ leave.gets q ∙ ap (calls_of q) (sym calls_is);
       taken = ap numbers_of kept_calls ∙ numbers-set_value call after s.calls ∙ sym (append-nil (numbers_of s.calls))
@@ -341,13 +343,15 @@ pending_records line world cookies call page input (Some facts) found is at =
 -- ---- an input, whole
 
 pub owes_input : (s s' : State) (T : Trace) (line : ℕ) (event : Event) (call : ℕ) (input : Input) → Stands s T → Brings T event call input
-    → s'.rules ≡ s.rules → s'.kept ≡ s.kept → s'.flags ≡ s.flags → s'.time ≡ s.time → s'.cookies ≡ s.cookies
-    → s'.login ≡ login_after (outcome_at (world_kept s) (lookup (nat_eq call) s.calls) input).effects s.login
-    → s'.pages ≡ freed_by (world_kept s) (lookup (nat_eq call) s.calls) input s.pages
-    → s'.calls ≡ input_kept (world_kept s) call input s.calls
+    → sight_of s' ≡ record (sight_of s) { login = login_after (outcome_at (world_in (sight_of s)) (lookup (nat_eq call) s.calls) input).effects s.login }
+    → s'.pages ≡ freed_by (world_in (sight_of s)) (lookup (nat_eq call) s.calls) input s.pages
+    → s'.calls ≡ input_kept (world_in (sight_of s)) call input s.calls
     → Owes s s' T line event
-owes_input s s' T line event call input h brings rules kept_same flags time written login kept_pages kept_calls = go (lookup (nat_eq call) s.calls) refl
+owes_input s s' T line event call input h brings sight kept_pages kept_calls = go (lookup (nat_eq call) s.calls) refl
   where
+    set : Outcome → Sight
+    set outcome = record (sight_of s) { login = login_after outcome.effects s.login }
+
     cookies : Ask → List ℕ
     cookies = cookies_with T
 
@@ -361,33 +365,33 @@ owes_input s s' T line event call input h brings rules kept_same flags time writ
     effects_at found is = is_effects ∙ ap (λ o. input_effects (world_at T) cookies (is_some o) call (option_and_then (λ kept. kept) o) input) is
 
     calls_at : (found : Option (Option Facts)) → lookup (nat_eq call) s.calls ≡ found
-        → s'.calls ≡ set_value (nat_eq call) s.calls (kept_after (world_kept s) (option_and_then (λ kept. kept) found) input)
+        → s'.calls ≡ set_value (nat_eq call) s.calls (kept_after (world_in (sight_of s)) (option_and_then (λ kept. kept) found) input)
     calls_at found is =
-        kept_calls ∙ with_kept-is call (kept_after (world_kept s) (kept_at call s.calls) input) s.calls
-        ∙ ap (λ o. set_value (nat_eq call) s.calls (kept_after (world_kept s) (option_and_then (λ kept. kept) o) input)) is
+        kept_calls ∙ with_kept-is call (kept_after (world_in (sight_of s)) (kept_at call s.calls) input) s.calls
+        ∙ ap (λ o. set_value (nat_eq call) s.calls (kept_after (world_in (sight_of s)) (option_and_then (λ kept. kept) o) input)) is
 
-    login_at : (found : Option (Option Facts)) → lookup (nat_eq call) s.calls ≡ found → s'.login ≡ login_after (outcome_at (world_kept s) found input).effects s.login
-    login_at found is = login ∙ ap (λ o. login_after (outcome_at (world_kept s) o input).effects s.login) is
+    sight_at : (found : Option (Option Facts)) → lookup (nat_eq call) s.calls ≡ found → sight_of s' ≡ set (outcome_at (world_in (sight_of s)) found input)
+    sight_at found is = sight ∙ ap (λ o. set (outcome_at (world_in (sight_of s)) o input)) is
 
     go : (found : Option (Option Facts)) → lookup (nat_eq call) s.calls ≡ found → Owes s s' T line event
     go None is =
-        owes_refused s s' T line event NoCall h (effects_at None is) rules kept_same flags time written (login_at None is)
-        (kept_pages ∙ ap (λ o. freed_by (world_kept s) o input s.pages) is)
+        owes_refused s s' T line event NoCall h (effects_at None is) (sight_at None is)
+        (kept_pages ∙ ap (λ o. freed_by (world_in (sight_of s)) o input s.pages) is)
         (calls_at None is ∙ set_absent call None s.calls is)
     go (Some None) is =
-        owes_refused s s' T line event CallEnded h (effects_at (Some None) is) rules kept_same flags time written (login_at (Some None) is)
-        (kept_pages ∙ ap (λ o. freed_by (world_kept s) o input s.pages) is)
+        owes_refused s s' T line event CallEnded h (effects_at (Some None) is) (sight_at (Some None) is)
+        (kept_pages ∙ ap (λ o. freed_by (world_in (sight_of s)) o input s.pages) is)
         (calls_at (Some None) is ∙ set_same call None s.calls is)
     go (Some (Some facts)) is =
         let world = world_same s T h in
-        owes_pending s s' T line event call input facts (call_row (world_at T) (Some facts) input) h brings (row_can_apply (world_at T) (Some facts) input) (effects_at (Some (Some facts)) is) is rules kept_same flags time written
-        (login_at (Some (Some facts)) is ∙ ap (λ w. login_after (call_row w (Some facts) input).effects s.login) world)
-        (kept_pages ∙ ap (λ o. freed_by (world_kept s) o input s.pages) is ∙ ap (λ w. freed (Some facts) (kept_after w (Some facts) input) s.pages) world)
+        owes_pending s s' T line event call input facts (call_row (world_at T) (Some facts) input) h brings (row_can_apply (world_at T) (Some facts) input) (effects_at (Some (Some facts)) is) is
+        (sight_at (Some (Some facts)) is ∙ ap (λ w. set (call_row w (Some facts) input)) world)
+        (kept_pages ∙ ap (λ o. freed_by (world_in (sight_of s)) o input s.pages) is ∙ ap (λ w. freed (Some facts) (kept_after w (Some facts) input) s.pages) world)
         (calls_at (Some (Some facts)) is ∙ ap (λ w. set_value (nat_eq call) s.calls (kept_after w (Some facts) input)) world)
 
 -- ---- what is seen of a session
 
 -- the records of an input
 pub input_records : (s : State) (T : Trace) (line : ℕ) (event : Event) (call : ℕ) (input : Input) → Stands s T → Brings T event call input
-    → records_of line (input_at (world_kept s) (cookies_by s.rules s.time s.cookies) (lookup (nat_eq call) s.calls) call input) ≡ records_of line (effects_of T event)
+    → records_of line (input_at (world_in (sight_of s)) (cookies_of (sight_of s)) (lookup (nat_eq call) s.calls) call input) ≡ records_of line (effects_of T event)
 input_records s T line event call input h brings = ap (records_of line) (input_at-stands s T call input h ∙ sym brings.effects)

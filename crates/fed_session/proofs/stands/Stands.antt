@@ -16,11 +16,13 @@ use Rattle.fed_trace.specs.Keyed.{entries_after}
 use Rattle.fed_trace.specs.Known.{facts_at}
 use Rattle.fed_trace.specs.Row.{effects_of, with_event, IsNew}
 use Rattle.fed_session.specs.Session.{State, Stands, origins_of, get_of, numbers_of, pending_calls, kept_at}
+use Rattle.fed_session.specs.StepParts.{sight_of}
 use Rattle.fed_trace.specs.Trace.{Trace, pages, pending, last_in, calls_of, writes, standing}
 use Rattle.fed_trace.proofs.keyed.Keyed.{unwrap_or-option_or}
 use Rattle.fed_trace.proofs.effects.Silent.{AllSilent, entries_silent, said_silent, last_silent, last_said_silent}
 use Rattle.fed_trace.proofs.known.Known.{facts_same}
 use Rattle.fed_trace.proofs.events.Aside.{IsAside}
+use Rattle.fed_session.proofs.clauses.Sight.{sees}
 
 -- ---- one event more
 
@@ -72,19 +74,20 @@ stands_after s s' T line event h new alive steps o =
     }
 
 -- before the first event
-pub stands_new : (s : State) (header : Header) → s.alive ≡ true → s.steps ≡ 0 → s.rules ≡ header.rules → s.time ≡ header.now → s.cookies ≡ [] → s.login ≡ [] → s.kept ≡ [] → s.flags ≡ [] → s.pages ≡ [] → s.calls ≡ []
+pub stands_new : (s : State) (header : Header) → s.alive ≡ true → s.steps ≡ 0 → sight_of s ≡ record { time = header.now; rules = header.rules; jar = []; login = []; kept = []; flags = [] } → s.pages ≡ [] → s.calls ≡ []
     → Stands s (record { header = header; rows = [] })
-stands_new s header alive steps rules time none login kept_none flags kept_pages calls =
+stands_new s header alive steps sight kept_pages calls =
+    let seen = sees s _ sight in
     record {
       alive = alive;
       run = tt;
       steps = steps;
-      time = time;
-      rules = rules;
-      cookies = none ∙ jar_is_standing [];
-      login = login;
-      kept = kept_none;
-      flags = flags;
+      time = seen.time;
+      rules = seen.rules;
+      cookies = seen.cookies ∙ jar_is_standing [];
+      login = seen.login;
+      kept = seen.kept;
+      flags = seen.flags;
       pages = ap origins_of kept_pages;
       gets = λ page. ap (λ ps. option_to_list (get_of (lookup (nat_eq page) ps))) kept_pages;
       taken = ap numbers_of calls;

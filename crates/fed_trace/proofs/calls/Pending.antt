@@ -22,7 +22,8 @@ use Rattle.fed_consent.specs.declared.table.dialog.Dialog.{Dialog}
 use Rattle.fed_consent.specs.declared.table.finish.Finish.{Finish}
 use Rattle.fed_consent.specs.declared.table.input.Input.{Input}
 use Rattle.fed_consent.specs.declared.table.why.Why.{Why}
-use Rattle.fed_call.specs.Facts.{Facts, Outcome}
+use Rattle.fed_call.specs.Facts.{Facts}
+use Rattle.fed_consent.specs.Outcomes.{Outcome}
 use Rattle.fed_call.specs.Row.{call_row}
 use Rattle.fed_trace.specs.Begun.{Begun}
 use Rattle.fed_trace.specs.Effect.{Effect, Time, Page, Closed, Cookie, Login, Begin, Move, Sent, Shown, Result, Ignored, page_change, login_change, call_change, begun_by, written_by, Kept, Window, Flag}
@@ -179,7 +180,7 @@ outcome_begins_none world cookies call page outcome =
 standing_begins : (world : World) (cookies : Ask → List ℕ) (trusted busy : Bool) (b : Begun) → BeginsAtMost b.call (standing_get world cookies trusted busy b)
 standing_begins world cookies false busy b = inl refl
 standing_begins world cookies true busy b =
-    let outcome = get_outcome world busy b.options in
+    let outcome = get_outcome world busy b.origin b.options in
     inr (ap (λ xs. b.call ∷ xs) (said_silent begun_by (outcome_effects world cookies b.call b.page outcome) (outcome_begins_none world cookies b.call b.page outcome)))
 
 pub get_begins : (world : World) (cookies : Ask → List ℕ) (o : Option Origin) (busy : Bool) (page call : ℕ) (options : GetOptions) → BeginsAtMost call (get_effects world cookies o busy page call options)

@@ -8,7 +8,8 @@ use Rattle.fed_origin.specs.declared.stage.Stage.{Stage}
 use Rattle.fed_origin.specs.declared.stage.Stage.TheVariants.{Reading, Listing, Mismatch, Choosing, Prompting, Asserting, Ended}
 use Rattle.fed_consent.specs.declared.table.ask.Ask.{Ask}
 use Rattle.fed_consent.specs.declared.table.effect.Effect.{Effect as CallEffect}
-use Rattle.fed_call.specs.Facts.{Facts, at_stage, Outcome}
+use Rattle.fed_call.specs.Facts.{Facts, at_stage}
+use Rattle.fed_consent.specs.Outcomes.{Outcome}
 use Rattle.fed_consent.specs.declared.table.effect.Effect.TheVariants as does
 use Rattle.fed_call.specs.Facts as facts
 use Rattle.fed_trace.specs.Effect.{Effect, call_change, stage_change, is_ignored, Kept}

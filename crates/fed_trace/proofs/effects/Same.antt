@@ -46,7 +46,7 @@ same_standing : (a b : Ask → List ℕ) → ((ask : Ask) → a ask ≡ b ask) �
     → standing_get world a trusted busy begun ≡ standing_get world b trusted busy begun
 same_standing a b same world false busy begun = refl
 same_standing a b same world true busy begun =
-    let outcome = get_outcome world busy begun.options in
+    let outcome = get_outcome world busy begun.origin begun.options in
     ap (λ xs. Begin begun ∷ (xs ++ moves begun.call outcome.stage)) (same_effects world a b same begun.call begun.page outcome.effects)
 
 pub same_get : (a b : Ask → List ℕ) → ((ask : Ask) → a ask ≡ b ask) → (world : World) (o : Option Origin) (busy : Bool) (page call : ℕ) (options : GetOptions)

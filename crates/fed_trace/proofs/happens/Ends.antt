@@ -58,7 +58,7 @@ pub record Starts (T : Trace) (event : Event) (call : ℕ) : Type 0 where
   pub stands : page_at T begun.page ≡ Some begun.origin
   pub is_get : event ≡ Get begun.page begun.call begun.options
   pub busy : Bool
-  pub effects : effects_of T event ≡ Begin begun ∷ outcome_effects (world_at T) (cookies_with T) begun.call begun.page (get_outcome (world_at T) busy begun.options)
+  pub effects : effects_of T event ≡ Begin begun ∷ outcome_effects (world_at T) (cookies_with T) begun.call begun.page (get_outcome (world_at T) busy begun.origin begun.options)
 
 -- the event leaves the call as it was
 pub record Leaves (T : Trace) (event : Event) (call : ℕ) : Type 0 where

@@ -11,7 +11,8 @@ use Rattle.fed_status.specs.Shared.{World}
 use Rattle.fed_consent.specs.declared.table.ask.Ask.{Ask}
 use Rattle.fed_consent.specs.declared.table.input.Input.{Input}
 use Rattle.fed_consent.specs.declared.table.input.Input.TheVariants as inputs
-use Rattle.fed_call.specs.Facts.{Facts, Outcome}
+use Rattle.fed_call.specs.Facts.{Facts}
+use Rattle.fed_consent.specs.Outcomes.{Outcome}
 use Rattle.fed_call.specs.Row.{call_row}
 use Rattle.fed_script.specs.declared.event.Event.{Event}
 use Rattle.fed_script.specs.declared.event.Event.TheVariants as events
@@ -64,7 +65,7 @@ happens_get T page call options q (Some origin) is = go (is_trustworthy origin) 
         Started (record { begun = b; is_call = same; stands = is; is_get = refl; busy = is_busy page (pending T); effects = standing true trust })
     taken false key trust =
         left T (Get page call options) q
-        (subst (Quiet q) (sym (standing true trust)) (quiet_begin (world_at T) (cookies_with T) q b key (get_outcome (world_at T) (is_busy page (pending T)) options)))
+        (subst (Quiet q) (sym (standing true trust)) (quiet_begin (world_at T) (cookies_with T) q b key (get_outcome (world_at T) (is_busy page (pending T)) origin options)))
         (λ f. refl) (inl refl) (λ other. refl)
 
     go : (trusted : Bool) → is_trustworthy origin ≡ trusted → Happens T (Get page call options) q
@@ -160,7 +161,7 @@ get_pages world cookies (Some origin) busy page call q options = go (is_trustwor
   where
     go : (trusted : Bool) → last_said nat_eq page_change q (standing_get world cookies trusted busy (record { call = call; page = page; origin = origin; options = options })) ≡ None
     go false = refl
-    go true = ap (λ o. option_or o None) (outcome_pages world cookies call page q (get_outcome world busy options))
+    go true = ap (λ o. option_or o None) (outcome_pages world cookies call page q (get_outcome world busy origin options))
 
 close_pages : (calls : List ℕ) (page q : ℕ) (o : Option Origin) → nat_eq q page ≡ false → last_said nat_eq page_change q (close_effects calls page o) ≡ None
 close_pages calls page q None ne = refl

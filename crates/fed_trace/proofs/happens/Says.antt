@@ -7,7 +7,7 @@ use Rattle.fed_origin.specs.declared.stage.Stage.{Stage}
 use Rattle.fed_origin.specs.declared.stage.Stage.TheVariants.{Reading, Listing, Mismatch, Choosing, Prompting, Asserting, Ended}
 use Rattle.fed_consent.specs.declared.table.ask.Ask.{Ask}
 use Rattle.fed_consent.specs.declared.table.effect.Effect.{Effect as CallEffect}
-use Rattle.fed_call.specs.Facts.{Outcome}
+use Rattle.fed_consent.specs.Outcomes.{Outcome}
 use Rattle.fed_consent.specs.declared.table.finish.Finish.{Finish}
 use Rattle.fed_consent.specs.Consent.{AssertionFields}
 use Rattle.fed_consent.specs.declared.table.ask.Ask.TheVariants as asks

@@ -3,7 +3,8 @@ use Rattle.std.proofs.Common.{◌≡◌, ℕ, nat_eq, Some, None, sym, ap, ◌�
 use Rattle.std.specs.Prelude.{unwrap_or, option_map}
 use Rattle.std.specs.List.{list_any}
 use Rattle.fed_consent.specs.declared.table.input.Input.{Input}
-use Rattle.fed_call.specs.Facts.{Facts, at_stage, with_input, facts_after, Outcome}
+use Rattle.fed_call.specs.Facts.{Facts, at_stage, with_input, facts_after}
+use Rattle.fed_consent.specs.Outcomes.{Outcome}
 use Rattle.fed_call.specs.Row.{call_row, input_row}
 use Rattle.fed_script.specs.declared.event.Event.{Event}
 use Rattle.fed_call.specs.Facts as call_facts

@@ -27,15 +27,15 @@ use Rattle.fed_consent.specs.declared.table.ask.Ask.{Ask}
 use Rattle.fed_consent.specs.declared.table.ask.Ask.TheVariants as asks
 use Rattle.fed_consent.specs.declared.table.effect.Effect.{Effect as CallEffect}
 use Rattle.fed_consent.specs.declared.table.effect.Effect.TheVariants as does
-use Rattle.fed_consent.specs.declared.table.finish.Failure.{Failure}
+use Rattle.fed_consent.specs.declared.table.failure.Failure.{Failure}
 use Rattle.fed_consent.specs.declared.table.input.Input.{Input}
 use Rattle.fed_consent.specs.declared.table.input.Input.TheVariants as inputs
 use Rattle.fed_consent.specs.declared.table.why.Why.{Why}
 use Rattle.fed_consent.specs.Consent.{Candidate}
 use Rattle.fed_call.specs.Accounts.{accounts_of, candidate_of}
-use Rattle.fed_call.specs.Facts.{Facts, at_stage, is_ignored, provider_at, with_candidate, with_accounts, with_list, with_listing, with_choice, with_input, facts_after, config_read, Outcome}
-use Rattle.fed_call.specs.ReadingRows.{wellknown_of, wellknown_read}
-use Rattle.fed_call.specs.Outcomes.{fails, ignored, moves, after}
+use Rattle.fed_call.specs.Facts.{Facts, at_stage, is_ignored, provider_at, with_candidate, with_accounts, with_list, with_listing, with_choice, with_input, facts_after}
+use Rattle.fed_provider.specs.FirstReplies.{config_read, wellknown_of, wellknown_read}
+use Rattle.fed_consent.specs.Outcomes.{Outcome, fails, ignored, moves, after}
 use Rattle.fed_call.specs.ReadingRows.{wellknown_reply, config_reply}
 use Rattle.fed_trace.proofs.effects.Outcome.{Goes, goes_or_ends}
 use Rattle.fed_twin.specs.Providers.{Providers, is_provider}
@@ -307,48 +307,48 @@ own_config p raw url config h known =
 
 -- ---- in Reading
 
-lands_wellknown : (heard : Bool) (config : Option Configuration) (read : Option (Answer (Unit {0}) ProviderStep))
-    → Lands (unwrap_or (wellknown_reply heard config read).stage Reading) config
-lands_wellknown true config read = inr (refl, inl refl)
-lands_wellknown false config None = inr (refl, inl refl)
-lands_wellknown false None (Some (Err step)) = inl refl
-lands_wellknown false (Some config) (Some (Err step)) = inl refl
-lands_wellknown false None (Some (Ok u)) = inr (refl, inl refl)
-lands_wellknown false (Some config) (Some (Ok u)) = inr (refl, inr refl)
+lands_wellknown : (place : ℕ) (heard : Bool) (config : Option Configuration) (read : Option (Answer (Unit {0}) ProviderStep))
+    → Lands (unwrap_or (wellknown_reply place heard config read).stage Reading) config
+lands_wellknown place true config read = inr (refl, inl refl)
+lands_wellknown place false config None = inr (refl, inl refl)
+lands_wellknown place false None (Some (Err step)) = inl refl
+lands_wellknown place false (Some config) (Some (Err step)) = inl refl
+lands_wellknown place false None (Some (Ok u)) = inr (refl, inl refl)
+lands_wellknown place false (Some config) (Some (Ok u)) = inr (refl, inr refl)
 
-own_wellknown : (p : Providers) (heard : Bool) (config : Option Configuration) (read : Option (Answer (Unit {0}) ProviderStep))
-    → IfSome config (λ c. is_provider p (host_of c.accounts) ≡ true) → AllOwn p (wellknown_reply heard config read).effects
-own_wellknown p true config read known = (tt, tt)
-own_wellknown p false config None known = (tt, tt)
-own_wellknown p false None (Some (Err step)) known = (tt, tt)
-own_wellknown p false (Some config) (Some (Err step)) known = (tt, tt)
-own_wellknown p false None (Some (Ok u)) known = tt
-own_wellknown p false (Some config) (Some (Ok u)) known = (known, tt)
+own_wellknown : (p : Providers) (place : ℕ) (heard : Bool) (config : Option Configuration) (read : Option (Answer (Unit {0}) ProviderStep))
+    → IfSome config (λ c. is_provider p (host_of c.accounts) ≡ true) → AllOwn p (wellknown_reply place heard config read).effects
+own_wellknown p place true config read known = (tt, tt)
+own_wellknown p place false config None known = (tt, tt)
+own_wellknown p place false None (Some (Err step)) known = (tt, tt)
+own_wellknown p place false (Some config) (Some (Err step)) known = (tt, tt)
+own_wellknown p place false None (Some (Ok u)) known = tt
+own_wellknown p place false (Some config) (Some (Ok u)) known = (known, tt)
 
 -- the configuration after a reply, by whether it is ignored
 abbrev taken : Bool → Option Configuration → Option (Answer Configuration ProviderStep) → Option Configuration
 taken true old read = old
 taken false old read = option_and_then result_ok read
 
-lands_config : (heard : Bool) (config : Option Configuration) (read : Option (Answer Configuration ProviderStep))
-    → Lands (unwrap_or (config_reply heard config read).stage Reading)
-    (taken (list_any is_ignored (config_reply heard config read).effects) config read)
-lands_config heard (Some config) read = inr (refl, inl refl)
-lands_config heard None None = inr (refl, inl refl)
-lands_config false None (Some (Err step)) = inl refl
-lands_config true None (Some (Err step)) = inl refl
-lands_config false None (Some (Ok config)) = inr (refl, inl refl)
-lands_config true None (Some (Ok config)) = inr (refl, inr refl)
+lands_config : (place : ℕ) (heard : Bool) (config : Option Configuration) (read : Option (Answer Configuration ProviderStep))
+    → Lands (unwrap_or (config_reply place heard config read).stage Reading)
+    (taken (list_any is_ignored (config_reply place heard config read).effects) config read)
+lands_config place heard (Some config) read = inr (refl, inl refl)
+lands_config place heard None None = inr (refl, inl refl)
+lands_config place false None (Some (Err step)) = inl refl
+lands_config place true None (Some (Err step)) = inl refl
+lands_config place false None (Some (Ok config)) = inr (refl, inl refl)
+lands_config place true None (Some (Ok config)) = inr (refl, inr refl)
 
-own_first_config : (p : Providers) (heard : Bool) (config : Option Configuration) (read : Option (Answer Configuration ProviderStep))
+own_first_config : (p : Providers) (place : ℕ) (heard : Bool) (config : Option Configuration) (read : Option (Answer Configuration ProviderStep))
     → IfSome (option_and_then result_ok read) (λ c. is_provider p (host_of c.accounts) ≡ true)
-    → AllOwn p (config_reply heard config read).effects
-own_first_config p heard (Some config) read known = (tt, tt)
-own_first_config p heard None None known = (tt, tt)
-own_first_config p false None (Some (Err step)) known = (tt, tt)
-own_first_config p true None (Some (Err step)) known = (tt, tt)
-own_first_config p false None (Some (Ok config)) known = tt
-own_first_config p true None (Some (Ok config)) known = (known, tt)
+    → AllOwn p (config_reply place heard config read).effects
+own_first_config p place heard (Some config) read known = (tt, tt)
+own_first_config p place heard None None known = (tt, tt)
+own_first_config p place false None (Some (Err step)) known = (tt, tt)
+own_first_config p place true None (Some (Err step)) known = (tt, tt)
+own_first_config p place false None (Some (Ok config)) known = tt
+own_first_config p place true None (Some (Ok config)) known = (known, tt)
 
 own_read : (p : Providers) (raw : List ℕ) (q q' : Option ProviderOptions) → IfBoth (SameProvider p) q q'
     → IfSome (option_and_then result_ok (config_read raw q)) (λ c. is_provider p (host_of c.accounts) ≡ true)
@@ -387,20 +387,20 @@ module _ (p : Providers) (w w' : World) (agree : AgreeWorlds p w w') (f f' : Fac
 
   pub keeps_wellknown : (place : ℕ) (raw : List ℕ) → f.stage ≡ Reading
       → Keeps p w w' f f' (inputs.Reply place kinds.WellKnown raw) (inputs.Reply place kinds.WellKnown raw)
-      (wellknown_reply f.heard f.config (wellknown_of w.rules raw (provider_at place f.options)))
-      (wellknown_reply f'.heard f'.config (wellknown_of w'.rules raw (provider_at place f'.options)))
+      (wellknown_reply place f.heard f.config (wellknown_of w.rules raw (provider_at place f.options)))
+      (wellknown_reply place f'.heard f'.config (wellknown_of w'.rules raw (provider_at place f'.options)))
   keeps_wellknown place raw at =
       let i = inputs.Reply place kinds.WellKnown raw in
       let read = wellknown_of w.rules raw (provider_at place f.options) in
-      let o = wellknown_reply f.heard f.config read in
-      let same : o ≡ wellknown_reply f'.heard f'.config (wellknown_of w'.rules raw (provider_at place f'.options)) =
-      ap (λ h. wellknown_reply h f.config read) s.said.heard ∙ ap (λ c. wellknown_reply f'.heard c read) s.said.config
-      ∙ ap (wellknown_reply f'.heard f'.config) (wellknowns_same place raw) in
+      let o = wellknown_reply place f.heard f.config read in
+      let same : o ≡ wellknown_reply place f'.heard f'.config (wellknown_of w'.rules raw (provider_at place f'.options)) =
+      ap (λ h. wellknown_reply place h f.config read) s.said.heard ∙ ap (λ c. wellknown_reply place f'.heard c read) s.said.config
+      ∙ ap (wellknown_reply place f'.heard f'.config) (wellknowns_same place raw) in
       subst (Keeps p w w' f f' i i o) same
-      (keeps_row p w w' f f' s i i o (own_wellknown p f.heard f.config read s.said.known) (heard_by place raw)
+      (keeps_row p w w' f f' s i i o (own_wellknown p place f.heard f.config read s.said.known) (heard_by place raw)
       (subst (λ st. Lands (unwrap_or o.stage st) (with_input w (list_any is_ignored o.effects) i f).config) (sym at)
       (subst (Lands (unwrap_or o.stage Reading)) (wellknown_kept place raw (list_any is_ignored o.effects))
-      (lands_wellknown f.heard f.config read))))
+      (lands_wellknown place f.heard f.config read))))
 
   configs_same : (place : ℕ) (raw : List ℕ)
       → config_read raw (provider_at place f.options) ≡ config_read raw (provider_at place f'.options)
@@ -421,19 +421,19 @@ module _ (p : Providers) (w w' : World) (agree : AgreeWorlds p w w') (f f' : Fac
 
   pub keeps_config : (place : ℕ) (raw : List ℕ) → f.stage ≡ Reading
       → Keeps p w w' f f' (inputs.Reply place kinds.Config raw) (inputs.Reply place kinds.Config raw)
-      (config_reply f.heard f.config (config_read raw (provider_at place f.options)))
-      (config_reply f'.heard f'.config (config_read raw (provider_at place f'.options)))
+      (config_reply place f.heard f.config (config_read raw (provider_at place f.options)))
+      (config_reply place f'.heard f'.config (config_read raw (provider_at place f'.options)))
   keeps_config place raw at =
       let i = inputs.Reply place kinds.Config raw in
       let read = config_read raw (provider_at place f.options) in
-      let o = config_reply f.heard f.config read in
-      let same : o ≡ config_reply f'.heard f'.config (config_read raw (provider_at place f'.options)) =
-      ap (λ h. config_reply h f.config read) s.said.heard ∙ ap (λ c. config_reply f'.heard c read) s.said.config
-      ∙ ap (config_reply f'.heard f'.config) (configs_same place raw) in
+      let o = config_reply place f.heard f.config read in
+      let same : o ≡ config_reply place f'.heard f'.config (config_read raw (provider_at place f'.options)) =
+      ap (λ h. config_reply place h f.config read) s.said.heard ∙ ap (λ c. config_reply place f'.heard c read) s.said.config
+      ∙ ap (config_reply place f'.heard f'.config) (configs_same place raw) in
       subst (Keeps p w w' f f' i i o) same
       (keeps_row p w w' f f' s i i o
-      (own_first_config p f.heard f.config read (own_read p raw (provider_at place f.options) (provider_at place f'.options) (both place)))
+      (own_first_config p place f.heard f.config read (own_read p raw (provider_at place f.options) (provider_at place f'.options) (both place)))
       (config_by place raw)
       (subst (λ st. Lands (unwrap_or o.stage st) (with_input w (list_any is_ignored o.effects) i f).config) (sym at)
       (subst (Lands (unwrap_or o.stage Reading)) (config_kept place raw (list_any is_ignored o.effects))
-      (lands_config f.heard f.config read))))
+      (lands_config place f.heard f.config read))))

@@ -10,7 +10,7 @@ use Rattle.fed_consent.specs.declared.table.ask.Ask.{Ask}
 use Rattle.fed_consent.specs.declared.table.ask.Ask.TheVariants as asks
 use Rattle.fed_consent.specs.declared.table.effect.Effect.{Effect as CallEffect}
 use Rattle.fed_consent.specs.declared.table.effect.Effect.TheVariants as does
-use Rattle.fed_call.specs.Facts.{Outcome}
+use Rattle.fed_consent.specs.Outcomes.{Outcome}
 use Rattle.fed_trace.specs.OfCall.{asked}
 use Rattle.fed_trace.specs.Effect as effects
 use Rattle.fed_trace.specs.Effect.{Effect}
@@ -109,18 +109,14 @@ seen_outcome p w w' ck ck' h call page page' o o' same =
     (seen_done p w w' ck ck' h call page page' o.effects o'.effects same.own same.told) same.stage
     ∙ sym (filter_map-append (seen p) (flat_map (call_effects w' ck' call page') o'.effects) (moves call o'.stage))
 
--- nothing is seen of an outcome of which providers are told nothing, unless the call ends
+-- nothing is seen of an outcome of which providers are told nothing and in which the call stays
 pub unseen_outcome : (p : Providers) (w : World) (ck : Ask → List ℕ) (call page : ℕ) (o : Outcome) → filter_map told_effect o.effects ≡ []
-    → (o.stage ≡ None) ⊎ (o.stage ≡ Some stages.Prompting) → filter_map (seen p) (outcome_effects w ck call page o) ≡ []
-unseen_outcome p w ck call page o told ends =
+    → o.stage ≡ None → filter_map (seen p) (outcome_effects w ck call page o) ≡ []
+unseen_outcome p w ck call page o told stays =
     filter_map-append (seen p) (flat_map (call_effects w ck call page) o.effects) (moves call o.stage)
     ∙ ap (λ xs. xs ++ filter_map (seen p) (moves call o.stage))
     (seen_told p w ck call page o.effects ∙ ap (λ l. filter_map (seen p) (flat_map (call_effects w ck call page) l)) told)
-    ∙ go ends
-  where
-    go : (o.stage ≡ None) ⊎ (o.stage ≡ Some stages.Prompting) → filter_map (seen p) (moves call o.stage) ≡ []
-    go (inl e) = ap (λ st. filter_map (seen p) (moves call st)) e
-    go (inr e) = ap (λ st. filter_map (seen p) (moves call st)) e
+    ∙ ap (λ st. filter_map (seen p) (moves call st)) stays
 
 -- ---- quiet rows
 

@@ -17,8 +17,8 @@ use Rattle.fed_accounts.specs.declared.step.AccountsStep.{AccountsStep}
 use Rattle.fed_status.specs.Login.{status_of}
 use Rattle.fed_status.specs.Shared.{World}
 use Rattle.fed_consent.specs.declared.table.effect.Effect.TheVariants as does
-use Rattle.fed_consent.specs.declared.table.finish.Failure.{Failure}
-use Rattle.fed_consent.specs.declared.table.finish.FailStep.TheVariants as steps
+use Rattle.fed_consent.specs.declared.table.failure.Failure.{Failure}
+use Rattle.fed_consent.specs.declared.table.failure.FailStep.TheVariants as steps
 use Rattle.fed_consent.specs.declared.table.input.Input.{Input}
 use Rattle.fed_consent.specs.declared.table.input.Input.TheVariants as inputs
 use Rattle.fed_consent.specs.declared.table.why.Why.{Why}
@@ -28,8 +28,9 @@ use Rattle.fed_consent.specs.declared.consent.manner.Manner.TheVariants.{Chosen,
 use Rattle.fed_call.specs.Accounts.{accounts_of, candidate_of}
 use Rattle.fed_call.specs.AssertingRows.{asserts}
 use Rattle.fed_call.specs.DialogRows.{agreed_to, chose, choice, settles, goes_on, went_on, cancelled, metadata_reply, links_shown}
-use Rattle.fed_call.specs.Facts.{Facts, at_stage, is_ignored, provider_at, metadata_endpoint, with_list, with_listing, with_choice, with_input, facts_after, Outcome}
-use Rattle.fed_call.specs.Outcomes.{ignored, after, plain, accounts_failure}
+use Rattle.fed_call.specs.Facts.{Facts, at_stage, is_ignored, provider_at, metadata_endpoint, with_list, with_listing, with_choice, with_input, facts_after}
+use Rattle.fed_consent.specs.Outcomes.{Outcome, ignored, after, only_place}
+use Rattle.fed_consent.specs.Failures.{plain, accounts_failure}
 use Rattle.fed_call.specs.ListingRows.{accounts_reply, by_accounts, prompt_effect, by_mismatch, is_mismatch, site_of}
 use Rattle.fed_call.specs.Row.{stage_reply}
 use Rattle.fed_trace.proofs.happens.Says.{asks_token}
@@ -39,23 +40,23 @@ use Rattle.fed_twin.proofs.calls.Call.{AgreeWorlds, told_effect, OwnSend, Keeps,
 
 -- ---- what comes first of a prompt
 
-pub prompt_untold : (w : World) (f : Facts) (q : ProviderOptions) (c : Candidate) (b : Bool) (to : Option Parts)
-    → told_effect (prompt_effect w f q c b to) ≡ None
-prompt_untold w f q c true to = refl
-prompt_untold w f q c false None = refl
-prompt_untold w f q c false (Some to) = refl
+pub prompt_untold : (w : World) (f : Facts) (place : ℕ) (q : ProviderOptions) (c : Candidate) (b : Bool) (to : Option Parts)
+    → told_effect (prompt_effect w f place q c b to) ≡ None
+prompt_untold w f place q c true to = refl
+prompt_untold w f place q c false None = refl
+prompt_untold w f place q c false (Some to) = refl
 
-prompt_taken : (w : World) (f : Facts) (q : ProviderOptions) (c : Candidate) (b : Bool) (to : Option Parts)
-    → is_ignored (prompt_effect w f q c b to) ≡ false
-prompt_taken w f q c true to = refl
-prompt_taken w f q c false None = refl
-prompt_taken w f q c false (Some to) = refl
+prompt_taken : (w : World) (f : Facts) (place : ℕ) (q : ProviderOptions) (c : Candidate) (b : Bool) (to : Option Parts)
+    → is_ignored (prompt_effect w f place q c b to) ≡ false
+prompt_taken w f place q c true to = refl
+prompt_taken w f place q c false None = refl
+prompt_taken w f place q c false (Some to) = refl
 
-prompt_own : (p : Providers) (w : World) (f : Facts) (q : ProviderOptions) (c : Candidate) (b : Bool) (to : Option Parts)
-    → OwnSend p (prompt_effect w f q c b to)
-prompt_own p w f q c true to = tt
-prompt_own p w f q c false None = tt
-prompt_own p w f q c false (Some to) = tt
+prompt_own : (p : Providers) (w : World) (f : Facts) (place : ℕ) (q : ProviderOptions) (c : Candidate) (b : Bool) (to : Option Parts)
+    → OwnSend p (prompt_effect w f place q c b to)
+prompt_own p w f place q c true to = tt
+prompt_own p w f place q c false None = tt
+prompt_own p w f place q c false (Some to) = tt
 
 -- accounts leave the configuration
 list_config : (w : World) (q : ProviderOptions) (read : Answer (List Account) AccountsStep) (f : Facts)
@@ -122,11 +123,11 @@ chosen_both id (Some a) None h = absurd h
 abbrev pub IsQuiet : Outcome → Type 0
 IsQuiet o = filter_map asks_token o.effects ≡ []
 
-asserts_loud : {A : Type 0} (f : Facts) (q : ProviderOptions) (config : Option Configuration) (agreed : Agreement)
+asserts_loud : {A : Type 0} (f : Facts) (place : ℕ) (q : ProviderOptions) (config : Option Configuration) (agreed : Agreement)
     → is_some config ≡ true
-    → IsQuiet (asserts f (Some q) config agreed) → A
-asserts_loud f q None agreed known quiet = absurd (let no : false ≡ true = known in cc)
-asserts_loud f q (Some config) agreed known quiet = absurd (cc)
+    → IsQuiet (asserts f place (Some q) config agreed) → A
+asserts_loud f place q None agreed known quiet = absurd (let no : false ≡ true = known in cc)
+asserts_loud f place q (Some config) agreed known quiet = absurd (cc)
 
 module _ (p : Providers) (w w' : World) (agree : AgreeWorlds p w w') (f f' : Facts) (s : SameFacts p f f') where
   -- ---- in Listing
@@ -146,8 +147,8 @@ module _ (p : Providers) (w w' : World) (agree : AgreeWorlds p w w') (f f' : Fac
   refused_by : (place : ℕ) (raw : List ℕ) → f.stage ≡ Listing → (q q' : ProviderOptions) → SameProvider p q q'
       → (failure : Failure) (b b' : Bool) → b ≡ b'
       → Keeps p w w' f f' (inputs.Reply place kinds.Accounts raw) (inputs.Reply place kinds.Accounts raw)
-      (after (does.SetLogin (origin_of q.config) LoggedOut) (by_mismatch (site_of w f.origin) failure b))
-      (after (does.SetLogin (origin_of q'.config) LoggedOut) (by_mismatch (site_of w' f'.origin) failure b'))
+      (after (does.SetLogin (origin_of q.config) LoggedOut) (by_mismatch place (site_of w f.origin) failure b))
+      (after (does.SetLogin (origin_of q'.config) LoggedOut) (by_mismatch place (site_of w' f'.origin) failure b'))
   refused_by place raw at q q' h failure true true e =
       keeps_moves_after p w w' f f' s _ _ Mismatch _ _ _ _
       (ap (λ c. does.SetLogin (origin_of c) LoggedOut ∷ []) h.shares.config) refl refl tt refl refl refl refl tt
@@ -163,8 +164,8 @@ module _ (p : Providers) (w w' : World) (agree : AgreeWorlds p w w') (f f' : Fac
 
   accounts_by : (place : ℕ) (raw : List ℕ) → f.stage ≡ Listing → (q q' : ProviderOptions) → SameProvider p q q'
       → (read : Answer (List Account) AccountsStep)
-      → Keeps p w w' f f' (inputs.Reply place kinds.Accounts raw) (inputs.Reply place kinds.Accounts raw) (by_accounts w f q read)
-      (by_accounts w' f' q' read)
+      → Keeps p w w' f f' (inputs.Reply place kinds.Accounts raw) (inputs.Reply place kinds.Accounts raw) (by_accounts w f place q read)
+      (by_accounts w' f' place q' read)
   accounts_by place raw at q q' h (Err step) =
       refused_by place raw at q q' h (accounts_failure step) _ _
       (ap (λ m. is_mismatch m f.options.mediation (status_of w.login (origin_of q.config))) s.said.options.mode
@@ -181,10 +182,10 @@ module _ (p : Providers) (w w' : World) (agree : AgreeWorlds p w w') (f f' : Fac
       let c' = candidate_of w' f'.origin q' only in
       keeps_moves_after p w w' f f' s _ _ Prompting _ _ _ _
       (ap (λ c. does.SetLogin (origin_of c) LoggedIn ∷ []) h.shares.config) refl refl tt
-      (prompt_untold w f q c c.connected (metadata_endpoint f.config))
-      (prompt_untold w' f' q' c' c'.connected (metadata_endpoint f'.config))
-      (prompt_taken w f q c c.connected (metadata_endpoint f.config)) (prompt_taken w' f' q' c' c'.connected (metadata_endpoint f'.config))
-      (prompt_own p w f q c c.connected (metadata_endpoint f.config))
+      (prompt_untold w f place q c c.connected (metadata_endpoint f.config))
+      (prompt_untold w' f' place q' c' c'.connected (metadata_endpoint f'.config))
+      (prompt_taken w f place q c c.connected (metadata_endpoint f.config)) (prompt_taken w' f' place q' c' c'.connected (metadata_endpoint f'.config))
+      (prompt_own p w f place q c c.connected (metadata_endpoint f.config))
       (listing_by place raw) (inr (refl, inr (listing_known place raw at)))
   accounts_by place raw at q q' h (Ok (first ∷ second ∷ more)) =
       keeps_moves_after p w w' f f' s _ _ Choosing _ _ _ _
@@ -193,12 +194,12 @@ module _ (p : Providers) (w w' : World) (agree : AgreeWorlds p w w') (f f' : Fac
 
   keeps_accounts : (place : ℕ) (raw : List ℕ) → f.stage ≡ Listing → (q q' : Option ProviderOptions)
       → IfBoth (SameProvider p) q q'
-      → Keeps p w w' f f' (inputs.Reply place kinds.Accounts raw) (inputs.Reply place kinds.Accounts raw) (accounts_reply w f q raw)
-      (accounts_reply w' f' q' raw)
+      → Keeps p w w' f f' (inputs.Reply place kinds.Accounts raw) (inputs.Reply place kinds.Accounts raw) (accounts_reply w f place q raw)
+      (accounts_reply w' f' place q' raw)
   keeps_accounts place raw at None None h = keeps_ignored p w w' f f' s _ _ NotWaited NotWaited
   keeps_accounts place raw at (Some q) (Some q') h =
       subst (λ read. Keeps p w w' f f' (inputs.Reply place kinds.Accounts raw) (inputs.Reply place kinds.Accounts raw)
-      (by_accounts w f q (accounts_of raw q)) (by_accounts w' f' q' read))
+      (by_accounts w f place q (accounts_of raw q)) (by_accounts w' f' place q' read))
       (read_same p raw q q' h) (accounts_by place raw at q q' h (accounts_of raw q))
   keeps_accounts place raw at None (Some q') h = absurd h
   keeps_accounts place raw at (Some q) None h = absurd h
@@ -275,20 +276,20 @@ module _ (p : Providers) (w w' : World) (agree : AgreeWorlds p w w') (f f' : Fac
       (chosen_both id f.listed f'.listed s.said.listed)
 
   settles_by : (place : ℕ) (id : List ℕ) → f.stage ≡ Choosing → (q q' : ProviderOptions) (c c' : Candidate) (b b' : Bool)
-      → IsQuiet (settles w f q c b) → IsQuiet (settles w' f' q' c' b')
-      → Keeps p w w' f f' (inputs.Choose place id) (inputs.Choose place id) (settles w f q c b) (settles w' f' q' c' b')
+      → IsQuiet (settles w f place q c b) → IsQuiet (settles w' f' place q' c' b')
+      → Keeps p w w' f f' (inputs.Choose place id) (inputs.Choose place id) (settles w f place q c b) (settles w' f' place q' c' b')
   settles_by place id at q q' c c' true b' quiet quiet' =
-      asserts_loud f q f.config (agreed_to f c Chosen false)
+      asserts_loud f place q f.config (agreed_to f place c Chosen false)
       (configured p f f' s (λ r. let no : Choosing ≡ Reading = sym at ∙ r in cc)) quiet
   settles_by place id at q q' c c' false true quiet quiet' =
-      asserts_loud f' q' f'.config (agreed_to f' c' Chosen false)
+      asserts_loud f' place q' f'.config (agreed_to f' place c' Chosen false)
       (ap is_some (sym s.said.config) ∙ configured p f f' s (λ r. let no : Choosing ≡ Reading = sym at ∙ r in cc)) quiet'
   settles_by place id at q q' c c' false false quiet quiet' =
       keeps_moves p w w' f f' s _ _ Prompting _ _
-      (prompt_untold w f q c c.connected (metadata_endpoint f.config))
-      (prompt_untold w' f' q' c' c'.connected (metadata_endpoint f'.config))
-      (prompt_taken w f q c c.connected (metadata_endpoint f.config)) (prompt_taken w' f' q' c' c'.connected (metadata_endpoint f'.config))
-      (prompt_own p w f q c c.connected (metadata_endpoint f.config)) (choice_by place id)
+      (prompt_untold w f place q c c.connected (metadata_endpoint f.config))
+      (prompt_untold w' f' place q' c' c'.connected (metadata_endpoint f'.config))
+      (prompt_taken w f place q c c.connected (metadata_endpoint f.config)) (prompt_taken w' f' place q' c' c'.connected (metadata_endpoint f'.config))
+      (prompt_own p w f place q c c.connected (metadata_endpoint f.config)) (choice_by place id)
       (inr (
         refl,
         inr
@@ -299,8 +300,8 @@ module _ (p : Providers) (w w' : World) (agree : AgreeWorlds p w w') (f f' : Fac
 
   choice_of : (place : ℕ) (id : List ℕ) → f.stage ≡ Choosing → (q q' : Option ProviderOptions) → IfBoth (SameProvider p) q q'
       → (c c' : Option Candidate) → IfBoth IsSameAccount c c'
-      → IsQuiet (choice w f q c) → IsQuiet (choice w' f' q' c')
-      → Keeps p w w' f f' (inputs.Choose place id) (inputs.Choose place id) (choice w f q c) (choice w' f' q' c')
+      → IsQuiet (choice w f place q c) → IsQuiet (choice w' f' place q' c')
+      → Keeps p w w' f f' (inputs.Choose place id) (inputs.Choose place id) (choice w f place q c) (choice w' f' place q' c')
   choice_of place id at None None h c c' k quiet quiet' = keeps_ignored p w w' f f' s _ _ NoAccount NoAccount
   choice_of place id at None (Some q') h c c' k quiet quiet' = absurd h
   choice_of place id at (Some q) None h c c' k quiet quiet' = absurd h
@@ -343,19 +344,19 @@ pub record Still (p : Providers) (o : Outcome) : Type 0 where
 
 still_goes : (p : Providers) (f : Facts) (waits : Bool) (picked : Option Candidate) → is_some f.config ≡ true
     → (q : Option ProviderOptions)
-    → provider_at 0 f.options ≡ q → IsQuiet (goes_on f waits picked) → Still p (goes_on f waits picked)
+    → provider_at only_place f.options ≡ q → IsQuiet (goes_on f waits picked) → Still p (goes_on f waits picked)
 still_goes p f true picked known q is quiet = record { stage = refl; told = refl; own = (tt, tt) }
 still_goes p f false None known q is quiet = record { stage = refl; told = refl; own = tt }
 still_goes p f false (Some c) known None is quiet =
-    subst (λ q. Still p (asserts f q f.config (agreed_to f c Prompted (not c.connected)))) (sym is)
+    subst (λ q. Still p (asserts f only_place q f.config (agreed_to f only_place c Prompted (not c.connected)))) (sym is)
     (record { stage = refl; told = refl; own = tt })
 still_goes p f false (Some c) known (Some q) is quiet =
-    asserts_loud f q f.config (agreed_to f c Prompted (not c.connected)) known
-    (subst (λ q. IsQuiet (asserts f q f.config (agreed_to f c Prompted (not c.connected)))) is quiet)
+    asserts_loud f only_place q f.config (agreed_to f only_place c Prompted (not c.connected)) known
+    (subst (λ q. IsQuiet (asserts f only_place q f.config (agreed_to f only_place c Prompted (not c.connected)))) is quiet)
 
 pub still_went : (p : Providers) (f : Facts) (st : Stage) → (st ≡ Prompting → is_some f.config ≡ true) → IsQuiet (went_on f st)
     → Still p (went_on f st)
-still_went p f Prompting known quiet = still_goes p f f.waits f.picked (known refl) (provider_at 0 f.options) refl quiet
+still_went p f Prompting known quiet = still_goes p f f.waits f.picked (known refl) (provider_at only_place f.options) refl quiet
 still_went p f Reading known quiet = record { stage = refl; told = refl; own = (tt, tt) }
 still_went p f Listing known quiet = record { stage = refl; told = refl; own = (tt, tt) }
 still_went p f Mismatch known quiet = record { stage = refl; told = refl; own = (tt, tt) }
@@ -388,13 +389,13 @@ keeps_still p w w' f f' s o o' h h' =
 -- an outcome that providers are not told, and that leaves the call the same as another
 pub record Unseen (p : Providers) (w : World) (f : Facts) (i : Input) (o : Outcome) (g : Facts) : Type 0 where
   pub told : filter_map told_effect o.effects ≡ []
-  pub ends : (o.stage ≡ None) ⊎ (o.stage ≡ Some Prompting)
+  pub stays : o.stage ≡ None
   pub after : SameCall p (facts_after w f i o) (Some g)
 
 unseen_ignored : (p : Providers) (w : World) (f g : Facts) → SameFacts p f g → (i : Input) (why : Why)
     → Unseen p w f i (ignored why) g
 unseen_ignored p w f g s i why =
-    record { told = refl; ends = inl refl; after = subst (λ x. SameCall p x (Some g)) (sym (open_facts f s.goes_on)) s }
+    record { told = refl; stays = refl; after = subst (λ x. SameCall p x (Some g)) (sym (open_facts f s.goes_on)) s }
 
 -- the prompt waits no longer
 waits_over : (p : Providers) (f g : Facts) → SameFacts p f g → SameFacts p (record f { waits = false }) g
@@ -409,7 +410,7 @@ waits_over p f g s =
 
 unseen_metadata : (p : Providers) (w : World) (f g : Facts) → SameFacts p f g → f.stage ≡ Prompting
     → (place : ℕ) (raw : List ℕ) (waits : Bool) (q : Option ProviderOptions)
-    → Unseen p w f (inputs.Reply place kinds.Metadata raw) (metadata_reply w f waits q raw) g
+    → Unseen p w f (inputs.Reply place kinds.Metadata raw) (metadata_reply w f waits place q raw) g
 unseen_metadata p w f g s at place raw false q = unseen_ignored p w f g s (inputs.Reply place kinds.Metadata raw) NotWaited
 unseen_metadata p w f g s at place raw true None = unseen_ignored p w f g s (inputs.Reply place kinds.Metadata raw) NotWaited
 unseen_metadata p w f g s at place raw true (Some q) = shown f.picked
@@ -420,9 +421,9 @@ unseen_metadata p w f g s at place raw true (Some q) = shown f.picked
     stays_so : SameCall p (at_stage f.stage over) (Some g)
     stays_so = subst (λ x. SameCall p x (Some g)) (sym (open_facts over s.goes_on)) (waits_over p f g s)
 
-    shown : (picked : Option Candidate) → Unseen p w f (inputs.Reply place kinds.Metadata raw) (links_shown w f picked (MetadataOf raw)) g
-    shown None = record { told = refl; ends = inl refl; after = stays_so }
-    shown (Some c) = record { told = refl; ends = inr refl; after = subst (λ st. SameCall p (at_stage st over) (Some g)) at stays_so }
+    shown : (picked : Option Candidate) → Unseen p w f (inputs.Reply place kinds.Metadata raw) (links_shown w f place picked (MetadataOf raw)) g
+    shown None = record { told = refl; stays = refl; after = stays_so }
+    shown (Some c) = record { told = refl; stays = refl; after = stays_so }
 
 pub unseen_reply : (p : Providers) (w : World) (f g : Facts) → SameFacts p f g → (place : ℕ) (raw : List ℕ) (st : Stage)
     → f.stage ≡ st

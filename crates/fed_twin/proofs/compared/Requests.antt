@@ -33,7 +33,7 @@ use Rattle.fed_consent.specs.declared.table.ask.Ask.{Ask}
 use Rattle.fed_consent.specs.declared.table.effect.Effect.{Effect as CallEffect}
 use Rattle.fed_consent.specs.declared.table.effect.Effect.TheVariants as does
 use Rattle.fed_consent.specs.declared.table.effect.Effect.TheVariants.{SetLogin}
-use Rattle.fed_consent.specs.declared.table.finish.Failure.{Failure}
+use Rattle.fed_consent.specs.declared.table.failure.Failure.{Failure}
 use Rattle.fed_consent.specs.declared.table.input.Input.{Input}
 use Rattle.fed_consent.specs.declared.table.input.Input.TheVariants as inputs
 use Rattle.fed_consent.specs.declared.consent.manner.Manner.TheVariants.{Chosen, Prompted}
@@ -41,9 +41,10 @@ use Rattle.fed_consent.specs.Consent.{Agreement, Candidate, chosen}
 use Rattle.fed_call.specs.Accounts.{accounts_of}
 use Rattle.fed_call.specs.AssertingRows.{asserts, assertion_reply, asserting_reply}
 use Rattle.fed_call.specs.DialogRows.{links_shown, metadata_reply, prompting_reply, agreed_to, settles, choice, chose, goes_on, went_on, cancelled}
-use Rattle.fed_call.specs.Facts.{Facts, provider_at, config_read, Outcome}
-use Rattle.fed_call.specs.ReadingRows.{wellknown_of}
-use Rattle.fed_call.specs.Outcomes.{after, accounts_failure}
+use Rattle.fed_call.specs.Facts.{Facts, provider_at}
+use Rattle.fed_provider.specs.FirstReplies.{config_read, wellknown_of}
+use Rattle.fed_consent.specs.Outcomes.{Outcome, after, only_place}
+use Rattle.fed_consent.specs.Failures.{accounts_failure}
 use Rattle.fed_call.specs.ListingRows.{is_mismatch, by_mismatch, offers, by_accounts, accounts_reply, listing_reply, site_of}
 use Rattle.fed_call.specs.ReadingRows.{start_at, by_scheme, by_gate, is_gated, first_wellknown, first_config, wellknown_reply, config_reply, reading_reply}
 use Rattle.fed_call.specs.Row.{stage_reply, input_row, call_row}
@@ -75,145 +76,145 @@ one = lit≤ tt
 two : 2 ≤ 2
 two = lit≤ tt
 
-short_gate : (config wellknown : Parts) (gated : Bool) → IsShort (by_gate config wellknown gated)
-short_gate config wellknown true = one
-short_gate config wellknown false = two
+short_gate : (place : ℕ) (config wellknown : Parts) (gated : Bool) → IsShort (by_gate place config wellknown gated)
+short_gate place config wellknown true = one
+short_gate place config wellknown false = two
 
-short_scheme : (scheme : Scheme) (config : Parts) (wellknown : Result Parts ProviderStep) (gated : Bool)
-    → IsShort (by_scheme scheme config wellknown gated)
-short_scheme Http config wellknown gated = one
-short_scheme Https config (Err step) gated = one
-short_scheme Https config (Ok wellknown) gated = short_gate config wellknown gated
+short_scheme : (place : ℕ) (scheme : Scheme) (config : Parts) (wellknown : Result Parts ProviderStep) (gated : Bool)
+    → IsShort (by_scheme place scheme config wellknown gated)
+short_scheme place Http config wellknown gated = one
+short_scheme place Https config (Err step) gated = one
+short_scheme place Https config (Ok wellknown) gated = short_gate place config wellknown gated
 
-short_start : (world : World) (mode : Mode) (provider : Option ProviderOptions) → IsShort (start_at world mode provider)
-short_start world mode None = none
-short_start world mode (Some provider) =
-    short_scheme (scheme_of provider.config) provider.config (WellKnownUrlOf world.rules provider.config)
+short_start : (world : World) (mode : Mode) (place : ℕ) (provider : Option ProviderOptions) → IsShort (start_at world mode place provider)
+short_start world mode place None = none
+short_start world mode place (Some provider) =
+    short_scheme place (scheme_of provider.config) provider.config (WellKnownUrlOf world.rules provider.config)
     (is_gated mode (status_of world.login (origin_of provider.config)))
 
-short_get : (world : World) (busy : Bool) (options : GetOptions) → IsShort (get_outcome world busy options)
-short_get world true options = one
-short_get world false options = short_start world options.mode (provider_at 0 options)
+short_get : (world : World) (busy : Bool) (origin : Origin) (options : GetOptions) → IsShort (get_outcome world busy origin options)
+short_get world true origin options = one
+short_get world false origin options = short_start world options.mode only_place (provider_at only_place options)
 
-short_first_wellknown : (config : Option Config) (read : Result (Unit {0}) ProviderStep) → IsShort (first_wellknown config read)
-short_first_wellknown config (Err step) = one
-short_first_wellknown None (Ok u) = none
-short_first_wellknown (Some config) (Ok u) = one
+short_first_wellknown : (place : ℕ) (config : Option Config) (read : Result (Unit {0}) ProviderStep) → IsShort (first_wellknown place config read)
+short_first_wellknown place config (Err step) = one
+short_first_wellknown place None (Ok u) = none
+short_first_wellknown place (Some config) (Ok u) = one
 
-short_wellknown : (heard : Bool) (config : Option Config) (read : Option (Result (Unit {0}) ProviderStep))
-    → IsShort (wellknown_reply heard config read)
-short_wellknown true config read = one
-short_wellknown false config None = one
-short_wellknown false config (Some read) = short_first_wellknown config read
+short_wellknown : (place : ℕ) (heard : Bool) (config : Option Config) (read : Option (Result (Unit {0}) ProviderStep))
+    → IsShort (wellknown_reply place heard config read)
+short_wellknown place true config read = one
+short_wellknown place false config None = one
+short_wellknown place false config (Some read) = short_first_wellknown place config read
 
-short_first_config : (heard : Bool) (read : Result Config ProviderStep) → IsShort (first_config heard read)
-short_first_config heard (Err step) = one
-short_first_config false (Ok config) = none
-short_first_config true (Ok config) = one
+short_first_config : (place : ℕ) (heard : Bool) (read : Result Config ProviderStep) → IsShort (first_config place heard read)
+short_first_config place heard (Err step) = one
+short_first_config place false (Ok config) = none
+short_first_config place true (Ok config) = one
 
-short_config : (heard : Bool) (config : Option Config) (read : Option (Result Config ProviderStep))
-    → IsShort (config_reply heard config read)
-short_config heard (Some config) read = one
-short_config heard None None = one
-short_config heard None (Some read) = short_first_config heard read
+short_config : (place : ℕ) (heard : Bool) (config : Option Config) (read : Option (Result Config ProviderStep))
+    → IsShort (config_reply place heard config read)
+short_config place heard (Some config) read = one
+short_config place heard None None = one
+short_config place heard None (Some read) = short_first_config place heard read
 
-short_reading : (rules : RuleSet) (heard : Bool) (config : Option Config) (provider : Option ProviderOptions) (kind : ReplyKind)
+short_reading : (rules : RuleSet) (heard : Bool) (config : Option Config) (place : ℕ) (provider : Option ProviderOptions) (kind : ReplyKind)
     (raw : List ℕ)
-    → IsShort (reading_reply rules heard config provider kind raw)
-short_reading rules heard config provider kinds.WellKnown raw = short_wellknown heard config (wellknown_of rules raw provider)
-short_reading rules heard config provider kinds.Config raw = short_config heard config (config_read raw provider)
-short_reading rules heard config provider _ raw = one
+    → IsShort (reading_reply rules heard config place provider kind raw)
+short_reading rules heard config place provider kinds.WellKnown raw = short_wellknown place heard config (wellknown_of rules raw provider)
+short_reading rules heard config place provider kinds.Config raw = short_config place heard config (config_read raw provider)
+short_reading rules heard config place provider _ raw = one
 
-short_refused : (effect : CallEffect) (site : List ℕ) (failure : Failure) (shown : Bool)
-    → IsShort (after effect (by_mismatch site failure shown))
-short_refused effect site failure true = two
-short_refused effect site failure false = two
+short_refused : (effect : CallEffect) (place : ℕ) (site : List ℕ) (failure : Failure) (shown : Bool)
+    → IsShort (after effect (by_mismatch place site failure shown))
+short_refused effect place site failure true = two
+short_refused effect place site failure false = two
 
-short_offers : (world : World) (facts : Facts) (provider : ProviderOptions) (effect : CallEffect) (accounts : List Account)
-    → IsShort (after effect (offers world facts provider accounts))
-short_offers world facts provider effect [] = one
-short_offers world facts provider effect (only ∷ []) = two
-short_offers world facts provider effect (first ∷ second ∷ more) = two
+short_offers : (world : World) (facts : Facts) (place : ℕ) (provider : ProviderOptions) (effect : CallEffect) (accounts : List Account)
+    → IsShort (after effect (offers world facts place provider accounts))
+short_offers world facts place provider effect [] = one
+short_offers world facts place provider effect (only ∷ []) = two
+short_offers world facts place provider effect (first ∷ second ∷ more) = two
 
-short_read : (world : World) (facts : Facts) (provider : ProviderOptions) (read : Result (List Account) AccountsStep)
-    → IsShort (by_accounts world facts provider read)
-short_read world facts provider (Err step) =
-    short_refused (SetLogin (origin_of provider.config) LoggedOut) (site_of world facts.origin) (accounts_failure step)
+short_read : (world : World) (facts : Facts) (place : ℕ) (provider : ProviderOptions) (read : Result (List Account) AccountsStep)
+    → IsShort (by_accounts world facts place provider read)
+short_read world facts place provider (Err step) =
+    short_refused (SetLogin (origin_of provider.config) LoggedOut) place (site_of world facts.origin) (accounts_failure step)
     (is_mismatch facts.options.mode facts.options.mediation (status_of world.login (origin_of provider.config)))
-short_read world facts provider (Ok accounts) = short_offers world facts provider (SetLogin (origin_of provider.config) LoggedIn) accounts
+short_read world facts place provider (Ok accounts) = short_offers world facts place provider (SetLogin (origin_of provider.config) LoggedIn) accounts
 
-short_accounts : (world : World) (facts : Facts) (provider : Option ProviderOptions) (raw : List ℕ)
-    → IsShort (accounts_reply world facts provider raw)
-short_accounts world facts None raw = one
-short_accounts world facts (Some provider) raw = short_read world facts provider (accounts_of raw provider)
+short_accounts : (world : World) (facts : Facts) (place : ℕ) (provider : Option ProviderOptions) (raw : List ℕ)
+    → IsShort (accounts_reply world facts place provider raw)
+short_accounts world facts place None raw = one
+short_accounts world facts place (Some provider) raw = short_read world facts place provider (accounts_of raw provider)
 
-short_listing : (world : World) (facts : Facts) (provider : Option ProviderOptions) (kind : ReplyKind) (raw : List ℕ)
-    → IsShort (listing_reply world facts provider kind raw)
-short_listing world facts provider kinds.Accounts raw = short_accounts world facts provider raw
-short_listing world facts provider _ raw = one
+short_listing : (world : World) (facts : Facts) (place : ℕ) (provider : Option ProviderOptions) (kind : ReplyKind) (raw : List ℕ)
+    → IsShort (listing_reply world facts place provider kind raw)
+short_listing world facts place provider kinds.Accounts raw = short_accounts world facts place provider raw
+short_listing world facts place provider _ raw = one
 
-short_links : (world : World) (facts : Facts) (picked : Option Candidate) (links : PolicyLinks)
-    → IsShort (links_shown world facts picked links)
-short_links world facts None links = none
-short_links world facts (Some candidate) links = one
+short_links : (world : World) (facts : Facts) (place : ℕ) (picked : Option Candidate) (links : PolicyLinks)
+    → IsShort (links_shown world facts place picked links)
+short_links world facts place None links = none
+short_links world facts place (Some candidate) links = one
 
-short_metadata : (world : World) (facts : Facts) (waits : Bool) (provider : Option ProviderOptions) (raw : List ℕ)
-    → IsShort (metadata_reply world facts waits provider raw)
-short_metadata world facts false provider raw = one
-short_metadata world facts true None raw = one
-short_metadata world facts true (Some provider) raw = short_links world facts facts.picked (MetadataOf raw)
+short_metadata : (world : World) (facts : Facts) (waits : Bool) (place : ℕ) (provider : Option ProviderOptions) (raw : List ℕ)
+    → IsShort (metadata_reply world facts waits place provider raw)
+short_metadata world facts false place provider raw = one
+short_metadata world facts true place None raw = one
+short_metadata world facts true place (Some provider) raw = short_links world facts place facts.picked (MetadataOf raw)
 
-short_prompting : (world : World) (facts : Facts) (provider : Option ProviderOptions) (kind : ReplyKind) (raw : List ℕ)
-    → IsShort (prompting_reply world facts provider kind raw)
-short_prompting world facts provider kinds.Metadata raw = short_metadata world facts facts.waits provider raw
-short_prompting world facts provider _ raw = one
+short_prompting : (world : World) (facts : Facts) (place : ℕ) (provider : Option ProviderOptions) (kind : ReplyKind) (raw : List ℕ)
+    → IsShort (prompting_reply world facts place provider kind raw)
+short_prompting world facts place provider kinds.Metadata raw = short_metadata world facts facts.waits place provider raw
+short_prompting world facts place provider _ raw = one
 
-short_assertion : (facts : Facts) (provider : Option ProviderOptions) (raw : List ℕ) → IsShort (assertion_reply facts provider raw)
-short_assertion facts None raw = one
-short_assertion facts (Some provider) raw = one
+short_assertion : (facts : Facts) (place : ℕ) (provider : Option ProviderOptions) (raw : List ℕ) → IsShort (assertion_reply facts place provider raw)
+short_assertion facts place None raw = one
+short_assertion facts place (Some provider) raw = one
 
-short_asserting : (facts : Facts) (provider : Option ProviderOptions) (kind : ReplyKind) (raw : List ℕ)
-    → IsShort (asserting_reply facts provider kind raw)
-short_asserting facts provider kinds.Assertion raw = short_assertion facts provider raw
-short_asserting facts provider _ raw = one
+short_asserting : (facts : Facts) (place : ℕ) (provider : Option ProviderOptions) (kind : ReplyKind) (raw : List ℕ)
+    → IsShort (asserting_reply facts place provider kind raw)
+short_asserting facts place provider kinds.Assertion raw = short_assertion facts place provider raw
+short_asserting facts place provider _ raw = one
 
 short_reply : (world : World) (facts : Facts) (stage : Stage) (place : ℕ) (kind : ReplyKind) (raw : List ℕ)
     → IsShort (stage_reply world facts stage place kind raw)
 short_reply world facts stages.Reading place kind raw =
-    short_reading world.rules facts.heard facts.config (provider_at place facts.options) kind raw
-short_reply world facts stages.Listing place kind raw = short_listing world facts (provider_at place facts.options) kind raw
-short_reply world facts stages.Prompting place kind raw = short_prompting world facts (provider_at place facts.options) kind raw
-short_reply world facts stages.Asserting place kind raw = short_asserting facts (provider_at place facts.options) kind raw
+    short_reading world.rules facts.heard facts.config place (provider_at place facts.options) kind raw
+short_reply world facts stages.Listing place kind raw = short_listing world facts place (provider_at place facts.options) kind raw
+short_reply world facts stages.Prompting place kind raw = short_prompting world facts place (provider_at place facts.options) kind raw
+short_reply world facts stages.Asserting place kind raw = short_asserting facts place (provider_at place facts.options) kind raw
 short_reply world facts _ place kind raw = one
 
-short_asserts : (facts : Facts) (provider : Option ProviderOptions) (config : Option Config) (agreed : Agreement)
-    → IsShort (asserts facts provider config agreed)
-short_asserts facts None config agreed = none
-short_asserts facts (Some provider) None agreed = none
-short_asserts facts (Some provider) (Some config) agreed = one
+short_asserts : (facts : Facts) (place : ℕ) (provider : Option ProviderOptions) (config : Option Config) (agreed : Agreement)
+    → IsShort (asserts facts place provider config agreed)
+short_asserts facts place None config agreed = none
+short_asserts facts place (Some provider) None agreed = none
+short_asserts facts place (Some provider) (Some config) agreed = one
 
-short_settles : (world : World) (facts : Facts) (provider : ProviderOptions) (candidate : Candidate) (connected : Bool)
-    → IsShort (settles world facts provider candidate connected)
-short_settles world facts provider candidate true =
-    short_asserts facts (Some provider) facts.config (agreed_to facts candidate Chosen false)
-short_settles world facts provider candidate false = one
+short_settles : (world : World) (facts : Facts) (place : ℕ) (provider : ProviderOptions) (candidate : Candidate) (connected : Bool)
+    → IsShort (settles world facts place provider candidate connected)
+short_settles world facts place provider candidate true =
+    short_asserts facts place (Some provider) facts.config (agreed_to facts place candidate Chosen false)
+short_settles world facts place provider candidate false = one
 
-short_choice : (world : World) (facts : Facts) (provider : Option ProviderOptions) (candidate : Option Candidate)
-    → IsShort (choice world facts provider candidate)
-short_choice world facts None candidate = one
-short_choice world facts (Some provider) None = one
-short_choice world facts (Some provider) (Some candidate) = short_settles world facts provider candidate candidate.connected
+short_choice : (world : World) (facts : Facts) (place : ℕ) (provider : Option ProviderOptions) (candidate : Option Candidate)
+    → IsShort (choice world facts place provider candidate)
+short_choice world facts place None candidate = one
+short_choice world facts place (Some provider) None = one
+short_choice world facts place (Some provider) (Some candidate) = short_settles world facts place provider candidate candidate.connected
 
 short_chose : (world : World) (facts : Facts) (stage : Stage) (place : ℕ) (id : List ℕ) → IsShort (chose world facts stage place id)
 short_chose world facts stages.Choosing place id =
-    short_choice world facts (provider_at place facts.options) (option_and_then (chosen id) facts.listed)
+    short_choice world facts place (provider_at place facts.options) (option_and_then (chosen id) facts.listed)
 short_chose world facts _ place id = one
 
 short_goes_on : (facts : Facts) (waits : Bool) (picked : Option Candidate) → IsShort (goes_on facts waits picked)
 short_goes_on facts true picked = one
 short_goes_on facts false None = none
 short_goes_on facts false (Some candidate) =
-    short_asserts facts (provider_at 0 facts.options) facts.config (agreed_to facts candidate Prompted (not candidate.connected))
+    short_asserts facts only_place (provider_at only_place facts.options) facts.config (agreed_to facts only_place candidate Prompted (not candidate.connected))
 
 short_went_on : (facts : Facts) (stage : Stage) → IsShort (went_on facts stage)
 short_went_on facts stages.Prompting = short_goes_on facts facts.waits facts.picked
@@ -290,7 +291,7 @@ few_of_standing : (world : World) (cookies : Ask → List ℕ) (trusted busy : B
     → length (filter_map first_sent (standing_get world cookies trusted busy b)) ≤ 2
 few_of_standing world cookies false busy b = none
 few_of_standing world cookies true busy b =
-    few_of_outcome world cookies b.call b.page (get_outcome world busy b.options) (short_get world busy b.options)
+    few_of_outcome world cookies b.call b.page (get_outcome world busy b.origin b.options) (short_get world busy b.origin b.options)
 
 few_of_get : (world : World) (cookies : Ask → List ℕ) (origin : Option Origin) (busy : Bool) (page call : ℕ) (options : GetOptions)
     → length (filter_map first_sent (get_effects world cookies origin busy page call options)) ≤ 2

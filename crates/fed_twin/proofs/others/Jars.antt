@@ -17,7 +17,8 @@ use Rattle.fed_consent.specs.declared.table.ask.Ask.{Ask}
 use Rattle.fed_consent.specs.declared.table.effect.Effect.{Effect as CallEffect}
 use Rattle.fed_consent.specs.declared.table.effect.Effect.TheVariants as does
 use Rattle.fed_consent.specs.declared.table.input.Input.{Input}
-use Rattle.fed_call.specs.Facts.{Facts, Outcome}
+use Rattle.fed_call.specs.Facts.{Facts}
+use Rattle.fed_consent.specs.Outcomes.{Outcome}
 use Rattle.fed_call.specs.Row.{call_row}
 use Rattle.fed_script.specs.declared.event.Event.{Event}
 use Rattle.fed_script.specs.declared.event.Event.TheVariants as events
@@ -229,7 +230,7 @@ but_get w ck ck' (Some origin) busy page call options = go (is_trustworthy origi
     go : (trusted : Bool)
         → filter_map but_cookies (standing_get w ck trusted busy b) ≡ filter_map but_cookies (standing_get w ck' trusted busy b)
     go false = refl
-    go true = ap (λ xs. Begin b ∷ xs) (but_outcome w ck ck' call page (get_outcome w busy options))
+    go true = ap (λ xs. Begin b ∷ xs) (but_outcome w ck ck' call page (get_outcome w busy origin options))
 
 but_writes : (cookies : List StoredCookie) → filter_map but_cookies (cookie_effects cookies) ≡ []
 but_writes [] = refl

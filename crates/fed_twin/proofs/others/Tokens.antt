@@ -19,7 +19,7 @@ use Rattle.fed_consent.specs.declared.table.ask.Ask.TheVariants as asks
 use Rattle.fed_consent.specs.declared.table.input.Input.{Input}
 use Rattle.fed_consent.specs.declared.table.input.Input.TheVariants as inputs
 use Rattle.fed_call.specs.AssertingRows.{token_given, assertion_reply}
-use Rattle.fed_call.specs.Outcomes.{finishes}
+use Rattle.fed_consent.specs.Outcomes.{finishes}
 use Rattle.fed_call.specs.Facts.{Facts, provider_at}
 use Rattle.fed_call.specs.Row.{stage_reply}
 use Rattle.fed_script.specs.declared.event.Event.{Event}
@@ -199,15 +199,15 @@ effects_same T U h (events.Choose call provider account) = input_same T U h call
 
 -- ---- the row that may differ
 
-given_same : (w : World) (call page : ℕ) (auto : Bool) (a b : Answer (List ℕ) TokenStep) → AreTokens a b → (ck : Ask → List ℕ)
-    → ButToken call (outcome_effects w ck call page (finishes (token_given auto a)))
-    (outcome_effects w ck call page (finishes (token_given auto b)))
-given_same w call page auto (Ok t) (Ok t') h ck = Tokens page 0 auto t t'
-given_same w call page auto (Err s) (Err s') h ck =
-    subst (λ x. ButToken call (outcome_effects w ck call page (finishes (token_given auto (Err s))))
-    (outcome_effects w ck call page (finishes (token_given auto (Err x))))) h (Equal _)
-given_same w call page auto (Ok t) (Err s) h ck = absurd h
-given_same w call page auto (Err s) (Ok t) h ck = absurd h
+given_same : (w : World) (call page : ℕ) (auto : Bool) (place : ℕ) (a b : Answer (List ℕ) TokenStep) → AreTokens a b → (ck : Ask → List ℕ)
+    → ButToken call (outcome_effects w ck call page (finishes (token_given auto place a)))
+    (outcome_effects w ck call page (finishes (token_given auto place b)))
+given_same w call page auto place (Ok t) (Ok t') h ck = Tokens page place auto t t'
+given_same w call page auto place (Err s) (Err s') h ck =
+    subst (λ x. ButToken call (outcome_effects w ck call page (finishes (token_given auto place (Err s))))
+    (outcome_effects w ck call page (finishes (token_given auto place (Err x))))) h (Equal _)
+given_same w call page auto place (Ok t) (Err s) h ck = absurd h
+given_same w call page auto place (Err s) (Ok t) h ck = absurd h
 
 reply_same : (w : World) (ck : Ask → List ℕ) (call page : ℕ) (f : Facts) (stage : Stage) (place : ℕ) (raw raw' : List ℕ)
     → ((o : List ℕ) → AreTokens (AssertionOf raw o) (AssertionOf raw' o))
@@ -222,11 +222,11 @@ reply_same w ck call page f Ended place raw raw' h = Equal _
 reply_same w ck call page f Asserting place raw raw' h = go (provider_at place f.options)
   where
     go : (q : Option ProviderOptions)
-        → ButToken call (outcome_effects w ck call page (assertion_reply f q raw))
-        (outcome_effects w ck call page (assertion_reply f q raw'))
+        → ButToken call (outcome_effects w ck call page (assertion_reply f place q raw))
+        (outcome_effects w ck call page (assertion_reply f place q raw'))
     go None = Equal _
     go (Some q) =
-        given_same w call page f.auto (AssertionOf raw (origin_text f.origin)) (AssertionOf raw' (origin_text f.origin))
+        given_same w call page f.auto place (AssertionOf raw (origin_text f.origin)) (AssertionOf raw' (origin_text f.origin))
         (h (origin_text f.origin)) ck
 
 token_row : (T : Trace) (call place : ℕ) (raw raw' : List ℕ) → ((o : List ℕ) → AreTokens (AssertionOf raw o) (AssertionOf raw' o))

@@ -28,9 +28,10 @@ use Rattle.fed_trace.specs.Known.{is_begun}
 use Rattle.fed_trace.specs.Trace.{Row, Trace, page_at, logins, pending, now_at, writes, standing, all_said, last_in}
 use Rattle.fed_twin.specs.Script.{first_sent, first_requests}
 use Rattle.fed_twin.specs.Providers.{Providers, is_provider}
-use Rattle.fed_twin.specs.Seen.{Seen, Time, Page, Closed, Cookie, Login, Begin, Ended, Sent, told_origin, seen, seen_move, seen_sent, view}
+use Rattle.fed_twin.specs.Seen.{Seen, Time, Page, Closed, Cookie, Login, Begin, Ended, Sent, Told, told, told_origin, seen, seen_move, seen_sent, view}
 use Rattle.fed_jar.proofs.parties.Parties.{text_is_of_party_writes}
 use Rattle.fed_twin.proofs.seen.Seen.{last_at, last_in-seen, last_value-seen, standing-seen, all_said-seen}
+use Rattle.fed_twin.specs.Looks.{LooksAreSeen, SameLooks}
 
 -- ---- readings of what is seen
 
@@ -90,14 +91,6 @@ now_same p T U header same =
     ∙ ap (unwrap_or (last_in time_of U.rows)) header
 
 -- ---- pages
-
--- what is told of a page's origin
-pub record Told : Type 0 where
-  pub trusted : Bool
-  pub origin : Option Origin
-
-abbrev pub told : Providers → Origin → Told
-told p origin = record { trusted = is_trustworthy origin; origin = told_origin p origin }
 
 page_seen : ℕ → Seen → Option (Option Told)
 page_seen q (Page page trusted origin) = cond (nat_eq q page) (Some (Some (record { trusted = trusted; origin = origin }))) None
@@ -502,3 +495,17 @@ pub status_same : (p : Providers) (T U : Trace) (o : Origin) → is_provider p o
 status_same p T U o known same =
     ap (λ s. unwrap_or s Unknown)
     (sym (found_among p o (logins T) known) ∙ ap (lookup (same_origin o)) (logins_same p T U same) ∙ found_among p o (logins U) known)
+
+-- ---- all of them
+
+pub looks_are_seen_lem : LooksAreSeen
+looks_are_seen_lem p T U header same =
+    record {
+      now = now_same p T U header same;
+      pages = λ page. page_same p T U page same;
+      pending = pending_same p T U same;
+      begun = λ call. is_begun_same p T U call same;
+      cookies = λ to now provider. text_same p T U to now provider same;
+      statuses = λ origin provider. status_same p T U origin provider same;
+      requests = sign_in_same p T U same;
+    }

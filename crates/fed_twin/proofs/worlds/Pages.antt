@@ -23,13 +23,13 @@ use Rattle.fed_trace.specs.Known.{facts_at}
 use Rattle.fed_trace.specs.Row.{with_event, ends_of, load_effects, close_effects, cookie_from, cookies_from, cookie_effects, login_effects, have_cookies, have_logins, set_cookies, set_logins, status_effects, standing_status}
 use Rattle.fed_trace.specs.Trace.{Trace, page_at, pending_of, calls_of, now_at}
 use Rattle.fed_twin.specs.Providers.{Providers, is_provider}
-use Rattle.fed_twin.specs.Seen.{told_origin, seen}
+use Rattle.fed_twin.specs.Seen.{told_origin, seen, told}
 use Rattle.fed_twin.specs.Seen as views
 use Rattle.fed_twin.specs.Same.{SameCall, SameWorlds}
 use Rattle.fed_twin.specs.Twin.{AreFar}
 use Rattle.fed_twin.proofs.calls.Facts.{facts_left, facts_load, facts_close, facts_ignored, said_ends}
 use Rattle.fed_twin.proofs.worlds.Grow.{grow}
-use Rattle.fed_twin.proofs.seen.Look.{told, now_same, page_same, pending_same, same_party}
+use Rattle.fed_twin.proofs.seen.Look.{now_same, page_same, pending_same, same_party}
 
 -- a call that both leave is the same
 pub call_left : (p : Providers) (T U : Trace) → SameWorlds p T U → (q : ℕ) (f f' : Option Facts) → f ≡ facts_at T q

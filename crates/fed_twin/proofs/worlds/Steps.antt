@@ -14,11 +14,12 @@ use Rattle.fed_origin.specs.Origin.{is_trustworthy}
 use Rattle.fed_status.specs.Shared.{World}
 use Rattle.fed_consent.specs.declared.table.input.Input.{Input}
 use Rattle.fed_consent.specs.declared.table.input.Input.TheVariants as inputs
-use Rattle.fed_call.specs.Facts.{Facts, at_stage, facts_after, Outcome}
+use Rattle.fed_call.specs.Facts.{Facts, at_stage, facts_after}
+use Rattle.fed_consent.specs.Outcomes.{Outcome}
 use Rattle.fed_call.specs.Row.{call_row, input_row, stage_reply}
 use Rattle.fed_call.specs.DialogRows.{chose, went_on, cancelled}
-use Rattle.fed_call.specs.Outcomes.{plain}
-use Rattle.fed_consent.specs.declared.table.finish.FailStep.TheVariants as steps
+use Rattle.fed_consent.specs.Failures.{plain}
+use Rattle.fed_consent.specs.declared.table.failure.FailStep.TheVariants as steps
 use Rattle.fed_consent.specs.declared.table.why.Why.TheVariants.{NoCall, CallEnded}
 use Rattle.fed_script.specs.declared.event.Event.{Event}
 use Rattle.fed_script.specs.declared.event.Event.TheVariants as events
@@ -38,14 +39,14 @@ use Rattle.fed_trace.proofs.known.Known.{facts_same}
 use Rattle.fed_trace.proofs.happens.Taken.{Meets, does_at, facts_taken}
 use Rattle.fed_twin.specs.Script.{names}
 use Rattle.fed_twin.specs.Providers.{Providers}
-use Rattle.fed_twin.specs.Seen.{seen}
+use Rattle.fed_twin.specs.Seen.{seen, told}
 use Rattle.fed_twin.specs.Seen as views
 use Rattle.fed_twin.specs.Same.{SameOptions, SameFacts, SameCall, SameWorlds}
 use Rattle.fed_twin.proofs.calls.Call.{AgreeWorlds, Keeps, after_at, keeps_fails, told_effect, configured}
 use Rattle.fed_twin.proofs.calls.Facts.{is_get, facts_left, facts_ignored}
 use Rattle.fed_twin.proofs.calls.Get.{get_same, own_get}
 use Rattle.fed_twin.proofs.worlds.Grow.{grow, grow_alone}
-use Rattle.fed_twin.proofs.seen.Look.{told, page_same, pending_same, is_begun_same}
+use Rattle.fed_twin.proofs.seen.Look.{page_same, pending_same, is_begun_same}
 use Rattle.fed_twin.proofs.calls.Outcome.{seen_outcome, unseen_outcome, quiet_outcome, cookies_agree, worlds_agree}
 use Rattle.fed_twin.proofs.worlds.Pages.{call_left}
 use Rattle.fed_twin.proofs.calls.Row.{IsQuiet, Unseen, reply_wellknown, reply_config, reply_accounts, reply_assertion, reply_disconnect, chose_by, cancelled_by, still_went, keeps_still, unseen_reply}
@@ -94,9 +95,9 @@ taken_get : (p : Providers) (T U : Trace) → SameWorlds p T U → (line line' :
     → b.page ≡ b'.page → SameOptions p b.options b'.options
     → length b.options.providers ≡ 1 → (busy : Bool)
     → effects_of T (events.Get b.page b.call b.options)
-    ≡ Begin b ∷ outcome_effects (world_at T) (cookies_with T) b.call b.page (get_outcome (world_at T) busy b.options)
+    ≡ Begin b ∷ outcome_effects (world_at T) (cookies_with T) b.call b.page (get_outcome (world_at T) busy b.origin b.options)
     → effects_of U (events.Get b'.page b'.call b'.options)
-    ≡ Begin b' ∷ outcome_effects (world_at U) (cookies_with U) b'.call b'.page (get_outcome (world_at U) busy b'.options)
+    ≡ Begin b' ∷ outcome_effects (world_at U) (cookies_with U) b'.call b'.page (get_outcome (world_at U) busy b'.origin b'.options)
     → SameWorlds p (with_event T line (events.Get b.page b.call b.options)) (with_event U line' (events.Get b'.page b'.call b'.options))
 taken_get p T U h line line' b b' call page options one busy is is' =
     grow p T U h line line' (events.Get b.page b.call b.options) (events.Get b'.page b'.call b'.options)
@@ -104,20 +105,20 @@ taken_get p T U h line line' b b' call page options one busy is is' =
     (λ q. calls q (nat_eq q b.call) refl)
   where
     o : Outcome
-    o = get_outcome (world_at T) busy b.options
+    o = get_outcome (world_at T) busy b.origin b.options
 
     o' : Outcome
-    o' = get_outcome (world_at U) busy b'.options
+    o' = get_outcome (world_at U) busy b'.origin b'.options
 
     one_outcome : o ≡ o'
-    one_outcome = get_same p (world_at T) (world_at U) (worlds_agree p T U h) busy b.options b'.options options
+    one_outcome = get_same p (world_at T) (world_at U) (worlds_agree p T U h) busy b.origin b'.origin b.options b'.options options
 
     seen_same : filter_map (seen p) (Begin b ∷ outcome_effects (world_at T) (cookies_with T) b.call b.page o)
         ≡ filter_map (seen p) (Begin b' ∷ outcome_effects (world_at U) (cookies_with U) b'.call b'.page o')
     seen_same =
         ap (λ xs. views.Begin b.call b.page ∷ xs)
         (seen_outcome p (world_at T) (world_at U) (cookies_with T) (cookies_with U) (cookies_agree p T U h) b.call b.page b'.page o o'
-        (record { stage = ap (λ x. x.stage) one_outcome; told = ap (λ x. filter_map told_effect x.effects) one_outcome; own = own_get p (world_at T) busy b.options }))
+        (record { stage = ap (λ x. x.stage) one_outcome; told = ap (λ x. filter_map told_effect x.effects) one_outcome; own = own_get p (world_at T) busy b.origin b.options }))
         ∙ ap₂ (λ c g. views.Begin c g ∷ filter_map (seen p) (outcome_effects (world_at U) (cookies_with U) c b'.page o')) call page
 
     calls : (q : ℕ) (own : Bool) → nat_eq q b.call ≡ own
@@ -127,7 +128,7 @@ taken_get p T U h line line' b b' call page options one busy is is' =
         call_left p T U h q _ _ (get_other T line b o q is ne) (get_other U line' b' o' q is' (ap (nat_eq q) (sym call) ∙ ne))
     calls q true key =
         let same : b.call ≡ q = grind (arith, nat_tests, key) in
-        let first = first_stage o (first_turn (world_at T) busy b.options one) in
+        let first = first_stage o (first_turn (world_at T) busy b.origin b.options one) in
         let left = facts_begun T line (events.Get b.page b.call b.options) b o first.0 is first.1 in
         let right = facts_begun U line' (events.Get b'.page b'.call b'.options) b' o' first.0 is'
         (ap (λ x. x.stage) (sym one_outcome) ∙ first.1) in
@@ -183,7 +184,7 @@ step_get p T U h line line' page call options options' same one =
         (by' (Some u) is' ∙ ap (λ x. standing_get (world_at U) (cookies_with U) x (is_busy page (pending U))
         (begun_as U page call u options')) t'
         ∙ ap (λ x. Begin (begun_as U page call u options') ∷ outcome_effects (world_at U) (cookies_with U) call page
-        (get_outcome (world_at U) x options')) (sym busy_same))
+        (get_outcome (world_at U) x u options')) (sym busy_same))
 
     go : (o u : Option Origin) → page_at T page ≡ o → page_at U page ≡ u
         → option_map (told p) (page_at T page) ≡ option_map (told p) (page_at U page)
@@ -470,7 +471,7 @@ step_metadata p T U h line call place raw = go (is_begun T call) refl
     known begun (Some f) (Some g) found found' same =
         grow_alone p T U h line event
         (ap (filter_map (seen p)) does ∙ unseen_outcome p (world_at T) (cookies_with T) call f.page
-        (input_row (world_at T) f i) unseen.told unseen.ends)
+        (input_row (world_at T) f i) unseen.told unseen.stays)
         (λ q. after q (nat_eq q call) refl)
       where
         m : Meets T event call f

@@ -12,7 +12,7 @@ pub returns-in-Err-clause-effects : goal.returns-in-Err-clause-effects
 returns-in-Err-clause-effects c =
     let back = no_choice c.args.picked c.in-Err.picked (sym c.proceed.ensures ∙ c.in-Err.is) in
     rw back.1
-    (subst (λ pick. IfOk c.asks_about.result (λ r. r.1 ≡ (prompts (world_of c.args.shared.now) (configured c.args.begun c.args.config Choosing) c.args.begun.provider pick.candidate).effects))
+    (subst (λ pick. IfOk c.asks_about.result (λ r. r.1 ≡ (prompts (world_of c.args.shared.now) (configured c.args.begun c.args.config Choosing) c.args.place c.args.begun.provider pick.candidate).effects))
     back.0 c.asks_about.ensures.effects)
 
 pub returns-in-Err-clause-state : goal.returns-in-Err-clause-state

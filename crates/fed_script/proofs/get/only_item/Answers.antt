@@ -12,7 +12,8 @@ several [] many = refl
 several (v ∷ []) many = absurd (omega arith)
 several (v ∷ w ∷ vs) many = refl
 
-no_entry : (vs : List Value) (list : Option Items) → Some (items_view vs) ≡ list → 2 ≤ length vs → None ≡ option_and_then as_entry (option_and_then only_item list)
+no_entry : (vs : List Value) (list : Option Items) → Some (items_view vs) ≡ list → 2 ≤ length vs
+    → None ≡ option_and_then as_entry (option_and_then only_item list)
 no_entry vs list is many = rw (← is) (sym (ap (option_and_then as_entry) (several vs many)))
 
 pub returns-in-len2-up : goal.returns-in-len2-up

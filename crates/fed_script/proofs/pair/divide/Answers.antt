@@ -8,7 +8,8 @@ loop-line-init c = walk_begins is_divider c.args.bytes.now
 
 pub loop-line-preserved : goal.loop-line-preserved
 loop-line-preserved c =
-    walks_on is_divider c.args.bytes.now c.loop-line.rest.now c.in-Some.line.now c.in-Some.after.now c.loop-line.before c.loop-line.invariant
+    walks_on is_divider c.args.bytes.now c.loop-line.rest.now c.in-Some.line.now c.in-Some.after.now c.loop-line.before
+    c.loop-line.invariant
     c.in-Some.ensures.line c.in-Some.ensures.lines c.in-Some.ensures.shorter (sym c.is_divider.ensures ∙ c.if-is_divider.false)
 
 pub returns-then-is_divider-clause-halves : goal.returns-then-is_divider-clause-halves
@@ -21,7 +22,9 @@ returns-then-is_divider-clause-before c =
     walk_counts c.args.bytes.now c.loop-line.rest.now _ c.loop-line.before c.loop-line.invariant c.split_at.ensures.front
 
 pub returns-clause-halves : goal.returns-clause-halves
-returns-clause-halves c = walk_undivided c.args.bytes.now c.loop-line.rest.now c.loop-line.before c.loop-line.invariant (sym c.in_default.ensures.line)
+returns-clause-halves c =
+    walk_undivided c.args.bytes.now c.loop-line.rest.now c.loop-line.before c.loop-line.invariant (sym c.in_default.ensures.line)
 
 pub returns-clause-before : goal.returns-clause-before
-returns-clause-before c = walk_counts_all c.args.bytes.now c.loop-line.rest.now c.loop-line.before c.loop-line.invariant (sym c.in_default.ensures.line)
+returns-clause-before c =
+    walk_counts_all c.args.bytes.now c.loop-line.rest.now c.loop-line.before c.loop-line.invariant (sym c.in_default.ensures.line)

@@ -9,4 +9,5 @@ moved-requires c = omega (arith, bad_line-le c.args.bytes.now c.in-Err-Step.bad 
 
 pub returns-in-Err-Step : goal.returns-in-Err-Step
 returns-in-Err-Step c =
-    rw c.moved.ensures (half_stops c.args.before (script_of c.args.bytes.now) c.in-Err-Step.bad (rw c.in-Err-Step.field-0-is at c.in-Err-Step.ensures))
+    rw c.moved.ensures
+    (half_stops c.args.before (script_of c.args.bytes.now) c.in-Err-Step.bad (rw c.in-Err-Step.field-0-is at c.in-Err-Step.ensures))

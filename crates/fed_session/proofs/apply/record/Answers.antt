@@ -1,4 +1,4 @@
-use Rattle.std.proofs.Common.{◌⊎◌, inl, inr, refl}
+use Rattle.std.proofs.Common.{inl, inr, refl}
 use Rattle.fed_session.proofs.clauses.Outcome.{unwritten}
 use Rattle.fed_session.proofs.apply.record.Goals as goal
 

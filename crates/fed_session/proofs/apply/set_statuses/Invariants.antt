@@ -5,8 +5,6 @@ use Rattle.fed_session.proofs.apply.set_statuses.Given as goal
 -- What was set, and what is left, is the whole.
 abbrev pub invariant-loop-effect : goal.invariant-loop-effect
 invariant-loop-effect l = record {
-  login : login_after (drop l.effect-index l.effects) l.statuses.login ≡ login_after l.effects l.fn.statuses.login;
-  kept : l.statuses.kept ≡ l.fn.statuses.kept;
-  flags : l.statuses.flags ≡ l.fn.statuses.flags;
+  set : record l.sight { login = login_after (drop l.effect-index l.effects) l.sight.login } ≡ record l.fn.sight { login = login_after l.effects l.fn.sight.login };
   known : CanApplyAll (drop l.effect-index l.effects);
 }

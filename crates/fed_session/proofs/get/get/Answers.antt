@@ -1,25 +1,16 @@
-use Rattle.std.proofs.Common.{◌≡◌, ◌∙◌, ap, sym, subst, true, Some, nat_eq}
+use Rattle.std.proofs.Common.{◌≡◌, ◌∙◌, ap, sym, true, Some, nat_eq}
 use Rattle.std.specs.Map.{lookup}
 use Rattle.fed_origin.specs.Origin.{is_trustworthy}
-use Rattle.fed_status.specs.Shared.{world_of}
 use Rattle.fed_trace.specs.Row.{get_outcome}
-use Rattle.fed_session.specs.StepParts.{cookies_of, call_records, world_in, login_after, CanApplyAll}
-use Rattle.fed_session.proofs.events.Get.{get_records, get_still}
-use Rattle.fed_session.proofs.clauses.Sets.{get_can_apply}
+use Rattle.fed_session.specs.StepParts.{cookies_of, call_records, world_in}
+use Rattle.fed_session.proofs.events.Get.{get_records}
 use Rattle.fed_session.proofs.get.get.Goals as goal
-
-pub apply-requires : goal.apply-requires
-apply-requires c = subst CanApplyAll (sym c.in_ok-kept.ensures.effects) (get_can_apply (world_of c.lent.result) c.is_some.result c.args.options.now)
 
 pub returns-clause-outs : goal.returns-clause-outs
 returns-clause-outs c =
     let found : lookup (nat_eq c.args.page) c.args.pages.now.entries ≡ Some c.in-Some.found.now = sym c.in-Some.ensures.value in
     let trusted : is_trustworthy c.in-Some.found.now.origin ≡ true = sym c.is_trustworthy.ensures ∙ c.if-not-is_trustworthy.false in
-    c.in_ok-outs.ensures.outs ∙ ap (call_records c.args.line (cookies_of c.args.sight) c.args.call c.args.page) c.in_ok-kept.ensures.effects
-    ∙ ap (λ w. call_records c.args.line (cookies_of c.args.sight) c.args.call c.args.page (get_outcome w c.is_some.result c.args.options.now).effects) c.lent.ensures
-    ∙ ap (λ b. call_records c.args.line (cookies_of c.args.sight) c.args.call c.args.page (get_outcome (world_in c.args.sight.rules.now c.args.statuses.now) b c.args.options.now).effects) c.is_some.ensures
-    ∙ get_records c.args.line (world_in c.args.sight.rules.now c.args.statuses.now) (cookies_of c.args.sight) (lookup (nat_eq c.args.page) c.args.pages.now.entries) c.in-Some.found.now c.args.page c.args.call c.args.options.now found trusted
-
-pub returns-clause-login : goal.returns-clause-login
-returns-clause-login c =
-    c.in_ok-outs.ensures.login ∙ ap (λ fx. login_after fx c.args.statuses.now.login) c.in_ok-kept.ensures.effects ∙ get_still (world_of c.lent.result) c.is_some.result c.args.options.now c.args.statuses.now.login
+    c.in_ok-outs.ensures ∙ ap (call_records c.args.line (cookies_of c.args.sight.now) c.args.call c.args.page) c.in_ok-kept.ensures.effects
+    ∙ ap (λ w. call_records c.args.line (cookies_of c.args.sight.now) c.args.call c.args.page (get_outcome w c.is_some.result c.in-Some.found.now.origin c.args.options.now).effects) c.lent.ensures
+    ∙ ap (λ b. call_records c.args.line (cookies_of c.args.sight.now) c.args.call c.args.page (get_outcome (world_in c.args.sight.now) b c.in-Some.found.now.origin c.args.options.now).effects) c.is_some.ensures
+    ∙ get_records c.args.line (world_in c.args.sight.now) (cookies_of c.args.sight.now) (lookup (nat_eq c.args.page) c.args.pages.now.entries) c.in-Some.found.now c.args.page c.args.call c.args.options.now found trusted

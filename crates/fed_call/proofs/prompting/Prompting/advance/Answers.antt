@@ -7,11 +7,5 @@ returns-in-Cancel-clause-effects c = rw c.in-Cancel.is (rw c.plain.ensures at c.
 pub returns-in-Cancel-clause-state : goal.returns-in-Cancel-clause-state
 returns-in-Cancel-clause-state c = rw c.in-Cancel.is c.fails.ensures.state
 
-pub returns-in-Abort-clause-effects : goal.returns-in-Abort-clause-effects
-returns-in-Abort-clause-effects c = rw c.in-Abort.is (rw c.plain-in-Abort.ensures at c.fails-in-Abort.ensures.effects)
-
-pub returns-in-Abort-clause-state : goal.returns-in-Abort-clause-state
-returns-in-Abort-clause-state c = rw c.in-Abort.is c.fails-in-Abort.ensures.state
-
 pub returns-in-GoOn-clause-state : goal.returns-in-GoOn-clause-state
 returns-in-GoOn-clause-state c = rw c.in-GoOn.is (rw (with_go_on _ _ _) c.go_on.ensures.state)

@@ -13,6 +13,5 @@ returns-clause-row c = λ T h.
     let fresh = subst (λ (s : State). lookup (nat_eq c.args.call) s.calls ≡ None) (sym c.self.view_is) c.requires.fresh in (
       c.in_ok-outs.ensures.outs ∙ get_records-stand _ T c.args.line c.args.page c.args.call c.args.options.now before,
       stands_after _ _ T c.args.line (events.Get c.args.page c.args.call c.args.options.now) before (is_new _ T c.args.call before fresh, c.requires.one) refl refl
-          (owes_get _ _ T c.args.line c.args.page c.args.call c.args.options.now before fresh c.requires.one refl c.in_ok-outs.ensures.kept c.in_ok-outs.ensures.flags refl refl c.in_ok-outs.ensures.login
-          c.in_ok-outs.ensures.pages c.in_ok-outs.ensures.calls),
+          (owes_get _ _ T c.args.line c.args.page c.args.call c.args.options.now before fresh c.requires.one refl c.in_ok-outs.ensures.pages c.in_ok-outs.ensures.calls),
     )

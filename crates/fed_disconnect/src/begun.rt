@@ -1,0 +1,115 @@
+//! What a disconnect call began with.
+ghost use Rattle.std.specs.Prelude.{◌≡◌, [], ◌∷◌, IfOk};
+ghost use Rattle.fed_origin.specs.WebUrl.{scheme_of};
+ghost use Rattle.fed_status.specs.Shared.{world_of};
+ghost use Rattle.fed_consent.specs.Outcomes.{only_place};
+ghost use Rattle.fed_disconnect.specs.Facts.{disconnect_options, fresh};
+ghost use Rattle.fed_disconnect.specs.Rows as spec;
+
+use fed_consent::{Ask, Effect, FailStep, ONLY_PLACE};
+use fed_io::{Fault, Items, NoRoom, Text};
+use fed_origin::{Origin, Scheme, WebUrl};
+use fed_provider::wellknown_url;
+use fed_status::Shared;
+use std::alloc::Global;
+use std::marker::Model;
+
+/// What a call began with. Its configuration URL is https. Contracts see it as what is known of the call at its beginning.
+pub struct Begun {
+    pub call: u32,
+    pub page: u32,
+    /// The page's origin.
+    pub origin: Origin,
+    /// The configuration URL.
+    pub config: WebUrl,
+    /// The relying party's id at the provider.
+    pub client: Text,
+    /// Which account is meant.
+    pub hint: Text,
+    /// The provider's origin: that of the configuration URL.
+    pub provider: Origin,
+}
+
+impl Model for Begun {
+    ghost use Rattle.fed_disconnect.specs.Facts.{DisconnectFacts, disconnect_options, fresh};
+
+    ghost Value = { DisconnectFacts };
+
+    ghost use Rattle.std.specs.Prelude.{◌≡◌};
+    ghost use Rattle.fed_origin.specs.declared.scheme.Scheme.TheVariants.{Https};
+    ghost use Rattle.fed_origin.specs.WebUrl.{scheme_of, origin_of};
+
+    ghost view = { λ b. fresh b.call b.page b.origin (disconnect_options b.config b.client b.hint) };
+
+    ghost invariant = { λ b. (scheme_of b.config ≡ Https) × (b.provider ≡ origin_of b.config) };
+}
+
+// Written out, so that one function lets it go wherever it ends.
+impl Drop for Begun {
+    fn drop(self) {
+        let Begun {
+            call: _,
+            page: _,
+            origin: _,
+            config: _,
+            client: _,
+            hint: _,
+            provider: _,
+        } = self;
+    }
+}
+
+impl Begun {
+    /// What a call with these options begins with. Their configuration URL is https.
+    pub fn new(
+        alloc: Global,
+        call: u32,
+        page: u32,
+        origin: Origin,
+        config: WebUrl,
+        client: Text,
+        hint: Text,
+    ) -> Result<Begun, NoRoom>
+        requires { scheme_of config ≡ Scheme.Https }
+        ensures { IfOk result (λ begun. begun ≡ fresh call page origin (disconnect_options config client hint)) }
+    {
+        let provider = Origin::of_url(alloc, &config)?;
+        Ok(Begun {
+            call,
+            page,
+            origin,
+            config,
+            client,
+            hint,
+            provider,
+        })
+    }
+
+    /// The first requests of the call, or the step at which it fails.
+    pub fn first_requests(
+        &self,
+        alloc: Global,
+        shared: &Shared<'_>,
+    ) -> Result<Result<Items<Effect>, FailStep>, NoRoom>
+        ensures { IfOk result (λ first. spec.first_outcome first ≡ spec.disconnect_start_row (world_of shared.now) self.now.origin self.now.options) }
+    {
+        let wellknown = match wellknown_url(alloc, shared.rules, &self.config) {
+            Ok(url) => url,
+            Err(Fault::Step(_)) => return Ok(Err(FailStep::NoSite)),
+            Err(Fault::NoRoom) => return Err(NoRoom),
+        };
+        if !shared.kept.has_pair(&self.origin, &self.provider) {
+            return Ok(Err(FailStep::NotConnected));
+        }
+        Ok(Ok(requests(alloc, wellknown, &self.config)?))
+    }
+}
+
+// The requests for the well-known file and the configuration.
+fn requests(alloc: Global, wellknown: WebUrl, config: &WebUrl) -> Result<Items<Effect>, NoRoom>
+    ensures { IfOk result (λ effects. effects ≡ Effect.Send only_place (Ask.WellKnown wellknown) ∷ Effect.Send only_place (Ask.Config config.now) ∷ []) }
+{
+    let config = config.copy(alloc)?;
+    let next = Effect::Send(ONLY_PLACE, Ask::Config { to: config });
+    Effect::Send(ONLY_PLACE, Ask::WellKnown { to: wellknown }).then(alloc, next)
+}

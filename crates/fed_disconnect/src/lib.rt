@@ -1,0 +1,18 @@
+//! The states of a disconnect call, from its first requests to its end (FedCM, "Browser API").
+#![tactic(auto)]
+
+mod begun;
+mod effects;
+mod reading;
+mod sending;
+mod state;
+#[cfg(test)]
+mod test_calls;
+#[cfg(test)]
+mod test_replies;
+#[cfg(test)]
+mod tests;
+
+pub use reading::DReading;
+pub use sending::DSending;
+pub use state::{DEnded, DState};

@@ -1,0 +1,116 @@
+//! The states of a disconnect call.
+ghost use Rattle.std.specs.Prelude.{◌≡◌, IfOk, Some, option_map};
+ghost use Rattle.fed_status.specs.Shared.{world_of};
+ghost use Rattle.fed_disconnect.specs.Facts.{disconnect_options, disconnect_stage, disconnect_started, next_disconnect_facts};
+ghost use Rattle.fed_disconnect.specs.Rows.{disconnect_row, disconnect_start_row};
+ghost use Rattle.fed_disconnect.specs.State.{disconnect_facts_of};
+
+use crate::begun::Begun;
+use crate::effects::{fails, not_taken};
+use crate::{DReading, DSending};
+use fed_consent::{Effect, FailStep, Failure, Input, Why};
+use fed_io::{Items, NoRoom, Text};
+use fed_origin::{Origin, Scheme, Stage, WebUrl};
+use fed_provider::FirstReplies;
+use fed_status::Shared;
+use std::alloc::Global;
+
+/// A disconnect call that is over.
+#[derive(Drop)]
+pub struct DEnded;
+
+/// A disconnect call: its stage, with what is kept of it there. Contracts see what is known of the call
+/// (`disconnect_facts_of`), nothing where it is over.
+pub enum DState {
+    /// The well-known file and the configuration are awaited.
+    DReading(DReading),
+    /// The disconnect reply is awaited.
+    DSending(DSending),
+    /// The call is over.
+    DEnded(DEnded),
+}
+
+// Each type with a call in it has its drop written out, so that one function lets it go wherever it ends.
+impl Drop for DState {
+    fn drop(self) {
+        match self {
+            DState::DReading(_) | DState::DSending(_) | DState::DEnded(_) => {}
+        }
+    }
+}
+
+impl DState {
+    /// A call of `IdentityCredential.disconnect` that begins, and what it does: it fails by the rows E1, E2 or E3, or sends
+    /// its first requests by row E4. `config` is the configuration URL, `client` the relying party's id at the provider, and
+    /// `hint` says which account is meant. On want of memory there is no call.
+    pub fn start(
+        alloc: Global,
+        call: u32,
+        page: u32,
+        origin: Origin,
+        config: WebUrl,
+        client: Text,
+        hint: Text,
+        shared: &Shared<'_>,
+    ) -> Result<(DState, Items<Effect>), NoRoom>
+        ensures effects { IfOk result (λ r. r.1 ≡ (disconnect_start_row (world_of shared.now) origin (disconnect_options config client hint)).effects) }
+        ensures state { IfOk result (λ r. disconnect_facts_of r.0 ≡ disconnect_started call page origin (disconnect_options config client hint) (disconnect_start_row (world_of shared.now) origin (disconnect_options config client hint))) }
+        ensures stage { IfOk result (λ r. Some (disconnect_stage (disconnect_facts_of r.0)) ≡ (disconnect_start_row (world_of shared.now) origin (disconnect_options config client hint)).stage) }
+    {
+        if config.scheme() == Scheme::Http {
+            return fails(alloc, Failure::plain(FailStep::ConfigScheme));
+        }
+        let begun = Begun::new(alloc, call, page, origin, config, client, hint)?;
+        match begun.first_requests(alloc, shared)? {
+            Ok(effects) => {
+                let replies = FirstReplies::none();
+                Ok((DState::DReading(DReading { begun, replies }), effects))
+            }
+            Err(step) => fails(alloc, Failure::plain(step)),
+        }
+    }
+
+    /// The call after an input, and what it does there: rows E5 to E11 and E13. A call that is over ignores each input. On
+    /// want of memory the call is gone.
+    pub fn advance(
+        self,
+        alloc: Global,
+        input: &Input,
+        shared: &Shared<'_>,
+    ) -> Result<(DState, Items<Effect>), NoRoom>
+        ensures effects { IfOk result (λ r. r.1 ≡ (disconnect_row (world_of shared.now) (disconnect_facts_of self) input.now).effects) }
+        ensures state { IfOk result (λ r. disconnect_facts_of r.0 ≡ next_disconnect_facts (world_of shared.now) (disconnect_facts_of self) input.now (disconnect_row (world_of shared.now) (disconnect_facts_of self) input.now)) }
+    {
+        match self {
+            DState::DReading(state) => state.advance(alloc, input, shared),
+            DState::DSending(state) => state.advance(alloc, input, shared),
+            DState::DEnded(state) => {
+                let effects = not_taken(alloc, Why::CallEnded)?;
+                Ok((DState::DEnded(state), effects))
+            }
+        }
+    }
+
+    /// How far the call has come: `Reading`, `Asserting` once the provider was asked to disconnect, or `Ended`. It takes no
+    /// memory.
+    pub fn stage(&self) -> Stage
+        ensures { result ≡ disconnect_stage (disconnect_facts_of self.now) }
+    {
+        match self {
+            DState::DReading(_) => Stage::Reading,
+            DState::DSending(_) => Stage::Asserting,
+            DState::DEnded(_) => Stage::Ended,
+        }
+    }
+
+    /// The page of the call; none where it is over. It takes no memory.
+    pub fn page(&self) -> Option<u32>
+        ensures { result ≡ option_map (λ facts. facts.page) (disconnect_facts_of self.now) }
+    {
+        match self {
+            DState::DReading(state) => Some(state.begun.page),
+            DState::DSending(state) => Some(state.begun.page),
+            DState::DEnded(_) => None,
+        }
+    }
+}

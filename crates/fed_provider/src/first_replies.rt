@@ -1,0 +1,181 @@
+//! The first two replies of a provider.
+ghost use Rattle.std.specs.Prelude.{◌≡◌, false, None, IfOk};
+ghost use Rattle.fed_origin.specs.WebUrl.{scheme_of};
+ghost use Rattle.fed_provider.specs.Config.{ConfigOf};
+ghost use Rattle.fed_provider.specs.FirstReplies as spec;
+
+use crate::{Config, ProviderStep, read_config, read_wellknown, wellknown_url};
+use fed_io::{Fault, NoRoom};
+use fed_origin::{ReplyKind, Scheme, WebUrl};
+use fed_suffix::Suffixes;
+use std::alloc::Global;
+
+/// What a call took of the first replies of a provider: the one with its well-known file and the one with its configuration,
+/// which come in any order.
+pub struct FirstReplies {
+    /// Whether a well-known reply was taken.
+    pub wellknown: bool,
+    /// The configuration in the config reply that was taken.
+    pub config: Option<Config>,
+}
+
+// Written out, so that one function lets it go wherever it ends.
+impl Drop for FirstReplies {
+    fn drop(self) {
+        let FirstReplies {
+            wellknown: _,
+            config: _,
+        } = self;
+    }
+}
+
+/// What a reply comes to.
+#[derive(Drop)]
+pub enum Heard {
+    /// It is refused.
+    Refused(ProviderStep),
+    /// It is good, and the other one is awaited.
+    Waits(FirstReplies),
+    /// Both files are good.
+    Both(Config),
+    /// It is not awaited: one of its kind was taken before, or it is of another kind.
+    NotWaited(FirstReplies),
+}
+
+impl FirstReplies {
+    /// No reply was taken. It takes no memory.
+    pub fn none() -> FirstReplies
+        ensures { result ≡ record { wellknown = false; config = None } }
+    {
+        FirstReplies {
+            wellknown: false,
+            config: None,
+        }
+    }
+
+    /// What a reply of this kind comes to, from the provider with this configuration URL. One of each kind is taken. On want
+    /// of memory what was taken is gone.
+    pub fn hear(
+        self,
+        alloc: Global,
+        rules: &Suffixes,
+        config: &WebUrl,
+        kind: ReplyKind,
+        raw: &[u8],
+    ) -> Result<Heard, NoRoom>
+        requires { scheme_of config.now ≡ Scheme.Https }
+        ensures { IfOk result (λ heard. heard ≡ spec.reply_heard rules.now self config.now kind raw.now) }
+    {
+        match kind {
+            ReplyKind::WellKnown => self.hear_wellknown(alloc, rules, config, raw),
+            ReplyKind::Config => self.hear_config(alloc, config, raw),
+            ReplyKind::Accounts
+            | ReplyKind::Metadata
+            | ReplyKind::Assertion
+            | ReplyKind::Disconnect => Ok(Heard::NotWaited(self)),
+        }
+    }
+
+    // What a well-known reply comes to.
+    fn hear_wellknown(
+        self,
+        alloc: Global,
+        rules: &Suffixes,
+        config: &WebUrl,
+        raw: &[u8],
+    ) -> Result<Heard, NoRoom>
+        requires { scheme_of config.now ≡ Scheme.Https }
+        ensures { IfOk result (λ heard. heard ≡ spec.wellknown_heard self.wellknown self.config (spec.wellknown_read rules.now config.now raw.now)) }
+    {
+        if self.wellknown {
+            return Ok(Heard::NotWaited(self));
+        }
+        let read = wellknown_file(alloc, rules, config, raw)?;
+        Ok(self.first_wellknown(read))
+    }
+
+    // What a config reply comes to.
+    fn hear_config(self, alloc: Global, config: &WebUrl, raw: &[u8]) -> Result<Heard, NoRoom>
+        ensures { IfOk result (λ heard. heard ≡ spec.config_heard self.wellknown self.config (ConfigOf raw.now config.now)) }
+    {
+        if self.config.is_some() {
+            return Ok(Heard::NotWaited(self));
+        }
+        let read = config_file(alloc, config, raw)?;
+        Ok(self.first_config(read))
+    }
+
+    // What the first well-known reply comes to, of which this was read.
+    fn first_wellknown(self, read: Result<(), ProviderStep>) -> Heard
+        ensures { result ≡ spec.first_wellknown self.config read }
+    {
+        if let Err(step) = read {
+            return Heard::Refused(step);
+        }
+        let FirstReplies {
+            wellknown: _,
+            config,
+        } = self;
+        match config {
+            Some(config) => Heard::Both(config),
+            None => Heard::Waits(FirstReplies {
+                wellknown: true,
+                config: None,
+            }),
+        }
+    }
+
+    // What the first config reply comes to, of which this was read.
+    fn first_config(self, read: Result<Config, ProviderStep>) -> Heard
+        ensures { result ≡ spec.first_config self.wellknown read }
+    {
+        let config = match read {
+            Ok(config) => config,
+            Err(step) => return Heard::Refused(step),
+        };
+        if self.wellknown {
+            return Heard::Both(config);
+        }
+        Heard::Waits(FirstReplies {
+            wellknown: false,
+            config: Some(config),
+        })
+    }
+}
+
+// What a well-known reply says. Its URL is made anew, so that no call keeps what the rules say.
+fn wellknown_file(
+    alloc: Global,
+    rules: &Suffixes,
+    config: &WebUrl,
+    raw: &[u8],
+) -> Result<Result<(), ProviderStep>, NoRoom>
+    requires { scheme_of config.now ≡ Scheme.Https }
+    ensures { IfOk result (λ read. read ≡ spec.wellknown_read rules.now config.now raw.now) }
+{
+    let base = match wellknown_url(alloc, rules, config) {
+        Ok(base) => base,
+        Err(Fault::Step(step)) => return Ok(Err(step)),
+        Err(Fault::NoRoom) => return Err(NoRoom),
+    };
+    match read_wellknown(alloc, raw, &base, config) {
+        Ok(()) => Ok(Ok(())),
+        Err(Fault::Step(step)) => Ok(Err(step)),
+        Err(Fault::NoRoom) => Err(NoRoom),
+    }
+}
+
+// What a config reply says.
+fn config_file(
+    alloc: Global,
+    config: &WebUrl,
+    raw: &[u8],
+) -> Result<Result<Config, ProviderStep>, NoRoom>
+    ensures { IfOk result (λ read. read ≡ ConfigOf raw.now config.now) }
+{
+    match read_config(alloc, raw, config) {
+        Ok(config) => Ok(Ok(config)),
+        Err(Fault::Step(step)) => Ok(Err(step)),
+        Err(Fault::NoRoom) => Err(NoRoom),
+    }
+}

@@ -1,0 +1,105 @@
+//! What a session shows after steps.
+ghost use Rattle.std.specs.Prelude.{◌≡◌, ◌<◌};
+
+use crate::comparison::take_events;
+use fed_io::Steps;
+use fed_origin::{LoginStatus, Stage};
+use fed_script::{Script, read_script};
+use fed_session::{Session, View};
+use std::alloc::Global;
+use std::marker::Brand;
+use std::sync::ledger::{Blank, Ledger};
+use std::test::Fail;
+
+// A sign-up, up to the request for the token.
+const SIGN_UP: &str = r#"{"fedcm":1,"now":1700000000,"rules":"example"}
+{"do":"load","page":2,"url":"https://accounts.idp.example/login","text":"HTTP/1.1 200 OK\r\nSet-Cookie: session=a; Path=/; Secure; SameSite=None\r\nSet-Login: logged-in\r\n\r\n"}
+{"do":"load","page":1,"url":"https://shop.example/join"}
+{"do":"at","time":1700000060}
+{"do":"get","page":1,"call":1,"providers":[{"config":"https://accounts.idp.example/fedcm.json","client":"shop"}]}
+{"do":"reply","call":1,"to":"wellknown","text":"HTTP/1.1 200 OK\r\nContent-Type: application/json\r\n\r\n{\"provider_urls\":[\"https://accounts.idp.example/fedcm.json\"]}"}
+{"do":"reply","call":1,"to":"config","text":"HTTP/1.1 200 OK\r\nContent-Type: application/json\r\n\r\n{\"accounts_endpoint\":\"/accounts\",\"id_assertion_endpoint\":\"/assertion\",\"login_url\":\"/login\"}"}
+{"do":"reply","call":1,"to":"accounts","text":"HTTP/1.1 200 OK\r\nContent-Type: application/json\r\n\r\n{\"accounts\":[{\"id\":\"b8\",\"name\":\"Ben\",\"email\":\"ben@uni.example\"}]}"}
+{"do":"continue","call":1}
+"#;
+
+// A cookie that is written again keeps its place.
+const COOKIES: &str = r#"{"fedcm":1,"now":1700000000,"rules":"example"}
+{"do":"have","what":"cookie","url":"https://accounts.idp.example/","text":"a=1; Path=/; Secure; SameSite=None"}
+{"do":"have","what":"cookie","url":"https://accounts.idp.example/","text":"b=2; Path=/; Secure; SameSite=None"}
+{"do":"load","page":1,"url":"https://accounts.idp.example/login/start","text":"HTTP/1.1 200 OK\r\nSet-Cookie: c=3; Secure; SameSite=None\r\nSet-Cookie: a=4; Path=/; Secure; SameSite=None\r\n\r\n"}
+"#;
+
+// What stands after the events of a script, which goes to no token.
+fn view_by<L: Ledger>(alloc: Global, blank: Blank, script: &Script) -> Result<View, Fail>
+    requires name { blank.name ≡ L.name }
+    requires parts { blank.parts ≡ L.parts }
+    requires some { 0 < L.parts }
+{
+    let mut steps: Steps<L> = Steps::new(blank);
+    let mut session = Session::new(alloc, script.header().copy(alloc)?)?;
+    let _sent = take_events(&mut session, script, u64::MAX, &mut steps)?;
+    Ok(session.view()?)
+}
+
+fn view_after(alloc: Global, text: &'static str) -> Result<View, Fail> {
+    let bytes = text.as_bytes();
+    if bytes.len() >= 2_147_483_648 {
+        return Err(Fail::from("too long"));
+    }
+    let script = match read_script(alloc, bytes) {
+        Ok(script) => script,
+        Err(_) => return Err(Fail::from("bad line")),
+    };
+    view_by::<Brand>(alloc, Blank::new(1), &script)
+}
+
+// Whether the only pending call is this one, of this page and at this stage.
+fn has_one_call(view: &View, call: u32, page: u32, stage: Stage) -> bool {
+    match view.calls.as_slice() {
+        [only] => only.0 == call && only.1 == page && only.2 == stage,
+        _ => false,
+    }
+}
+
+// Whether the only status is this one.
+fn has_one_status(view: &View, status: LoginStatus) -> bool {
+    match view.login.as_slice() {
+        [only] => only.1 == status,
+        _ => false,
+    }
+}
+
+// Each cookie as its name, value and path.
+fn cookies_text(alloc: Global, view: &View) -> Result<Vec<u8>, Fail> {
+    let mut text = Vec::new(alloc);
+    for cookie in view.cookies.as_slice() {
+        text.extend_from_slice(cookie.name.as_slice())?;
+        text.extend_from_slice(b"=")?;
+        text.extend_from_slice(cookie.value.as_slice())?;
+        text.extend_from_slice(b" ")?;
+        text.extend_from_slice(cookie.path.as_slice())?;
+        text.extend_from_slice(b";")?;
+    }
+    Ok(text)
+}
+
+#[test]
+fn a_sign_up_waits_for_its_token(rt: HostRuntime) -> Result<(), Fail> {
+    let view = view_after(rt.alloc(), SIGN_UP)?;
+    assert_eq!(rt; view.now, 1_700_000_060);
+    assert_eq!(rt; view.pages.len(), 2);
+    assert_eq!(rt; view.cookies.len(), 1);
+    assert_eq!(rt; view.kept.len(), 0);
+    assert!(rt; has_one_status(&view, LoginStatus::LoggedIn));
+    assert!(rt; has_one_call(&view, 1, 1, Stage::Asserting));
+    Ok(())
+}
+
+#[test]
+fn cookies_stand_in_order_of_first_storing(rt: HostRuntime) -> Result<(), Fail> {
+    let view = view_after(rt.alloc(), COOKIES)?;
+    let text = cookies_text(rt.alloc(), &view)?;
+    assert!(rt; text.as_slice() == "a=4 /;b=2 /;c=3 /login;".as_bytes());
+    Ok(())
+}
