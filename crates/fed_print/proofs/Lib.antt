@@ -1,1 +1,2 @@
+pub mod printing
 pub mod values

@@ -66,15 +66,3 @@ abbrev pub dialog_members : ℕ → ℕ → Dialog → Members
 dialog_members line call (Choose accounts context site) = choose_members line call accounts context site
 dialog_members line call (Prompt account context site privacy terms) = prompt_members line call account context site privacy terms
 dialog_members line call (Mismatch provider site failure) = mismatch_members line call provider site failure
-
--- ---- for private clauses
-
--- the members that each dialog has
-abbrev pub any_members : ℕ → ℕ → List ℕ → List ℕ → Members
-any_members line call dialog site = present
-    ((codes "call", Some (count call))
-    ∷ (codes "dialog", Some (string dialog))
-    ∷ (codes "line", Some (count line))
-    ∷ (codes "out", Some (string (codes "dialog")))
-    ∷ (codes "site", Some (string site))
-    ∷ [])

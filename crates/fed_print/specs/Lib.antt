@@ -4,3 +4,4 @@ pub mod Lines
 pub mod Object
 pub mod Objects
 pub mod Records
+pub mod Tokens

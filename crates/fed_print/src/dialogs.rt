@@ -1,74 +1,76 @@
-//! The objects of dialogs.
-ghost use Rattle.std.specs.Prelude.{◌≡◌, IfOk, map};
+//! Printing dialogs.
+ghost use Rattle.std.specs.Prelude.{OnOk, Some, map, codes};
 ghost use Rattle.std.specs.Option.{option_copied};
-ghost use Rattle.fed_print.specs.Object.{members_of};
 ghost use Rattle.fed_print.specs.Dialogs as spec;
+ghost use Rattle.fed_print.specs.Objects.{objects};
+ghost use Rattle.fed_print.specs.Tokens.{PrintsMember, PrintsObject, PrintsObjects};
 
-use crate::Object;
+use crate::printer::Printer;
 use crate::words::{detail_text, text_in};
 use fed_consent::{Dialog, Failure, Shown};
 use fed_io::NoRoom;
 use fed_origin::Context;
-use std::alloc::Global;
 
-fn account_object(alloc: Global, shown: &Shown) -> Result<Object, NoRoom>
-    ensures { IfOk result (λ o. members_of o ≡ spec.account_members shown.now) }
+fn print_account(printer: &mut Printer, shown: &Shown) -> Result<(), NoRoom>
+    ensures { OnOk result (PrintsObject printer.old printer.new (spec.account_members shown.now)) }
 {
-    Object::new(alloc)
-        .flag("connected", shown.connected)?
-        .text("email", shown.email.as_str())?
-        .text("id", shown.id.as_str())?
-        .text("name", shown.name.as_str())?
-        .count("provider", shown.provider)?
-        .text_if("given_name", text_in(&shown.given_name))?
-        .text_if("picture", text_in(&shown.picture))
+    printer.begin()?;
+    printer.flag("connected", shown.connected)?;
+    printer.text("email", shown.email.as_str())?;
+    printer.text_if("given_name", text_in(&shown.given_name))?;
+    printer.text("id", shown.id.as_str())?;
+    printer.text("name", shown.name.as_str())?;
+    printer.text_if("picture", text_in(&shown.picture))?;
+    printer.count("provider", shown.provider)?;
+    printer.end()?;
+    Ok(())
 }
 
-fn account_objects(alloc: Global, accounts: &[Shown]) -> Result<Vec<Object>, NoRoom>
-    ensures { IfOk result (λ os. map members_of os.items ≡ map spec.account_members accounts.now) }
+// The accounts, in their order.
+fn print_each(printer: &mut Printer, accounts: &[Shown]) -> Result<(), NoRoom>
+    ensures { OnOk result (PrintsObjects printer.old printer.new (map spec.account_members accounts.now)) }
 {
-    let mut found = Vec::new(alloc);
     for shown in accounts {
-        found.push(account_object(alloc, shown)?)?;
+        print_account(printer, shown)?;
     }
-    Ok(found)
+    Ok(())
 }
 
-// The members that each dialog has.
-fn any_object(
-    alloc: Global,
-    line: u32,
-    call: u32,
-    dialog: &str,
-    site: &str,
-) -> Result<Object, NoRoom>
-    ensures { IfOk result (λ o. members_of o ≡ spec.any_members line call dialog.now site.now) }
+// The member with the accounts.
+fn print_accounts(printer: &mut Printer, accounts: &[Shown]) -> Result<(), NoRoom>
+    ensures { OnOk result (PrintsMember printer.old printer.new (codes "accounts") (Some (objects (map spec.account_members accounts.now)))) }
 {
-    Object::new(alloc)
-        .count("call", call)?
-        .text("dialog", dialog)?
-        .count("line", line)?
-        .text("out", "dialog")?
-        .text("site", site)
+    printer.name("accounts")?;
+    printer.begin_list()?;
+    print_each(printer, accounts)?;
+    printer.end_list()?;
+    Ok(())
 }
 
-fn choose_object(
-    alloc: Global,
+fn print_choose(
+    printer: &mut Printer,
     line: u32,
     call: u32,
     accounts: &[Shown],
     context: Context,
     site: &str,
-) -> Result<Object, NoRoom>
-    ensures { IfOk result (λ o. members_of o ≡ spec.choose_members line call accounts.now context site.now) }
+) -> Result<(), NoRoom>
+    ensures { OnOk result (PrintsObject printer.old printer.new (spec.choose_members line call accounts.now context site.now)) }
 {
-    any_object(alloc, line, call, "choose", site)?
-        .objects("accounts", account_objects(alloc, accounts)?)?
-        .text("context", context.as_str())
+    printer.begin()?;
+    print_accounts(printer, accounts)?;
+    printer.count("call", call)?;
+    printer.text("context", context.as_str())?;
+    printer.text("dialog", "choose")?;
+    printer.count("line", line)?;
+    printer.text("out", "dialog")?;
+    printer.text("site", site)?;
+    printer.end()?;
+    Ok(())
 }
 
-fn prompt_object(
-    alloc: Global,
+fn print_prompt(
+    printer: &mut Printer,
     line: u32,
     call: u32,
     account: &Shown,
@@ -76,44 +78,64 @@ fn prompt_object(
     site: &str,
     privacy: Option<&str>,
     terms: Option<&str>,
-) -> Result<Object, NoRoom>
-    ensures { IfOk result (λ o. members_of o ≡ spec.prompt_members line call account.now context site.now (option_copied privacy.entry) (option_copied terms.entry)) }
+) -> Result<(), NoRoom>
+    ensures { OnOk result (PrintsObject printer.old printer.new (spec.prompt_members line call account.now context site.now (option_copied privacy.entry) (option_copied terms.entry))) }
 {
-    any_object(alloc, line, call, "prompt", site)?
-        .object("account", account_object(alloc, account)?)?
-        .text("context", context.as_str())?
-        .flag("disclosure", !account.connected)?
-        .text_if("privacy", privacy)?
-        .text_if("terms", terms)
+    printer.begin()?;
+    printer.name("account")?;
+    print_account(printer, account)?;
+    printer.count("call", call)?;
+    printer.text("context", context.as_str())?;
+    printer.text("dialog", "prompt")?;
+    printer.flag("disclosure", !account.connected)?;
+    printer.count("line", line)?;
+    printer.text("out", "dialog")?;
+    printer.text_if("privacy", privacy)?;
+    printer.text("site", site)?;
+    printer.text_if("terms", terms)?;
+    printer.end()?;
+    Ok(())
 }
 
-fn mismatch_object(
-    alloc: Global,
+fn print_mismatch(
+    printer: &mut Printer,
     line: u32,
     call: u32,
     provider: u32,
     site: &str,
     failure: Failure,
-) -> Result<Object, NoRoom>
-    ensures { IfOk result (λ o. members_of o ≡ spec.mismatch_members line call provider site.now failure) }
+) -> Result<(), NoRoom>
+    ensures { OnOk result (PrintsObject printer.old printer.new (spec.mismatch_members line call provider site.now failure)) }
 {
-    any_object(alloc, line, call, "mismatch", site)?
-        .count("provider", provider)?
-        .text("step", failure.step.as_str())?
-        .text_if("detail", detail_text(failure.detail))
+    printer.begin()?;
+    printer.count("call", call)?;
+    printer.text_if("detail", detail_text(failure.detail))?;
+    printer.text("dialog", "mismatch")?;
+    printer.count("line", line)?;
+    printer.text("out", "dialog")?;
+    printer.count("provider", provider)?;
+    printer.text("site", site)?;
+    printer.text("step", failure.step.as_str())?;
+    printer.end()?;
+    Ok(())
 }
 
 // The object of a dialog.
-pub fn dialog_object(alloc: Global, line: u32, call: u32, dialog: &Dialog) -> Result<Object, NoRoom>
-    ensures { IfOk result (λ o. members_of o ≡ spec.dialog_members line call dialog.now) }
+pub fn print_dialog(
+    printer: &mut Printer,
+    line: u32,
+    call: u32,
+    dialog: &Dialog,
+) -> Result<(), NoRoom>
+    ensures { OnOk result (PrintsObject printer.old printer.new (spec.dialog_members line call dialog.now)) }
 {
     match dialog {
         Dialog::Choose {
             accounts,
             context,
             site,
-        } => choose_object(
-            alloc,
+        } => print_choose(
+            printer,
             line,
             call,
             accounts.as_slice(),
@@ -126,8 +148,8 @@ pub fn dialog_object(alloc: Global, line: u32, call: u32, dialog: &Dialog) -> Re
             site,
             privacy,
             terms,
-        } => prompt_object(
-            alloc,
+        } => print_prompt(
+            printer,
             line,
             call,
             account,
@@ -140,6 +162,6 @@ pub fn dialog_object(alloc: Global, line: u32, call: u32, dialog: &Dialog) -> Re
             provider,
             site,
             failure,
-        } => mismatch_object(alloc, line, call, *provider, site.as_str(), *failure),
+        } => print_mismatch(printer, line, call, *provider, site.as_str(), *failure),
     }
 }

@@ -5,6 +5,7 @@ mod answers;
 mod ascii;
 mod dialogs;
 mod object;
+mod printer;
 mod records;
 #[cfg(test)]
 mod tests;

@@ -1,13 +1,13 @@
 //! Printing records.
-ghost use Rattle.std.specs.Prelude.{◌≡◌, ◌++◌, IfOk, OnOk, OnErr};
-ghost use Rattle.fed_print.specs.Object.{members_of};
+ghost use Rattle.std.specs.Prelude.{◌≡◌, ◌++◌, OnOk, OnErr};
 ghost use Rattle.fed_print.specs.Records as spec;
 ghost use Rattle.fed_print.specs.Lines.{record_line};
+ghost use Rattle.fed_print.specs.Tokens.{PrintsMember, PrintsObject};
 
-use crate::Object;
-use crate::answers::answer_object;
+use crate::answers::print_answer;
 use crate::ascii::ascii_text;
-use crate::dialogs::dialog_object;
+use crate::dialogs::print_dialog;
+use crate::printer::Printer;
 use base64::engine::general_purpose::STANDARD;
 use fed_consent::Why;
 use fed_io::NoRoom;
@@ -15,56 +15,70 @@ use fed_origin::ReplyKind;
 use fed_trace::Out;
 use std::alloc::Global;
 
-fn request_object(
+// The member with the bytes of a request.
+fn print_bytes(alloc: Global, printer: &mut Printer, bytes: &[u8]) -> Result<(), NoRoom>
+    ensures { OnOk result (let named = spec.bytes_member (spec.ascii_text bytes.now) bytes.now in PrintsMember printer.old printer.new named.0 named.1) }
+{
+    match ascii_text(bytes) {
+        Some(text) => printer.text("text", text),
+        None => printer.text("raw", STANDARD.encode(alloc, bytes)?.as_str()),
+    }
+}
+
+fn print_request(
     alloc: Global,
+    printer: &mut Printer,
     line: u32,
     call: u32,
     provider: u32,
     kind: ReplyKind,
     bytes: &[u8],
-) -> Result<Object, NoRoom>
-    ensures { IfOk result (λ o. members_of o ≡ spec.request_members line call provider kind (spec.bytes_member (spec.ascii_text bytes.now) bytes.now)) }
+) -> Result<(), NoRoom>
+    ensures { OnOk result (PrintsObject printer.old printer.new (spec.request_members line call provider kind (spec.bytes_member (spec.ascii_text bytes.now) bytes.now))) }
 {
-    let start = Object::new(alloc)
-        .count("call", call)?
-        .text("kind", kind.as_str())?
-        .count("line", line)?
-        .text("out", "request")?
-        .count("provider", provider)?;
-    match ascii_text(bytes) {
-        Some(text) => start.text("text", text),
-        None => start.text("raw", STANDARD.encode(alloc, bytes)?.as_str()),
-    }
+    printer.begin()?;
+    printer.count("call", call)?;
+    printer.text("kind", kind.as_str())?;
+    printer.count("line", line)?;
+    printer.text("out", "request")?;
+    printer.count("provider", provider)?;
+    print_bytes(alloc, printer, bytes)?;
+    printer.end()?;
+    Ok(())
 }
 
-fn window_object(
-    alloc: Global,
+fn print_window(
+    printer: &mut Printer,
     line: u32,
     call: u32,
     provider: u32,
     url: &str,
-) -> Result<Object, NoRoom>
-    ensures { IfOk result (λ o. members_of o ≡ spec.window_members line call provider url.now) }
+) -> Result<(), NoRoom>
+    ensures { OnOk result (PrintsObject printer.old printer.new (spec.window_members line call provider url.now)) }
 {
-    Object::new(alloc)
-        .count("call", call)?
-        .count("line", line)?
-        .text("out", "window")?
-        .count("provider", provider)?
-        .text("url", url)
+    printer.begin()?;
+    printer.count("call", call)?;
+    printer.count("line", line)?;
+    printer.text("out", "window")?;
+    printer.count("provider", provider)?;
+    printer.text("url", url)?;
+    printer.end()?;
+    Ok(())
 }
 
-fn ignored_object(alloc: Global, line: u32, why: Why) -> Result<Object, NoRoom>
-    ensures { IfOk result (λ o. members_of o ≡ spec.ignored_members line why) }
+fn print_ignored(printer: &mut Printer, line: u32, why: Why) -> Result<(), NoRoom>
+    ensures { OnOk result (PrintsObject printer.old printer.new (spec.ignored_members line why)) }
 {
-    Object::new(alloc)
-        .count("line", line)?
-        .text("out", "ignored")?
-        .text("why", why.as_str())
+    printer.begin()?;
+    printer.count("line", line)?;
+    printer.text("out", "ignored")?;
+    printer.text("why", why.as_str())?;
+    printer.end()?;
+    Ok(())
 }
 
-fn record_object(alloc: Global, out: &Out) -> Result<Object, NoRoom>
-    ensures { IfOk result (λ o. members_of o ≡ spec.record_members out.now) }
+fn print_record(alloc: Global, printer: &mut Printer, out: &Out) -> Result<(), NoRoom>
+    ensures { OnOk result (PrintsObject printer.old printer.new (spec.record_members out.now)) }
 {
     match out {
         Out::Request {
@@ -73,21 +87,29 @@ fn record_object(alloc: Global, out: &Out) -> Result<Object, NoRoom>
             provider,
             kind,
             bytes,
-        } => request_object(alloc, *line, *call, *provider, *kind, bytes.as_slice()),
-        Out::Dialog { line, call, dialog } => dialog_object(alloc, *line, *call, dialog),
+        } => print_request(
+            alloc,
+            printer,
+            *line,
+            *call,
+            *provider,
+            *kind,
+            bytes.as_slice(),
+        ),
+        Out::Dialog { line, call, dialog } => print_dialog(printer, *line, *call, dialog),
         Out::Window {
             line,
             call,
             provider,
             url,
-        } => window_object(alloc, *line, *call, *provider, url.as_str()),
+        } => print_window(printer, *line, *call, *provider, url.as_str()),
         Out::Answer {
             line,
             call,
             page,
             finish,
-        } => answer_object(alloc, *line, *call, *page, finish),
-        Out::Ignored { line, why } => ignored_object(alloc, *line, *why),
+        } => print_answer(printer, *line, *call, *page, finish),
+        Out::Ignored { line, why } => print_ignored(printer, *line, *why),
     }
 }
 
@@ -97,5 +119,7 @@ pub fn print(alloc: Global, out: &Out, text: &mut Vec<u8>) -> Result<(), NoRoom>
     ensures ok { OnOk result (text.new.items ≡ text.old.items ++ record_line out.now) }
     ensures err { OnErr result (text.new.items ≡ text.old.items) }
 {
-    record_object(alloc, out)?.append_line(text)
+    let mut printer = Printer::new(alloc)?;
+    print_record(alloc, &mut printer, out)?;
+    printer.append_line(text)
 }

@@ -1,6 +1,6 @@
 -- Forms (URL 5.2).
 use Rattle.std.specs.Prelude.{ℕ, Bool, true, false, List, [], ◌++◌, codes, Option, Some, None, unwrap_or}
-use Rattle.form_urlencoded.specs.Form.{append_pair}
+use Rattle.form_urlencoded.specs.Form.{append_pair, byte_serialize}
 use Rattle.url.specs.Parts.{Parts}
 use Rattle.fed_consent.specs.Consent.{AssertionFields}
 
@@ -39,3 +39,15 @@ assertion_form ask = with_pair (codes "params") ask.params (account_form ask)
 -- the form of a disconnect request
 abbrev pub disconnect_form : List ℕ → List ℕ → List ℕ
 disconnect_form client hint = append_pair (append_pair [] (codes "client_id") client) (codes "account_hint") hint
+
+-- ---- the same as it is written, piece after piece
+
+-- what a pair adds, from what stands before its value
+abbrev pub optional_pair : List ℕ → Option (List ℕ) → List ℕ
+optional_pair lead None = []
+optional_pair lead (Some value) = lead ++ byte_serialize value
+
+-- how the user took part
+abbrev pub manner_pairs : AssertionFields → List ℕ
+manner_pairs ask =
+    codes "&disclosure_text_shown=" ++ (truth_text ask.disclosure ++ (codes "&is_auto_selected=" ++ truth_text ask.auto))

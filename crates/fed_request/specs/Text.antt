@@ -1,5 +1,5 @@
 -- The lines of a request.
-use Rattle.std.specs.Prelude.{ℕ, List, [], ◌∷◌, ◌++◌, length, codes, decimal}
+use Rattle.std.specs.Prelude.{ℕ, ◌==◌, List, [], ◌∷◌, ◌++◌, length, codes, decimal, if◌then◌else◌}
 
 abbrev pub crlf : List ℕ
 crlf = 13 ∷ 10 ∷ []
@@ -40,3 +40,13 @@ named_get_text target host origin =
 abbrev pub post_text : List ℕ → List ℕ → List ℕ → List ℕ → List ℕ → List ℕ
 post_text target host origin form cookies =
     first_lines (codes "POST ") target host ++ line (codes "Origin: ") origin ++ form_lines form ++ last_lines cookies ++ form
+
+-- ---- the same as it is written, piece after piece
+
+-- a host, and the port where it is not this one
+abbrev pub host_port : List ℕ → ℕ → ℕ → List ℕ
+host_port host port own_port = if port == own_port then host else host ++ (codes ":" ++ decimal port)
+
+-- what stands after the target in the first lines
+abbrev pub after_target : List ℕ → List ℕ
+after_target host = codes " HTTP/1.1\r\nHost: " ++ (host ++ codes "\r\nAccept: application/json\r\nSec-Fetch-Dest: webidentity\r\n")

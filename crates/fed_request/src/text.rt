@@ -1,103 +1,101 @@
 //! The lines of a request.
-ghost use Rattle.std.specs.Prelude.{◌≡◌, ◌++◌, IfOk, OnOk};
+ghost use Rattle.std.specs.Prelude.{◌≡◌, ◌++◌, codes, decimal, IfOk, OnOk};
+ghost use Rattle.fed_origin.specs.Origin.{origin_text};
+ghost use Rattle.fed_request.specs.Request.{host_field};
 ghost use Rattle.fed_request.specs.Text as spec;
 ghost use Rattle.fed_request.specs.Text.{line};
 
-use fed_io::{Bytes, NoRoom};
+use fed_io::NoRoom;
+use fed_origin::{Origin, WebUrl};
+use itoa::Buffer;
 use std::alloc::Global;
 
-// Adds a line.
-#[tactic(auto, using(std::proofs::Common::append_assoc), unfolding(crate::specs::Text::line))]
-fn push_line(bytes: &mut Vec<u8>, name: &str, value: &[u8]) -> Result<(), NoRoom>
-    ensures { OnOk result (bytes.new.items ≡ bytes.old.items ++ line name.now value.now) }
+/// A buffer that begins with the method, with room for a request to this URL: its text is no shorter than the host and
+/// the target together, and `rest` is for all else. This saves the copies of a vector that grows.
+pub fn begin_request(
+    alloc: Global,
+    method: &[u8],
+    to: &WebUrl,
+    rest: usize,
+) -> Result<Vec<u8>, NoRoom>
+    ensures { IfOk result (λ bytes. bytes.items ≡ method.now) }
 {
-    bytes.extend_from_slice(name.as_bytes())?;
-    bytes.extend_from_slice(value)?;
-    bytes.extend_from_slice(b"\r\n")?;
-    Ok(())
-}
-
-// The lines with which each request begins.
-#[tactic(auto, using(std::proofs::Common::append_assoc), unfolding(crate::specs::Text::first_lines))]
-fn first_lines(alloc: Global, method: &str, target: &str, host: &str) -> Result<Vec<u8>, NoRoom>
-    ensures { IfOk result (λ bytes. bytes.items ≡ spec.first_lines method.now target.now host.now) }
-{
-    let first = format!(in alloc; "{target} HTTP/1.1")?;
-    let mut bytes = Vec::new(alloc);
-    push_line(&mut bytes, method, first.as_bytes())?;
-    push_line(&mut bytes, "Host: ", host.as_bytes())?;
-    push_line(&mut bytes, "Accept: ", b"application/json")?;
-    push_line(&mut bytes, "Sec-Fetch-Dest: ", b"webidentity")?;
+    let mut bytes = Vec::with_capacity(alloc, to.as_str().len().saturating_add(rest))?;
+    bytes.extend_from_slice(method)?;
     Ok(bytes)
 }
 
-// Adds the Cookie field, where there are cookies, and the empty line.
-#[tactic(auto, using(std::proofs::Common::append_assoc))]
-fn push_last_lines(bytes: &mut Vec<u8>, cookies: &[u8]) -> Result<(), NoRoom>
-    ensures { OnOk result (bytes.new.items ≡ bytes.old.items ++ spec.last_lines cookies.now) }
+fn push_number(bytes: &mut Vec<u8>, number: usize) -> Result<(), NoRoom>
+    ensures { OnOk result (bytes.new.items ≡ bytes.old.items ++ decimal number) }
 {
-    if !cookies.is_empty() {
-        push_line(bytes, "Cookie: ", cookies)?;
+    let mut buffer = Buffer::new();
+    bytes.extend_from_slice(buffer.format(number).as_bytes())?;
+    Ok(())
+}
+
+// Adds a host, and the port where it is not the scheme's own.
+fn push_host(bytes: &mut Vec<u8>, host: &str, port: u16, own_port: u16) -> Result<(), NoRoom>
+    ensures { OnOk result (bytes.new.items ≡ bytes.old.items ++ spec.host_port host.now port own_port) }
+{
+    bytes.extend_from_slice(host.as_bytes())?;
+    if port == own_port {
+        return Ok(());
     }
+    bytes.extend_from_slice(b":")?;
+    push_number(bytes, usize::from(port))
+}
+
+/// Adds what stands after the target in the first lines.
+pub fn push_after_target(bytes: &mut Vec<u8>, to: &WebUrl) -> Result<(), NoRoom>
+    ensures { OnOk result (bytes.new.items ≡ bytes.old.items ++ spec.after_target (host_field to.now)) }
+{
+    bytes.extend_from_slice(b" HTTP/1.1\r\nHost: ")?;
+    push_host(bytes, to.host().text.as_str(), to.port(), 443)?;
+    bytes.extend_from_slice(b"\r\nAccept: application/json\r\nSec-Fetch-Dest: webidentity\r\n")?;
+    Ok(())
+}
+
+/// Adds the field that names the origin of a page.
+#[tactic(auto, using(std::proofs::Common::append_assoc, crate::proofs::written::Lines::origin_line_written))]
+pub fn push_origin_line(bytes: &mut Vec<u8>, origin: &Origin) -> Result<(), NoRoom>
+    ensures { OnOk result (bytes.new.items ≡ bytes.old.items ++ line (codes "Origin: ") (origin_text origin.now)) }
+{
+    bytes.extend_from_slice(b"Origin: ")?;
+    bytes.extend_from_slice(origin.scheme.as_str().as_bytes())?;
+    bytes.extend_from_slice(b"://")?;
+    push_host(
+        bytes,
+        origin.host.text.as_str(),
+        origin.port,
+        origin.scheme.own_port(),
+    )?;
     bytes.extend_from_slice(b"\r\n")?;
     Ok(())
 }
 
-/// A GET that does not say which page it is for.
-pub fn get_text(alloc: Global, target: &str, host: &str, cookies: &[u8]) -> Result<Bytes, NoRoom>
-    ensures { IfOk result (λ bytes. bytes ≡ spec.get_text target.now host.now cookies.now) }
-{
-    let mut bytes = first_lines(alloc, "GET ", target, host)?;
-    push_last_lines(&mut bytes, cookies)?;
-    Ok(Bytes::from_vec(bytes))
-}
-
-/// A GET that names the origin of a page.
-pub fn named_get_text(
-    alloc: Global,
-    target: &str,
-    host: &str,
-    origin: &str,
-) -> Result<Bytes, NoRoom>
-    ensures { IfOk result (λ bytes. bytes ≡ spec.named_get_text target.now host.now origin.now) }
-{
-    let mut bytes = first_lines(alloc, "GET ", target, host)?;
-    push_line(&mut bytes, "Origin: ", origin.as_bytes())?;
-    push_last_lines(&mut bytes, b"")?;
-    Ok(Bytes::from_vec(bytes))
-}
-
-// Adds the fields that tell of a form.
-#[tactic(auto, using(std::proofs::Common::append_assoc), unfolding(crate::specs::Text::form_lines))]
-fn push_form_lines(alloc: Global, bytes: &mut Vec<u8>, form: &str) -> Result<(), NoRoom>
+/// Adds the fields that tell of a form, with its length.
+pub fn push_form_lines(bytes: &mut Vec<u8>, form: &[u8]) -> Result<(), NoRoom>
     ensures { OnOk result (bytes.new.items ≡ bytes.old.items ++ spec.form_lines form.now) }
 {
-    let length = form.len();
-    let length = format!(in alloc; "{length}")?;
-    push_line(
-        bytes,
-        "Content-Type: ",
-        b"application/x-www-form-urlencoded",
+    bytes.extend_from_slice(
+        b"Content-Type: application/x-www-form-urlencoded\r\nContent-Length: ",
     )?;
-    push_line(bytes, "Content-Length: ", length.as_bytes())?;
+    push_number(bytes, form.len())?;
+    bytes.extend_from_slice(b"\r\n")?;
     Ok(())
 }
 
-/// A POST of a form, which names the origin of a page.
-pub fn post_text(
-    alloc: Global,
-    target: &str,
-    host: &str,
-    origin: &str,
-    form: &str,
-    cookies: &[u8],
-) -> Result<Bytes, NoRoom>
-    ensures { IfOk result (λ bytes. bytes ≡ spec.post_text target.now host.now origin.now form.now cookies.now) }
+/// Adds the Cookie field, where there are cookies, and the empty line.
+#[tactic(auto, using(std::proofs::Common::append_assoc, crate::proofs::written::Lines::cookies_written))]
+pub fn push_last_lines(bytes: &mut Vec<u8>, cookies: &[u8]) -> Result<(), NoRoom>
+    ensures { OnOk result (bytes.new.items ≡ bytes.old.items ++ spec.last_lines cookies.now) }
 {
-    let mut bytes = first_lines(alloc, "POST ", target, host)?;
-    push_line(&mut bytes, "Origin: ", origin.as_bytes())?;
-    push_form_lines(alloc, &mut bytes, form)?;
-    push_last_lines(&mut bytes, cookies)?;
-    bytes.extend_from_slice(form.as_bytes())?;
-    Ok(Bytes::from_vec(bytes))
+    if cookies.is_empty() {
+        bytes.extend_from_slice(b"\r\n")?;
+        return Ok(());
+    }
+    bytes.extend_from_slice(b"Cookie: ")?;
+    bytes.extend_from_slice(cookies)?;
+    bytes.extend_from_slice(b"\r\n\r\n")?;
+    Ok(())
 }

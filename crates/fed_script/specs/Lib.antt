@@ -1,5 +1,6 @@
 pub mod Cause
 pub mod Member
+pub mod Part
 pub mod Header
 pub mod Raw
 pub mod Status

@@ -1,18 +1,18 @@
 //! Lines of the kind `choose`.
-ghost use Rattle.serde_json.specs.View.{view};
+ghost use Rattle.fed_script.specs.Part.{data_at};
 ghost use Rattle.fed_io.specs.Fault.{Answers};
 ghost use Rattle.fed_script.specs.Choose as spec;
 
 use crate::cause::{LineCause, MemberName};
 use crate::event::Event;
 use crate::member::{number, optional_number, text};
+use crate::part::Part;
 use fed_io::{Fault, Text};
-use serde_json::Value;
 use std::alloc::Global;
 
 /// The choice that a line names.
-pub(crate) fn choose(alloc: Global, d: &Value) -> Result<Event, Fault<LineCause>>
-    ensures { Answers result (spec.choose_of (view d.now)) }
+pub(crate) fn choose(alloc: Global, d: &Part<'_, '_>) -> Result<Event, Fault<LineCause>>
+    ensures { Answers result (spec.choose_of (data_at d.now)) }
 {
     let call = number(d, MemberName::Call).map_err(Fault::Step)?;
     let provider = optional_number(d, MemberName::Provider).map_err(Fault::Step)?;

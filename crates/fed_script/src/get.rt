@@ -1,7 +1,7 @@
 //! Lines of the kind `get`.
 ghost use Rattle.std.specs.Prelude.{◌≡◌, IfOk, option_map};
 ghost use Rattle.std.specs.Result.{result_map_both};
-ghost use Rattle.serde_json.specs.View.{view};
+ghost use Rattle.fed_script.specs.Part.{data_at};
 ghost use Rattle.fed_io.specs.Fault.{Answers};
 ghost use Rattle.fed_script.specs.Get as spec;
 ghost use Rattle.fed_script.specs.Member.{required};
@@ -11,9 +11,9 @@ use crate::cause::{LineCause, MemberName};
 use crate::event::Event;
 use crate::member::{member, number, optional_text, text, web_url};
 use crate::options::{context, no_options};
+use crate::part::Part;
 use fed_io::{Fault, Items, NoRoom, Text, text_of};
 use fed_origin::{Context, GetOptions, Mediation, Mode, ProviderOptions, WebUrl};
-use serde_json::Value;
 use std::alloc::Global;
 
 // The members of an entry of `providers`, its URL as text.
@@ -37,34 +37,32 @@ struct GetMembers<'a> {
 }
 
 // The entry of `providers`, of which there is exactly one.
-fn only_provider(d: &Value) -> Result<&Value, LineCause>
-    ensures { result_map_both (λ v. view v.now) (λ e. e) result
-        ≡ required spec.as_provider names.Providers (view d.now) }
+fn only_provider<'t, 'a>(d: &Part<'t, 'a>) -> Result<Part<'t, 'a>, LineCause>
+    ensures { result_map_both data_at (λ e. e) result
+        ≡ required spec.as_provider names.Providers (data_at d.now) }
 {
     let Some(found) = member(d, MemberName::Providers) else {
         return Err(LineCause::Member(MemberName::Providers));
     };
-    match only_item(found) {
+    match only_item(&found) {
         Some(entry) => Ok(entry),
         None => Err(LineCause::Member(MemberName::Providers)),
     }
 }
 
 // The entry of a list of exactly one object.
-fn only_item(list: &Value) -> Option<&Value>
-    ensures { option_map (λ v. view v.now) result ≡ spec.as_provider (view list.now) }
+fn only_item<'t, 'a>(list: &Part<'t, 'a>) -> Option<Part<'t, 'a>>
+    ensures { option_map data_at result ≡ spec.as_provider (data_at list.now) }
 {
-    let entries = list.as_array()?;
-    match entries.as_slice() {
-        [only] if only.is_object() => Some(only),
-        [] => None,
-        [_] => None,
-        [_, _, ..] => None,
+    if list.at(1).is_some() {
+        return None;
     }
+    let only = list.at(0)?;
+    if only.is_object() { Some(only) } else { None }
 }
 
-fn provider_members(d: &Value) -> Result<ProviderMembers<'_>, LineCause>
-    ensures { result_map_both spec.provider_seen (λ e. e) result ≡ spec.provider_members (view d.now) }
+fn provider_members<'a>(d: &Part<'_, 'a>) -> Result<ProviderMembers<'a>, LineCause>
+    ensures { result_map_both spec.provider_seen (λ e. e) result ≡ spec.provider_members (data_at d.now) }
 {
     Ok(ProviderMembers {
         config: text(d, MemberName::Config)?,
@@ -76,14 +74,14 @@ fn provider_members(d: &Value) -> Result<ProviderMembers<'_>, LineCause>
     })
 }
 
-fn get_members(d: &Value) -> Result<GetMembers<'_>, LineCause>
-    ensures { result_map_both spec.get_seen (λ e. e) result ≡ spec.get_members (view d.now) }
+fn get_members<'a>(d: &Part<'_, 'a>) -> Result<GetMembers<'a>, LineCause>
+    ensures { result_map_both spec.get_seen (λ e. e) result ≡ spec.get_members (data_at d.now) }
 {
     let page = number(d, MemberName::Page)?;
     let call = number(d, MemberName::Call)?;
     no_options(d)?;
     let context = context(d)?;
-    let provider = provider_members(only_provider(d)?)?;
+    let provider = provider_members(&only_provider(d)?)?;
     Ok(GetMembers {
         page,
         call,
@@ -130,8 +128,8 @@ fn options_of(
 }
 
 /// The get that a line names.
-pub(crate) fn get(alloc: Global, d: &Value) -> Result<Event, Fault<LineCause>>
-    ensures { Answers result (spec.get_of (view d.now)) }
+pub(crate) fn get(alloc: Global, d: &Part<'_, '_>) -> Result<Event, Fault<LineCause>>
+    ensures { Answers result (spec.get_of (data_at d.now)) }
 {
     match get_members(d) {
         Err(cause) => Err(Fault::Step(cause)),

@@ -1,21 +1,21 @@
 //! Lines of the kind `have`.
-ghost use Rattle.serde_json.specs.View.{view};
+ghost use Rattle.fed_script.specs.Part.{data_at};
 ghost use Rattle.fed_io.specs.Fault.{Answers};
 ghost use Rattle.fed_script.specs.Have as spec;
 
 use crate::cause::{LineCause, MemberName};
 use crate::event::{Event, Have};
 use crate::member::{text, web_url};
+use crate::part::Part;
 use crate::raw::required_bytes;
 use crate::status::status;
 use fed_io::Fault;
 use fed_origin::Origin;
-use serde_json::Value;
 use std::alloc::Global;
 
 // A login status that a line names.
-fn login(alloc: Global, d: &Value) -> Result<Have, Fault<LineCause>>
-    ensures { Answers result (spec.login_of (view d.now)) }
+fn login(alloc: Global, d: &Part<'_, '_>) -> Result<Have, Fault<LineCause>>
+    ensures { Answers result (spec.login_of (data_at d.now)) }
 {
     let origin = text(d, MemberName::Origin).map_err(Fault::Step)?;
     let status = status(d).map_err(Fault::Step)?;
@@ -25,8 +25,8 @@ fn login(alloc: Global, d: &Value) -> Result<Have, Fault<LineCause>>
 }
 
 // A cookie that a line names.
-fn cookie(alloc: Global, d: &Value) -> Result<Have, Fault<LineCause>>
-    ensures { Answers result (spec.cookie_of (view d.now)) }
+fn cookie(alloc: Global, d: &Part<'_, '_>) -> Result<Have, Fault<LineCause>>
+    ensures { Answers result (spec.cookie_of (data_at d.now)) }
 {
     let url = text(d, MemberName::Url).map_err(Fault::Step)?;
     let field = required_bytes(alloc, d)?;
@@ -35,8 +35,8 @@ fn cookie(alloc: Global, d: &Value) -> Result<Have, Fault<LineCause>>
 }
 
 // What a line of this `what` says.
-fn said(alloc: Global, what: &str, d: &Value) -> Result<Have, Fault<LineCause>>
-    ensures { Answers result (spec.said what.now (view d.now)) }
+fn said(alloc: Global, what: &str, d: &Part<'_, '_>) -> Result<Have, Fault<LineCause>>
+    ensures { Answers result (spec.said what.now (data_at d.now)) }
 {
     match what {
         "login" => login(alloc, d),
@@ -46,8 +46,8 @@ fn said(alloc: Global, what: &str, d: &Value) -> Result<Have, Fault<LineCause>>
 }
 
 /// The have that a line names.
-pub(crate) fn have_named(alloc: Global, d: &Value) -> Result<Event, Fault<LineCause>>
-    ensures { Answers result (spec.have_of (view d.now)) }
+pub(crate) fn have_named(alloc: Global, d: &Part<'_, '_>) -> Result<Event, Fault<LineCause>>
+    ensures { Answers result (spec.have_of (data_at d.now)) }
 {
     let what = text(d, MemberName::What).map_err(Fault::Step)?;
     let have = said(alloc, what, d)?;

@@ -1,22 +1,23 @@
 //! The first line of a script.
 ghost use Rattle.std.specs.Prelude.{◌≡◌};
 ghost use Rattle.std.specs.Result.{result_map_both};
-ghost use Rattle.serde_json.specs.View.{view};
+ghost use Rattle.fed_script.specs.Part.{data_at};
 ghost use Rattle.fed_io.specs.Fault.{Answers};
 ghost use Rattle.fed_script.specs.Header as spec;
 ghost use Rattle.fed_script.specs.Line.{header_of};
 
 use crate::cause::{LineCause, MemberName};
 use crate::event::Header;
-use crate::member::{json, text, whole};
+use crate::member::{tape_of, text, whole};
+use crate::part::Part;
 use fed_io::Fault;
 use fed_suffix::{SuffixRefusal, Suffixes};
-use serde_json::Value;
+use json::Scratch;
 use std::alloc::Global;
 
 // The time, and the text of the rules.
-fn header_members(d: &Value) -> Result<(u64, &str), LineCause>
-    ensures { result_map_both (λ m. (m.0, m.1.now)) (λ e. e) result ≡ spec.header_members (view d.now) }
+fn header_members<'a>(d: &Part<'_, 'a>) -> Result<(u64, &'a str), LineCause>
+    ensures { result_map_both (λ m. (m.0, m.1.now)) (λ e. e) result ≡ spec.header_members (data_at d.now) }
 {
     let version = whole(d, MemberName::Fedcm)?;
     if version != 1 {
@@ -42,8 +43,8 @@ fn read_rules(alloc: Global, text: &str) -> Result<Suffixes, Fault<SuffixRefusal
 }
 
 // The header that a line names.
-fn header_named(alloc: Global, d: &Value) -> Result<Header, Fault<LineCause>>
-    ensures { Answers result (spec.header_named (view d.now)) }
+fn header_named(alloc: Global, d: &Part<'_, '_>) -> Result<Header, Fault<LineCause>>
+    ensures { Answers result (spec.header_named (data_at d.now)) }
 {
     match header_members(d) {
         Err(cause) => Err(Fault::Step(cause)),
@@ -61,6 +62,7 @@ fn header_named(alloc: Global, d: &Value) -> Result<Header, Fault<LineCause>>
 pub fn read_header(alloc: Global, line: &[u8]) -> Result<Header, Fault<LineCause>>
     ensures { Answers result (header_of line.now) }
 {
-    let d = json(alloc, line)?;
-    header_named(alloc, &d)
+    let mut scratch = Scratch::new(alloc);
+    let tape = tape_of(alloc, &mut scratch, line)?;
+    header_named(alloc, &Part::of(&tape))
 }

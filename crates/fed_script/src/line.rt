@@ -1,6 +1,6 @@
 //! Reading a line that names an event.
 ghost use Rattle.std.specs.Prelude.{◌≡◌, ◌<◌, IfOk, OnOk, OnErr};
-ghost use Rattle.serde_json.specs.View.{view};
+ghost use Rattle.fed_script.specs.Part.{data_at};
 ghost use Rattle.fed_io.specs.Fault.{Answers};
 ghost use Rattle.fed_script.specs.Line as spec;
 ghost use Rattle.fed_script.specs.Line.{event_of};
@@ -13,18 +13,19 @@ use crate::event::Event;
 use crate::get::get;
 use crate::have::have_named;
 use crate::load::load;
-use crate::member::{json, member};
+use crate::member::{member, tape_of};
+use crate::part::Part;
 use crate::reply::reply;
 use crate::single::{abort, at, cancel, close_page, go_on};
 use crate::status::set_status;
 use crate::used::Used;
 use fed_io::Fault;
-use serde_json::Value;
+use json::Scratch;
 use std::alloc::Global;
 
 // The kind that a line names.
-fn kind_of(d: &Value) -> Result<&str, LineCause>
-    ensures { result_map_both (λ s. s.now) (λ e. e) result ≡ spec.kind_of (view d.now) }
+fn kind_of<'a>(d: &Part<'_, 'a>) -> Result<&'a str, LineCause>
+    ensures { result_map_both (λ s. s.now) (λ e. e) result ≡ spec.kind_of (data_at d.now) }
 {
     let Some(found) = member(d, MemberName::Do) else {
         return Err(LineCause::NoKind);
@@ -48,8 +49,8 @@ fn unread_kind(kind: &str) -> LineCause
 }
 
 // The event of a line of this kind.
-fn event_of_kind(alloc: Global, kind: &str, d: &Value) -> Result<Event, Fault<LineCause>>
-    ensures { Answers result (spec.event_of_kind kind.now (view d.now)) }
+fn event_of_kind(alloc: Global, kind: &str, d: &Part<'_, '_>) -> Result<Event, Fault<LineCause>>
+    ensures { Answers result (spec.event_of_kind kind.now (data_at d.now)) }
 {
     match kind {
         "have" => have_named(alloc, d),
@@ -67,11 +68,16 @@ fn event_of_kind(alloc: Global, kind: &str, d: &Value) -> Result<Event, Fault<Li
     }
 }
 
-// The event that a line names, before the lines before it are looked at.
-fn event_named(alloc: Global, line: &[u8]) -> Result<Event, Fault<LineCause>>
+/// The event that a line names, before the lines before it are looked at.
+pub(crate) fn event_named(
+    alloc: Global,
+    scratch: &mut Scratch,
+    line: &[u8],
+) -> Result<Event, Fault<LineCause>>
     ensures { Answers result (spec.event_named line.now) }
 {
-    let d = json(alloc, line)?;
+    let tape = tape_of(alloc, scratch, line)?;
+    let d = Part::of(&tape);
     match kind_of(&d) {
         Ok(kind) => event_of_kind(alloc, kind, &d),
         Err(cause) => Err(Fault::Step(cause)),
@@ -109,7 +115,7 @@ pub fn read_event(alloc: Global, line: &[u8], used: &mut Used) -> Result<Event, 
     ensures provider { IfOk result HasOneProvider }
     ensures status { IfOk result HasKnownStatus }
 {
-    let event = event_named(alloc, line)?;
+    let event = used.event_named(alloc, line)?;
     match allowed(used, &event) {
         Ok(()) => {
             used.note(&event)?;

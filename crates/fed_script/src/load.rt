@@ -1,19 +1,19 @@
 //! Lines of the kind `load`.
-ghost use Rattle.serde_json.specs.View.{view};
+ghost use Rattle.fed_script.specs.Part.{data_at};
 ghost use Rattle.fed_io.specs.Fault.{Answers};
 ghost use Rattle.fed_script.specs.Load as spec;
 
 use crate::cause::{LineCause, MemberName};
 use crate::event::Event;
 use crate::member::{number, text, web_url};
+use crate::part::Part;
 use crate::raw::optional_bytes;
 use fed_io::Fault;
-use serde_json::Value;
 use std::alloc::Global;
 
 /// The load that a line names.
-pub(crate) fn load(alloc: Global, d: &Value) -> Result<Event, Fault<LineCause>>
-    ensures { Answers result (spec.load_of (view d.now)) }
+pub(crate) fn load(alloc: Global, d: &Part<'_, '_>) -> Result<Event, Fault<LineCause>>
+    ensures { Answers result (spec.load_of (data_at d.now)) }
 {
     let page = number(d, MemberName::Page).map_err(Fault::Step)?;
     let url = text(d, MemberName::Url).map_err(Fault::Step)?;

@@ -3,45 +3,68 @@ ghost use Rattle.std.specs.Prelude.{◌≡◌, option_map};
 ghost use Rattle.std.specs.Option.{option_copied};
 ghost use Rattle.std.specs.Result.{result_map_both};
 ghost use Rattle.serde_json.specs.Find.{as_str};
-ghost use Rattle.serde_json.specs.View.{view};
+ghost use Rattle.fed_script.specs.Part.{data_at};
 ghost use Rattle.fed_io.specs.Fault.{Answers, AnswersBy};
+ghost use Rattle.serde_json.specs.Read.{read};
 ghost use Rattle.fed_script.specs.Member as spec;
+ghost use Rattle.fed_script.specs.Member.{or_cause};
+ghost use Rattle.fed_script.specs.declared.cause.LineCause.TheVariants.{NotJson};
 
 use crate::cause::{LineCause, MemberName};
+use crate::part::Part;
+use crate::range::are_in_range;
 use fed_io::Fault;
 use fed_origin::WebUrl;
-use serde_json::Value;
+use json::{Scratch, Tape};
+use simdutf8::basic::from_utf8;
 use std::alloc::Global;
 
-/// The value of a line; NotJson where it has none.
-pub(crate) fn json(alloc: Global, line: &[u8]) -> Result<Value, Fault<LineCause>>
-    ensures { AnswersBy view result (spec.json_of line.now) }
+// The value of a text; NotJson where it has none.
+fn text_tape<'a>(
+    alloc: Global,
+    scratch: &'a mut Scratch,
+    text: &'a str,
+) -> Result<Tape<'a>, Fault<LineCause>>
+    ensures { AnswersBy data_at result (or_cause NotJson (read text.now)) }
 {
-    match Value::from_slice(alloc, line) {
-        Ok(value) => Ok(value),
-        Err(e) => {
-            if e.is_memory() {
-                Err(Fault::NoRoom)
+    match Tape::parse(text, scratch, Vec::new(alloc)) {
+        Ok(tape) => {
+            if are_in_range(tape.nodes()) {
+                Ok(tape)
             } else {
                 Err(Fault::Step(LineCause::NotJson))
             }
         }
+        Err(json::Error::Invalid) => Err(Fault::Step(LineCause::NotJson)),
+        Err(_) => Err(Fault::NoRoom),
+    }
+}
+
+/// The value of a line; NotJson where it has none.
+pub(crate) fn tape_of<'a>(
+    alloc: Global,
+    scratch: &'a mut Scratch,
+    line: &'a [u8],
+) -> Result<Tape<'a>, Fault<LineCause>>
+    ensures { AnswersBy data_at result (spec.json_of line.now) }
+{
+    match from_utf8(line) {
+        Ok(text) => text_tape(alloc, scratch, text),
+        Err(_) => Err(Fault::Step(LineCause::NotJson)),
     }
 }
 
 /// A member, which is absent where it is null.
-pub(crate) fn member(d: &Value, name: MemberName) -> Option<&Value>
-    ensures { option_map (λ v. view v.now) result ≡ spec.member_of name (view d.now) }
+pub(crate) fn member<'t, 'a>(d: &Part<'t, 'a>, name: MemberName) -> Option<Part<'t, 'a>>
+    ensures { option_map data_at result ≡ spec.member_of name (data_at d.now) }
 {
-    match d.get(name.as_str()) {
-        Some(Value::Null) => None,
-        other => other,
-    }
+    let found = d.get(name.as_str())?;
+    if found.is_null() { None } else { Some(found) }
 }
 
 /// A whole number of 64 bits.
-pub(crate) fn whole(d: &Value, name: MemberName) -> Result<u64, LineCause>
-    ensures { result ≡ spec.required spec.as_whole name (view d.now) }
+pub(crate) fn whole(d: &Part<'_, '_>, name: MemberName) -> Result<u64, LineCause>
+    ensures { result ≡ spec.required spec.as_whole name (data_at d.now) }
 {
     let Some(found) = member(d, name) else {
         return Err(LineCause::Member(name));
@@ -53,8 +76,8 @@ pub(crate) fn whole(d: &Value, name: MemberName) -> Result<u64, LineCause>
 }
 
 /// A whole number of 32 bits.
-pub(crate) fn number(d: &Value, name: MemberName) -> Result<u32, LineCause>
-    ensures { result ≡ spec.required spec.as_u32 name (view d.now) }
+pub(crate) fn number(d: &Part<'_, '_>, name: MemberName) -> Result<u32, LineCause>
+    ensures { result ≡ spec.required spec.as_u32 name (data_at d.now) }
 {
     let Some(found) = member(d, name) else {
         return Err(LineCause::Member(name));
@@ -66,8 +89,8 @@ pub(crate) fn number(d: &Value, name: MemberName) -> Result<u32, LineCause>
 }
 
 /// A text.
-pub(crate) fn text(d: &Value, name: MemberName) -> Result<&str, LineCause>
-    ensures { result_map_both (λ s. s.now) (λ e. e) result ≡ spec.required as_str name (view d.now) }
+pub(crate) fn text<'a>(d: &Part<'_, 'a>, name: MemberName) -> Result<&'a str, LineCause>
+    ensures { result_map_both (λ s. s.now) (λ e. e) result ≡ spec.required as_str name (data_at d.now) }
 {
     let Some(found) = member(d, name) else {
         return Err(LineCause::Member(name));
@@ -79,9 +102,12 @@ pub(crate) fn text(d: &Value, name: MemberName) -> Result<&str, LineCause>
 }
 
 /// A text that may be absent.
-pub(crate) fn optional_text(d: &Value, name: MemberName) -> Result<Option<&str>, LineCause>
+pub(crate) fn optional_text<'a>(
+    d: &Part<'_, 'a>,
+    name: MemberName,
+) -> Result<Option<&'a str>, LineCause>
     ensures { result_map_both option_copied (λ e. e) result
-        ≡ spec.optional as_str name (spec.member_of name (view d.now)) }
+        ≡ spec.optional as_str name (spec.member_of name (data_at d.now)) }
 {
     let Some(found) = member(d, name) else {
         return Ok(None);
@@ -93,8 +119,8 @@ pub(crate) fn optional_text(d: &Value, name: MemberName) -> Result<Option<&str>,
 }
 
 /// A whole number of 32 bits that may be absent.
-pub(crate) fn optional_number(d: &Value, name: MemberName) -> Result<Option<u32>, LineCause>
-    ensures { result ≡ spec.optional spec.as_u32 name (spec.member_of name (view d.now)) }
+pub(crate) fn optional_number(d: &Part<'_, '_>, name: MemberName) -> Result<Option<u32>, LineCause>
+    ensures { result ≡ spec.optional spec.as_u32 name (spec.member_of name (data_at d.now)) }
 {
     if member(d, name).is_none() {
         return Ok(None);
@@ -103,8 +129,8 @@ pub(crate) fn optional_number(d: &Value, name: MemberName) -> Result<Option<u32>
 }
 
 /// A member that is not read yet.
-pub(crate) fn not_built(d: &Value, name: MemberName) -> Result<(), LineCause>
-    ensures { result ≡ spec.not_built name (spec.member_of name (view d.now)) }
+pub(crate) fn not_built(d: &Part<'_, '_>, name: MemberName) -> Result<(), LineCause>
+    ensures { result ≡ spec.not_built name (spec.member_of name (data_at d.now)) }
 {
     match member(d, name) {
         Some(_) => Err(LineCause::Member(name)),

@@ -1,18 +1,18 @@
 //! The options of a get, but for its providers.
 ghost use Rattle.std.specs.Prelude.{◌≡◌};
-ghost use Rattle.serde_json.specs.View.{view};
+ghost use Rattle.fed_script.specs.Part.{data_at};
 ghost use Rattle.fed_origin.specs.Words.{context_of_word};
 ghost use Rattle.fed_script.specs.Member.{as_word};
 ghost use Rattle.fed_script.specs.Options as spec;
 
 use crate::cause::{LineCause, MemberName};
 use crate::member::{member, not_built};
+use crate::part::Part;
 use fed_origin::Context;
-use serde_json::Value;
 
 /// The options that are not read yet may not be there.
-pub(crate) fn no_options(d: &Value) -> Result<(), LineCause>
-    ensures { result ≡ spec.no_options (view d.now) }
+pub(crate) fn no_options(d: &Part<'_, '_>) -> Result<(), LineCause>
+    ensures { result ≡ spec.no_options (data_at d.now) }
 {
     not_built(d, MemberName::Mediation)?;
     not_built(d, MemberName::Mode)?;
@@ -20,18 +20,18 @@ pub(crate) fn no_options(d: &Value) -> Result<(), LineCause>
 }
 
 // The context that a value names.
-fn as_context(found: &Value) -> Option<Context>
-    ensures { result ≡ as_word context_of_word (view found.now) }
+fn as_context(found: &Part<'_, '_>) -> Option<Context>
+    ensures { result ≡ as_word context_of_word (data_at found.now) }
 {
     Context::of_word(found.as_str()?)
 }
 
 /// The context that a line names; where it names none, signing in.
-pub(crate) fn context(d: &Value) -> Result<Context, LineCause>
-    ensures { result ≡ spec.context_of (view d.now) }
+pub(crate) fn context(d: &Part<'_, '_>) -> Result<Context, LineCause>
+    ensures { result ≡ spec.context_of (data_at d.now) }
 {
     let Some(found) = member(d, MemberName::Context) else {
         return Ok(Context::SignIn);
     };
-    as_context(found).ok_or(LineCause::Member(MemberName::Context))
+    as_context(&found).ok_or(LineCause::Member(MemberName::Context))
 }

@@ -1,7 +1,7 @@
 //! Bytes that a line gives.
 ghost use Rattle.std.specs.Prelude.{◌≡◌, IfOk};
 ghost use Rattle.serde_json.specs.Find.{as_str};
-ghost use Rattle.serde_json.specs.View.{view};
+ghost use Rattle.fed_script.specs.Part.{data_at};
 ghost use Rattle.fed_io.specs.Fault.{Answers};
 ghost use Rattle.fed_script.specs.Member.{or_cause};
 ghost use Rattle.fed_script.specs.Raw as spec;
@@ -10,10 +10,10 @@ ghost use Rattle.fed_script.specs.declared.cause.MemberName.TheVariants as names
 
 use crate::cause::{LineCause, MemberName};
 use crate::member::member;
+use crate::part::Part;
 use base64::DecodeAllocError;
 use base64::engine::general_purpose::STANDARD;
 use fed_io::{Bytes, Fault, NoRoom};
-use serde_json::Value;
 use std::alloc::Global;
 
 // The bytes of a text in base64, if it is one.
@@ -29,8 +29,8 @@ fn base64_bytes(alloc: Global, text: &str) -> Result<Option<Bytes>, NoRoom>
 }
 
 // The bytes of the member `text`.
-fn text_bytes(alloc: Global, text: &Value) -> Result<Bytes, Fault<LineCause>>
-    ensures { Answers result (or_cause (Member names.Text) (as_str (view text.now))) }
+fn text_bytes(alloc: Global, text: &Part<'_, '_>) -> Result<Bytes, Fault<LineCause>>
+    ensures { Answers result (or_cause (Member names.Text) (as_str (data_at text.now))) }
 {
     match text.as_str() {
         Some(text) => Ok(Bytes::of(alloc, text.as_bytes())?),
@@ -39,8 +39,8 @@ fn text_bytes(alloc: Global, text: &Value) -> Result<Bytes, Fault<LineCause>>
 }
 
 // The bytes of the member `raw`.
-fn raw_bytes(alloc: Global, raw: &Value) -> Result<Bytes, Fault<LineCause>>
-    ensures { Answers result (or_cause (Member names.Raw) (spec.as_base64 (view raw.now))) }
+fn raw_bytes(alloc: Global, raw: &Part<'_, '_>) -> Result<Bytes, Fault<LineCause>>
+    ensures { Answers result (or_cause (Member names.Raw) (spec.as_base64 (data_at raw.now))) }
 {
     let Some(text) = raw.as_str() else {
         return Err(Fault::Step(LineCause::Member(MemberName::Raw)));
@@ -52,20 +52,23 @@ fn raw_bytes(alloc: Global, raw: &Value) -> Result<Bytes, Fault<LineCause>>
 }
 
 /// The bytes that a line gives by at most one of `text` (its UTF-8) and `raw` (base64, RFC 4648, 4).
-pub(crate) fn optional_bytes(alloc: Global, d: &Value) -> Result<Option<Bytes>, Fault<LineCause>>
-    ensures { Answers result (spec.optional_bytes (view d.now)) }
+pub(crate) fn optional_bytes(
+    alloc: Global,
+    d: &Part<'_, '_>,
+) -> Result<Option<Bytes>, Fault<LineCause>>
+    ensures { Answers result (spec.optional_bytes (data_at d.now)) }
 {
     match (member(d, MemberName::Text), member(d, MemberName::Raw)) {
         (None, None) => Ok(None),
-        (Some(text), None) => Ok(Some(text_bytes(alloc, text)?)),
-        (None, Some(raw)) => Ok(Some(raw_bytes(alloc, raw)?)),
+        (Some(text), None) => Ok(Some(text_bytes(alloc, &text)?)),
+        (None, Some(raw)) => Ok(Some(raw_bytes(alloc, &raw)?)),
         (Some(_), Some(_)) => Err(Fault::Step(LineCause::Member(MemberName::Text))),
     }
 }
 
 /// The bytes that a line gives by exactly one of `text` and `raw`.
-pub(crate) fn required_bytes(alloc: Global, d: &Value) -> Result<Bytes, Fault<LineCause>>
-    ensures { Answers result (spec.required_bytes (view d.now)) }
+pub(crate) fn required_bytes(alloc: Global, d: &Part<'_, '_>) -> Result<Bytes, Fault<LineCause>>
+    ensures { Answers result (spec.required_bytes (data_at d.now)) }
 {
     match optional_bytes(alloc, d)? {
         Some(bytes) => Ok(bytes),

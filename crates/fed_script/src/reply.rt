@@ -1,6 +1,6 @@
 //! Lines of the kind `reply`.
 ghost use Rattle.std.specs.Prelude.{◌≡◌};
-ghost use Rattle.serde_json.specs.View.{view};
+ghost use Rattle.fed_script.specs.Part.{data_at};
 ghost use Rattle.fed_io.specs.Fault.{Answers};
 ghost use Rattle.fed_script.specs.Member.{required, as_word};
 ghost use Rattle.fed_script.specs.Reply as spec;
@@ -9,10 +9,10 @@ ghost use Rattle.fed_script.specs.declared.cause.MemberName.TheVariants as names
 use crate::cause::{LineCause, MemberName};
 use crate::event::Event;
 use crate::member::{member, number, optional_number};
+use crate::part::Part;
 use crate::raw::required_bytes;
 use fed_io::Fault;
 use fed_origin::ReplyKind;
-use serde_json::Value;
 use std::alloc::Global;
 
 // The kind of reply that a word stands for. No call asks for a disconnection yet.
@@ -26,25 +26,25 @@ fn reply_kind(word: &str) -> Option<ReplyKind>
 }
 
 // The kind of reply that a value names.
-fn as_kind(found: &Value) -> Option<ReplyKind>
-    ensures { result ≡ as_word spec.reply_kind (view found.now) }
+fn as_kind(found: &Part<'_, '_>) -> Option<ReplyKind>
+    ensures { result ≡ as_word spec.reply_kind (data_at found.now) }
 {
     reply_kind(found.as_str()?)
 }
 
 // The member `to`.
-fn kind(d: &Value) -> Result<ReplyKind, LineCause>
-    ensures { result ≡ required (as_word spec.reply_kind) names.To (view d.now) }
+fn kind(d: &Part<'_, '_>) -> Result<ReplyKind, LineCause>
+    ensures { result ≡ required (as_word spec.reply_kind) names.To (data_at d.now) }
 {
     let Some(found) = member(d, MemberName::To) else {
         return Err(LineCause::Member(MemberName::To));
     };
-    as_kind(found).ok_or(LineCause::Member(MemberName::To))
+    as_kind(&found).ok_or(LineCause::Member(MemberName::To))
 }
 
 /// The reply that a line names.
-pub(crate) fn reply(alloc: Global, d: &Value) -> Result<Event, Fault<LineCause>>
-    ensures { Answers result (spec.reply_of (view d.now)) }
+pub(crate) fn reply(alloc: Global, d: &Part<'_, '_>) -> Result<Event, Fault<LineCause>>
+    ensures { Answers result (spec.reply_of (data_at d.now)) }
 {
     let call = number(d, MemberName::Call).map_err(Fault::Step)?;
     let provider = optional_number(d, MemberName::Provider).map_err(Fault::Step)?;

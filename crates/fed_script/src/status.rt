@@ -1,6 +1,6 @@
 //! Login statuses, and lines of the kind `setstatus`.
 ghost use Rattle.std.specs.Prelude.{◌≡◌};
-ghost use Rattle.serde_json.specs.View.{view};
+ghost use Rattle.fed_script.specs.Part.{data_at};
 ghost use Rattle.fed_origin.specs.Words.{status_of_word};
 ghost use Rattle.fed_script.specs.Member.{required, as_word};
 ghost use Rattle.fed_script.specs.Status as spec;
@@ -9,29 +9,29 @@ ghost use Rattle.fed_script.specs.declared.cause.MemberName.TheVariants as names
 use crate::cause::{LineCause, MemberName};
 use crate::event::Event;
 use crate::member::{member, number};
+use crate::part::Part;
 use fed_origin::LoginStatus;
-use serde_json::Value;
 
 // The status that a value names.
-fn as_status(found: &Value) -> Option<LoginStatus>
-    ensures { result ≡ as_word status_of_word (view found.now) }
+fn as_status(found: &Part<'_, '_>) -> Option<LoginStatus>
+    ensures { result ≡ as_word status_of_word (data_at found.now) }
 {
     LoginStatus::of_word(found.as_str()?)
 }
 
 /// The member `status`.
-pub(crate) fn status(d: &Value) -> Result<LoginStatus, LineCause>
-    ensures { result ≡ required (as_word status_of_word) names.Status (view d.now) }
+pub(crate) fn status(d: &Part<'_, '_>) -> Result<LoginStatus, LineCause>
+    ensures { result ≡ required (as_word status_of_word) names.Status (data_at d.now) }
 {
     let Some(found) = member(d, MemberName::Status) else {
         return Err(LineCause::Member(MemberName::Status));
     };
-    as_status(found).ok_or(LineCause::Member(MemberName::Status))
+    as_status(&found).ok_or(LineCause::Member(MemberName::Status))
 }
 
 /// The status that a page sets.
-pub(crate) fn set_status(d: &Value) -> Result<Event, LineCause>
-    ensures { result ≡ spec.setstatus_of (view d.now) }
+pub(crate) fn set_status(d: &Part<'_, '_>) -> Result<Event, LineCause>
+    ensures { result ≡ spec.setstatus_of (data_at d.now) }
 {
     let page = number(d, MemberName::Page)?;
     let status = status(d)?;

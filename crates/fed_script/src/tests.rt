@@ -179,7 +179,8 @@ fn rules_of_a_header(rt: HostRuntime) {
 }
 
 // Among them a configuration URL without a registrable domain; members that are read over, a null that is absent, and the
-// last of several members, which counts; URLs of the scheme http; and a number that is free for another page's load.
+// last of several members, which counts; URLs of the scheme http; a number that is free for another page's load; and
+// escapes, and numbers that are read over.
 fn good_rows() -> &'static str {
     concat!(
         r#"ok | {"do":"load","page":1,"url":"https://rp.example/"}
@@ -190,13 +191,14 @@ ok | {"do":"get","mediation":null,"mode":null,"activation":null,"context":null,"
         r#""providers":[{"config":"https://a","client":"c","nonce":null,"login_hint":"l","domain_hint":"d","params":"p","more":0}]}
 ok | {"do":"load","page":2,"url":"http://rp.example/"}
 ok | {"do":"get","page":1,"call":3,"providers":[{"config":"http://localhost/f","client":""}]}
-ok | {"do":"load","page":1,"url":"https://rp.example/"}"#
+ok | {"do":"load","page":1,"url":"https://rp.example/"}
+ok | {"d\u006f":"load","page":1,"url":"https:\/\/a","more":[1e308,-0,0.1,-99999999999999999999,{"more":[]}]}"#
     )
 }
 
 #[test]
 fn good_lines(rt: HostRuntime) -> Result<(), Fail> {
-    assert_eq!(rt; taken(rt.alloc(), 1_700_000_000, good_rows())?, ("", 8));
+    assert_eq!(rt; taken(rt.alloc(), 1_700_000_000, good_rows())?, ("", 9));
     Ok(())
 }
 
@@ -218,6 +220,8 @@ no-kind | {"do":"Continue"}
 member.do | {"do":"disconnect"}
 not-json | {"do":"load","page":1,"url":"https://rp.example/"},
 not-json | {"do":"load","page":1e999,"url":"https://rp.example/"}
+not-json | {"do":"jump","more":[{"more":-1e309}]}
+not-json | {"do":"jump","more":"\ud800"}
 member.page | {"do":"load","page":null,"url":1,"text":""}
 member.page | {"do":"load","page":1.0,"url":"https://a"}
 member.page | {"do":"load","page":-0,"url":"https://a"}

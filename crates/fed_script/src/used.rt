@@ -1,11 +1,16 @@
 //! What the lines before a line leave for it.
 ghost use Rattle.std.specs.Prelude.{◌≡◌, ◌<◌, not, nat_lt, OnOk, OnErr};
+ghost use Rattle.fed_io.specs.Fault.{Answers};
+ghost use Rattle.fed_script.specs.Line.{event_named};
 ghost use Rattle.fed_script.specs.Used as spec;
 ghost use Rattle.fed_script.specs.Used.{unused, used_after, is_used, is_late, is_back, IsUnused};
 
+use crate::cause::LineCause;
 use crate::event::Event;
-use fed_io::NoRoom;
+use crate::line::event_named;
+use fed_io::{Fault, NoRoom};
 use indexmap::IndexSet;
+use json::Scratch;
 use std::alloc::Global;
 use std::marker::Model;
 
@@ -17,6 +22,8 @@ pub struct Used {
     started: bool,
     events: u32,
     time: u64,
+    // The memory in which lines are read, kept from one to the next.
+    scratch: Scratch,
 }
 
 impl Model for Used {
@@ -37,6 +44,7 @@ impl Used {
             started: false,
             events: 0,
             time,
+            scratch: Scratch::new(alloc),
         }
     }
 
@@ -84,6 +92,18 @@ impl Used {
         }
     }
 
+    /// The event that a line names, before the lines before it are looked at.
+    pub(crate) fn event_named(
+        &mut self,
+        alloc: Global,
+        line: &[u8],
+    ) -> Result<Event, Fault<LineCause>>
+        ensures answer { Answers result (event_named line.now) }
+        ensures same { self.new ≡ self.old }
+    {
+        event_named(alloc, &mut self.scratch, line)
+    }
+
     /// Counts an event, its call's number as used, and the time that it names. On NoRoom nothing changes.
     pub(crate) fn note(&mut self, event: &Event) -> Result<(), NoRoom>
         requires few { self.old.events < 1000000 }
@@ -124,8 +144,7 @@ fn time_after(event: &Event, before: u64) -> u64
 #[cfg(test)]
 mod tests {
     use super::*;
-    use crate::{LineCause, read_event};
-    use fed_io::Fault;
+    use crate::read_event;
 
     const LOAD: &[u8] = br#"{"do":"load","page":1,"url":"https://rp.example/"}"#;
 

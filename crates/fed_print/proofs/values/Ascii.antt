@@ -1,10 +1,29 @@
 -- Bytes below 128 are a text.
-use Rattle.std.proofs.Common.{◌≡◌, ℕ, zero, suc, List, [], ◌∷◌, true, arith}
+use Rattle.std.proofs.Common.{◌≡◌, ◌≤◌, ◌∙◌, ℕ, zero, suc, List, [], ◌∷◌, Bool, true, false, ◌&&◌, Some, None, cond, refl, ap, arith}
 use Rattle.std.proofs.lemmas.Bool.Decides.{nat_tests}
 use Rattle.std.specs.List.{list_all}
-use Rattle.std.specs.Prelude.{nat_lt, IsAscii}
+use Rattle.std.specs.Prelude.{nat_lt, slice_index}
+use Rattle.std.specs.Str.{IsAscii, IsNotAscii}
+use Rattle.fed_print.specs.Records.{ascii_text}
 
-pub IsAscii-from_list_all : (bytes : List ℕ) → list_all (λ b. nat_lt b 128) bytes ≡ true → IsAscii bytes
-IsAscii-from_list_all [] h i = omega arith
-IsAscii-from_list_all (b ∷ bytes) h zero = grind (arith, nat_tests, h)
-IsAscii-from_list_all (b ∷ bytes) h (suc i) = IsAscii-from_list_all bytes (grind (arith, nat_tests, h)) i
+both : (a b : Bool) → a ≡ true → b ≡ true → (a && b) ≡ true
+both a b h k = ap (λ x. x && b) h ∙ k
+
+last_false : (a b : Bool) → b ≡ false → (a && b) ≡ false
+last_false true b h = h
+last_false false b h = refl
+
+all_below : (bytes : List ℕ) → IsAscii bytes → list_all (λ b. nat_lt b 128) bytes ≡ true
+all_below [] h = refl
+all_below (b ∷ bytes) h = both _ _ (grind (arith, nat_tests, h 0)) (all_below bytes (λ i. h (suc i)))
+
+one_above : (bytes : List ℕ) (i : ℕ) → 128 ≤ slice_index bytes i → list_all (λ b. nat_lt b 128) bytes ≡ false
+one_above [] i h = absurd (omega arith)
+one_above (b ∷ bytes) zero h = grind (arith, nat_tests, h)
+one_above (b ∷ bytes) (suc i) h = last_false _ _ (one_above bytes i h)
+
+pub text_from_ascii : (bytes : List ℕ) → IsAscii bytes → ascii_text bytes ≡ Some bytes
+text_from_ascii bytes h = ap (λ b. cond b (Some bytes) None) (all_below bytes h)
+
+pub none_from_not_ascii : (bytes : List ℕ) → IsNotAscii bytes → ascii_text bytes ≡ None
+none_from_not_ascii bytes h = ap (λ b. cond b (Some bytes) None) (one_above bytes h.0 h.1)

@@ -1,0 +1,2 @@
+-- What a printer writes.
+pub mod Pieces
