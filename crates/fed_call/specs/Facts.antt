@@ -1,5 +1,6 @@
 -- What is known of a call that began and is not over, and what an event leaves of it.
-use Rattle.std.specs.Prelude.{ℕ, Bool, true, false, List, [], ◌∷◌, map, slice_get, Option, Some, None, unwrap_or, option_and_then, Result, Ok, Err}
+use Rattle.std.specs.Prelude.{ℕ, Bool, true, false, List, [], ◌∷◌, map, slice_get, Option, Some, None, unwrap_or, option_and_then, Result}
+use Rattle.std.specs.Prelude.{Ok, Err}
 use Rattle.std.specs.List.{list_any}
 use Rattle.std.specs.Result.{result_ok}
 use Rattle.url.specs.Parts.{Parts}
@@ -15,12 +16,10 @@ use Rattle.fed_provider.specs.FirstReplies.{config_read}
 use Rattle.fed_accounts.specs.declared.account.Account.{Account}
 use Rattle.fed_accounts.specs.declared.step.AccountsStep.{AccountsStep}
 use Rattle.fed_status.specs.Shared.{World}
-use Rattle.fed_consent.specs.declared.table.effect.Effect.{Effect}
-use Rattle.fed_consent.specs.declared.table.effect.Effect.TheVariants.{Ignored}
 use Rattle.fed_consent.specs.declared.table.input.Input.{Input}
 use Rattle.fed_consent.specs.declared.table.input.Input.TheVariants.{Reply, Choose}
 use Rattle.fed_consent.specs.Consent.{Listed, Candidate, chosen}
-use Rattle.fed_consent.specs.Outcomes.{Outcome}
+use Rattle.fed_consent.specs.Outcomes.{Outcome, is_ignored}
 use Rattle.fed_call.specs.Accounts.{accounts_of, listed_of, candidate_of, needs_metadata}
 
 pub record Facts : Type 0 where
@@ -84,10 +83,6 @@ started call page origin options outcome = at_stage (unwrap_or outcome.stage Rea
 
 -- ---- at an input
 
-abbrev pub is_ignored : Effect → Bool
-is_ignored (Ignored why) = true
-is_ignored _ = false
-
 -- the provider at this place in the call's list, if there is one
 abbrev pub provider_at : ℕ → GetOptions → Option ProviderOptions
 provider_at place options = slice_get options.providers place
@@ -125,7 +120,8 @@ with_listing world raw (Some provider) facts = with_list world provider (account
 -- what a reply of this kind says, which came for the provider at this place
 abbrev pub with_reply : World → ℕ → ReplyKind → List ℕ → Facts → Facts
 with_reply world place kinds.WellKnown raw facts = record facts { heard = true }
-with_reply world place kinds.Config raw facts = record facts { config = option_and_then result_ok (config_read raw (provider_at place facts.options)) }
+with_reply world place kinds.Config raw facts =
+    record facts { config = option_and_then result_ok (config_read raw (provider_at place facts.options)) }
 with_reply world place kinds.Accounts raw facts = with_listing world raw (provider_at place facts.options) facts
 with_reply world place kinds.Metadata raw facts = record facts { waits = false }
 with_reply world place kinds.Assertion raw facts = facts

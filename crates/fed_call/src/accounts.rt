@@ -71,7 +71,8 @@ pub fn connections(
     begun: &Call,
     accounts: &[Account],
 ) -> Result<Items<bool>, NoRoom>
-    ensures { IfOk result (λ all. all ≡ map (spec.is_connected kept.now begun.now.origin (origin_of begun.now.provider.config) begun.now.provider.client) accounts.now) }
+    ensures { IfOk result (λ all. all ≡ map (spec.is_connected kept.now begun.now.origin (origin_of begun.now.provider.config)
+        begun.now.provider.client) accounts.now) }
 {
     connections_at(
         alloc,

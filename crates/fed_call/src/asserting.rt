@@ -55,7 +55,8 @@ impl Asserting {
         shared: &Shared<'_>,
     ) -> Result<(CallState, Items<Effect>), NoRoom>
         ensures effects { IfOk result (λ r. r.1 ≡ (input_row (world_of shared.now) (asserting_facts self) input.now).effects) }
-        ensures state { IfOk result (λ r. facts_of r.0 ≡ facts_after (world_of shared.now) (asserting_facts self) input.now (input_row (world_of shared.now) (asserting_facts self) input.now)) }
+        ensures state { IfOk result (λ r. facts_of r.0 ≡ facts_after (world_of shared.now) (asserting_facts self) input.now (input_row
+            (world_of shared.now) (asserting_facts self) input.now)) }
     {
         match input {
             Input::Reply {
@@ -82,8 +83,10 @@ impl Asserting {
         kind: ReplyKind,
         raw: &[u8],
     ) -> Result<(CallState, Items<Effect>), NoRoom>
-        ensures effects { IfOk result (λ r. r.1 ≡ (stage_reply (world_of shared.now) (asserting_facts self) Stage.Asserting place kind raw.now).effects) }
-        ensures state { IfOk result (λ r. facts_of r.0 ≡ facts_after (world_of shared.now) (asserting_facts self) (inputs.Reply place kind raw.now) (stage_reply (world_of shared.now) (asserting_facts self) Stage.Asserting place kind raw.now)) }
+        ensures effects { IfOk result (λ r. r.1 ≡ (stage_reply (world_of shared.now) (asserting_facts self) Stage.Asserting place kind
+            raw.now).effects) }
+        ensures state { IfOk result (λ r. facts_of r.0 ≡ facts_after (world_of shared.now) (asserting_facts self) (inputs.Reply place kind
+            raw.now) (stage_reply (world_of shared.now) (asserting_facts self) Stage.Asserting place kind raw.now)) }
     {
         match kind {
             ReplyKind::Assertion => self.assertion_reply(alloc, shared, place, raw),
@@ -103,8 +106,12 @@ impl Asserting {
         place: u32,
         raw: &[u8],
     ) -> Result<(CallState, Items<Effect>), NoRoom>
-        ensures effects { IfOk result (λ r. r.1 ≡ (spec.assertion_reply (asserting_facts self) place (provider_at place (options_of self.begun)) raw.now).effects) }
-        ensures state { IfOk result (λ r. facts_of r.0 ≡ facts_after (world_of shared.now) (asserting_facts self) (inputs.Reply place ReplyKind.Assertion raw.now) (spec.assertion_reply (asserting_facts self) place (provider_at place (options_of self.begun)) raw.now)) }
+        ensures effects { IfOk result (λ r. r.1 ≡ (spec.assertion_reply (asserting_facts self) place
+            (provider_at place (options_of self.begun))
+            raw.now).effects) }
+        ensures state { IfOk result (λ r. facts_of r.0 ≡ facts_after (world_of shared.now) (asserting_facts self) (inputs.Reply place
+            ReplyKind.Assertion raw.now) (spec.assertion_reply (asserting_facts self) place (provider_at place (options_of self.begun))
+            raw.now)) }
     {
         if self.begun.has(place) {
             return self.answered(alloc, place, raw);
@@ -119,7 +126,8 @@ impl Asserting {
         place: u32,
         raw: &[u8],
     ) -> Result<(CallState, Items<Effect>), NoRoom>
-        ensures effects { IfOk result (λ r. r.1 ≡ (spec.assertion_reply (asserting_facts self) place (Some self.begun.provider) raw.now).effects) }
+        ensures effects { IfOk result (λ r. r.1 ≡ (spec.assertion_reply (asserting_facts self) place (Some self.begun.provider)
+            raw.now).effects) }
         ensures state { IfOk result (λ r. facts_of r.0 ≡ None) }
     {
         ended(alloc, &self.begun.origin, self.auto, place, raw)
@@ -134,7 +142,8 @@ fn ended(
     place: u32,
     raw: &[u8],
 ) -> Result<(CallState, Items<Effect>), NoRoom>
-    ensures effects { IfOk result (λ r. r.1 ≡ Effect.Finish (spec.token_given auto place (AssertionOf raw.now (origin_text origin.now))) ∷ []) }
+    ensures effects { IfOk result (λ r. r.1 ≡ Effect.Finish (spec.token_given auto place (AssertionOf raw.now (origin_text origin.now)))
+        ∷ []) }
     ensures state { IfOk result (λ r. facts_of r.0 ≡ None) }
 {
     let finish = token_given(alloc, origin, auto, place, raw)?;
@@ -185,7 +194,8 @@ fn assertion_request(
     place: u32,
     consent: Consent,
 ) -> Result<Items<Effect>, NoRoom>
-    ensures { IfOk result (λ effects. effects ≡ Effect.Send place (Ask.Assertion (assertion_fields consent config.now.assertion begun.now.origin begun.now.provider)) ∷ []) }
+    ensures { IfOk result (λ effects. effects ≡ Effect.Send place (Ask.Assertion
+        (assertion_fields consent config.now.assertion begun.now.origin begun.now.provider)) ∷ []) }
 {
     match consent.spend(alloc, &config.assertion, &begun.origin, &begun.provider) {
         Ok(ask) => Effect::Send(place, ask).alone(alloc),
@@ -206,8 +216,10 @@ pub fn asserts(
     connected: bool,
     consent: Consent,
 ) -> Result<(CallState, Items<Effect>), NoRoom>
-    ensures effects { IfOk result (λ r. r.1 ≡ (spec.asserts (begun_facts begun) place (Some begun.provider) (Some config) consent).effects) }
-    ensures state { IfOk result (λ r. r.0 ≡ CallState.Asserting (record { begun = begun; config = config; account = account; connected = connected; auto = false })) }
+    ensures effects { IfOk result (λ r. r.1 ≡ (spec.asserts (begun_facts begun) place (Some begun.provider) (Some config)
+        consent).effects) }
+    ensures state { IfOk result (λ r. r.0 ≡ CallState.Asserting (record
+        { begun = begun; config = config; account = account; connected = connected; auto = false })) }
 {
     let effects = assertion_request(alloc, &begun, &config, place, consent)?;
     let state = Asserting {

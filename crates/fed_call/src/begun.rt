@@ -39,7 +39,17 @@ impl Model for Call {
 
     ghost Value = { Begun };
 
-    ghost view = { λ c. record { call = c.call; page = c.page; origin = c.origin; mediation = c.mediation; mode = c.mode; activation = c.activation; context = c.context; provider = c.provider } };
+    ghost view = { λ c. record {
+      call = c.call;
+      page = c.page;
+      origin = c.origin;
+      mediation = c.mediation;
+      mode = c.mode;
+      activation =
+          c.activation;
+      context = c.context;
+      provider = c.provider;
+    } };
 
     ghost invariant = { λ c. (scheme_of c.provider.config ≡ Https) × (c.provider_origin ≡ origin_of c.provider.config) };
 }
@@ -65,7 +75,7 @@ fn only(providers: Items<ProviderOptions>) -> ProviderOptions
     requires { length providers ≡ 1 }
     ensures { providers ≡ result ∷ [] }
 {
-    providers.into_vec().swap_remove(0)
+    providers.into_vec().swap_remove(ONLY_PLACE as usize)
 }
 
 impl Call {

@@ -48,7 +48,8 @@ impl Choosing {
         shared: &Shared<'_>,
     ) -> Result<(CallState, Items<Effect>), NoRoom>
         ensures effects { IfOk result (λ r. r.1 ≡ (input_row (world_of shared.now) (choosing_facts self) input.now).effects) }
-        ensures state { IfOk result (λ r. facts_of r.0 ≡ facts_after (world_of shared.now) (choosing_facts self) input.now (input_row (world_of shared.now) (choosing_facts self) input.now)) }
+        ensures state { IfOk result (λ r. facts_of r.0 ≡ facts_after (world_of shared.now) (choosing_facts self) input.now (input_row
+            (world_of shared.now) (choosing_facts self) input.now)) }
     {
         match input {
             Input::Choose { provider, account } => self.choose(alloc, shared, *provider, account),
@@ -71,8 +72,11 @@ impl Choosing {
         place: u32,
         id: &Text,
     ) -> Result<(CallState, Items<Effect>), NoRoom>
-        ensures effects { IfOk result (λ r. r.1 ≡ (spec.choice (world_of shared.now) (choosing_facts self) place (provider_at place (options_of self.begun)) (chosen id.now self.chooser.listed)).effects) }
-        ensures state { IfOk result (λ r. facts_of r.0 ≡ facts_after (world_of shared.now) (choosing_facts self) (inputs.Choose place id.now) (spec.choice (world_of shared.now) (choosing_facts self) place (provider_at place (options_of self.begun)) (chosen id.now self.chooser.listed))) }
+        ensures effects { IfOk result (λ r. r.1 ≡ (spec.choice (world_of shared.now) (choosing_facts self) place
+            (provider_at place (options_of self.begun)) (chosen id.now self.chooser.listed)).effects) }
+        ensures state { IfOk result (λ r. facts_of r.0 ≡ facts_after (world_of shared.now) (choosing_facts self) (inputs.Choose place
+            id.now) (spec.choice (world_of shared.now) (choosing_facts self) place (provider_at place (options_of self.begun))
+            (chosen id.now self.chooser.listed))) }
     {
         if self.begun.has(place) {
             return self.choose_account(alloc, shared, place, id);
@@ -88,8 +92,12 @@ impl Choosing {
         place: u32,
         id: &Text,
     ) -> Result<(CallState, Items<Effect>), NoRoom>
-        ensures effects { IfOk result (λ r. r.1 ≡ (spec.choice (world_of shared.now) (choosing_facts self) place (Some self.begun.provider) (chosen id.now self.chooser.listed)).effects) }
-        ensures state { IfOk result (λ r. facts_of r.0 ≡ at_stage (unwrap_or (spec.choice (world_of shared.now) (choosing_facts self) place (Some self.begun.provider) (chosen id.now self.chooser.listed)).stage Stage.Choosing) (with_choice (chosen id.now self.chooser.listed) (choosing_facts self))) }
+        ensures effects { IfOk result (λ r. r.1 ≡ (spec.choice (world_of shared.now) (choosing_facts self) place (Some self.begun.provider)
+            (chosen id.now self.chooser.listed)).effects) }
+        ensures state { IfOk result (λ r. facts_of r.0 ≡ at_stage (unwrap_or
+            (spec.choice (world_of shared.now) (choosing_facts self) place (Some self.begun.provider)
+            (chosen id.now self.chooser.listed)).stage Stage.Choosing)
+            (with_choice (chosen id.now self.chooser.listed) (choosing_facts self))) }
     {
         let Choosing {
             begun,
@@ -119,8 +127,12 @@ fn settles(
     place: u32,
     picked: Picked,
 ) -> Result<(CallState, Items<Effect>), NoRoom>
-    ensures effects { IfOk result (λ r. r.1 ≡ (spec.settles (world_of shared.now) (configured begun config Stage.Choosing) place begun.provider picked.candidate picked.candidate.connected).effects) }
-    ensures state { IfOk result (λ r. facts_of r.0 ≡ at_stage (unwrap_or (spec.settles (world_of shared.now) (configured begun config Stage.Choosing) place begun.provider picked.candidate picked.candidate.connected).stage Stage.Choosing) (with_candidate picked.candidate (configured begun config Stage.Choosing))) }
+    ensures effects { IfOk result (λ r. r.1 ≡ (spec.settles (world_of shared.now) (configured begun config Stage.Choosing) place
+        begun.provider
+        picked.candidate picked.candidate.connected).effects) }
+    ensures state { IfOk result (λ r. facts_of r.0 ≡ at_stage (unwrap_or
+        (spec.settles (world_of shared.now) (configured begun config Stage.Choosing) place begun.provider picked.candidate
+        picked.candidate.connected).stage Stage.Choosing) (with_candidate picked.candidate (configured begun config Stage.Choosing))) }
 {
     let account = picked.account().copy(alloc)?;
     match picked.proceed() {
@@ -139,8 +151,10 @@ fn asks_about(
     picked: Picked,
 ) -> Result<(CallState, Items<Effect>), NoRoom>
     requires { picked.candidate.connected ≡ false }
-    ensures effects { IfOk result (λ r. r.1 ≡ (prompts (world_of shared.now) (configured begun config Stage.Choosing) place begun.provider picked.candidate).effects) }
-    ensures state { IfOk result (λ r. facts_of r.0 ≡ at_stage Stage.Prompting (with_candidate picked.candidate (configured begun config Stage.Choosing))) }
+    ensures effects { IfOk result (λ r. r.1 ≡ (prompts (world_of shared.now) (configured begun config Stage.Choosing) place begun.provider
+        picked.candidate).effects) }
+    ensures state { IfOk result (λ r. facts_of r.0 ≡ at_stage Stage.Prompting (with_candidate picked.candidate
+        (configured begun config Stage.Choosing))) }
 {
     let prompt = picked.prompt(config.metadata.is_some());
     let effects = prompt_shown(alloc, shared, &begun, place, &prompt, &config)?;
@@ -161,7 +175,8 @@ fn prompt_shown(
     prompt: &Prompt,
     config: &Config,
 ) -> Result<Items<Effect>, NoRoom>
-    ensures { IfOk result (λ effects. effects ≡ prompt_effect (world_of shared.now) (begun_facts begun.now) place begun.now.provider prompt.now.pick.candidate prompt.now.pick.candidate.connected config.now.metadata ∷ []) }
+    ensures { IfOk result (λ effects. effects ≡ prompt_effect (world_of shared.now) (begun_facts
+        begun.now) place begun.now.provider prompt.now.pick.candidate prompt.now.pick.candidate.connected config.now.metadata ∷ []) }
 {
     let effect = prompt_effect(alloc, shared, begun, place, prompt, &config.metadata)?;
     effect.alone(alloc)

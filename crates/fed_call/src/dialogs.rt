@@ -113,7 +113,9 @@ pub fn prompt_dialog(
     prompt: &Prompt,
     links: &PolicyLinks,
 ) -> Result<Effect, NoRoom>
-    ensures { IfOk result (λ effect. effect ≡ spec.prompt_dialog (world_of shared.now) (begun_facts begun.now) place prompt.now.pick.candidate links.now) }
+    ensures { IfOk result (λ effect. effect ≡ spec.prompt_dialog (world_of shared.now) (begun_facts
+        begun.now) place prompt.now.pick.candidate
+        links.now) }
 {
     let account = shown(alloc, place, prompt.account(), prompt.connected())?;
     let site = site(alloc, shared.rules, &begun.origin.host)?;
@@ -138,7 +140,8 @@ pub fn prompt_effect(
     prompt: &Prompt,
     endpoint: &Option<WebUrl>,
 ) -> Result<Effect, NoRoom>
-    ensures { IfOk result (λ effect. effect ≡ spec.prompt_effect (world_of shared.now) (begun_facts begun.now) place begun.now.provider prompt.now.pick.candidate prompt.now.pick.candidate.connected endpoint.now) }
+    ensures { IfOk result (λ effect. effect ≡ spec.prompt_effect (world_of shared.now) (begun_facts begun.now) place begun.now.provider
+        prompt.now.pick.candidate prompt.now.pick.candidate.connected endpoint.now) }
 {
     match endpoint {
         Some(to) if !prompt.connected() => metadata_request(alloc, begun, place, to),

@@ -47,7 +47,8 @@ impl Listing {
         shared: &Shared<'_>,
     ) -> Result<(CallState, Items<Effect>), NoRoom>
         ensures effects { IfOk result (λ r. r.1 ≡ (input_row (world_of shared.now) (listing_facts self) input.now).effects) }
-        ensures state { IfOk result (λ r. facts_of r.0 ≡ facts_after (world_of shared.now) (listing_facts self) input.now (input_row (world_of shared.now) (listing_facts self) input.now)) }
+        ensures state { IfOk result (λ r. facts_of r.0 ≡ facts_after (world_of shared.now) (listing_facts self) input.now (input_row
+            (world_of shared.now) (listing_facts self) input.now)) }
     {
         match input {
             Input::Reply {
@@ -74,8 +75,10 @@ impl Listing {
         kind: ReplyKind,
         raw: &[u8],
     ) -> Result<(CallState, Items<Effect>), NoRoom>
-        ensures effects { IfOk result (λ r. r.1 ≡ (stage_reply (world_of shared.now) (listing_facts self) Stage.Listing place kind raw.now).effects) }
-        ensures state { IfOk result (λ r. facts_of r.0 ≡ facts_after (world_of shared.now) (listing_facts self) (inputs.Reply place kind raw.now) (stage_reply (world_of shared.now) (listing_facts self) Stage.Listing place kind raw.now)) }
+        ensures effects { IfOk result (λ r. r.1 ≡ (stage_reply (world_of shared.now) (listing_facts self) Stage.Listing place kind
+            raw.now).effects) }
+        ensures state { IfOk result (λ r. facts_of r.0 ≡ facts_after (world_of shared.now) (listing_facts self) (inputs.Reply place kind
+            raw.now) (stage_reply (world_of shared.now) (listing_facts self) Stage.Listing place kind raw.now)) }
     {
         match kind {
             ReplyKind::Accounts => self.accounts_reply(alloc, shared, place, raw),
@@ -95,8 +98,12 @@ impl Listing {
         place: u32,
         raw: &[u8],
     ) -> Result<(CallState, Items<Effect>), NoRoom>
-        ensures effects { IfOk result (λ r. r.1 ≡ (spec.accounts_reply (world_of shared.now) (listing_facts self) place (provider_at place (options_of self.begun)) raw.now).effects) }
-        ensures state { IfOk result (λ r. facts_of r.0 ≡ facts_after (world_of shared.now) (listing_facts self) (inputs.Reply place ReplyKind.Accounts raw.now) (spec.accounts_reply (world_of shared.now) (listing_facts self) place (provider_at place (options_of self.begun)) raw.now)) }
+        ensures effects { IfOk result (λ r. r.1 ≡ (spec.accounts_reply (world_of shared.now) (listing_facts self) place
+            (provider_at place (options_of self.begun)) raw.now).effects) }
+        ensures state { IfOk result (λ r. facts_of r.0
+            ≡ facts_after (world_of shared.now) (listing_facts self) (inputs.Reply place ReplyKind.Accounts
+            raw.now) (spec.accounts_reply (world_of shared.now) (listing_facts self) place (provider_at place (options_of self.begun))
+            raw.now)) }
     {
         if self.begun.has(place) {
             return self.first_accounts(alloc, shared, place, raw);
@@ -112,8 +119,12 @@ impl Listing {
         place: u32,
         raw: &[u8],
     ) -> Result<(CallState, Items<Effect>), NoRoom>
-        ensures effects { IfOk result (λ r. r.1 ≡ (spec.accounts_reply (world_of shared.now) (listing_facts self) place (Some self.begun.provider) raw.now).effects) }
-        ensures state { IfOk result (λ r. facts_of r.0 ≡ at_stage (unwrap_or (spec.accounts_reply (world_of shared.now) (listing_facts self) place (Some self.begun.provider) raw.now).stage Stage.Listing) (with_listing (world_of shared.now) raw.now (Some self.begun.provider) (listing_facts self))) }
+        ensures effects { IfOk result (λ r. r.1 ≡ (spec.accounts_reply (world_of shared.now) (listing_facts self) place
+            (Some self.begun.provider)
+            raw.now).effects) }
+        ensures state { IfOk result (λ r. facts_of r.0 ≡ at_stage (unwrap_or
+            (spec.accounts_reply (world_of shared.now) (listing_facts self) place (Some self.begun.provider) raw.now).stage
+            Stage.Listing) (with_listing (world_of shared.now) raw.now (Some self.begun.provider) (listing_facts self))) }
     {
         match hinted_accounts(alloc, raw, &self.begun.provider)? {
             Ok(accounts) => self.accepts(alloc, shared, place, accounts),
@@ -129,8 +140,12 @@ impl Listing {
         place: u32,
         failure: Failure,
     ) -> Result<(CallState, Items<Effect>), NoRoom>
-        ensures effects { IfOk result (λ r. r.1 ≡ (spec.refused (world_of shared.now) (listing_facts self) place (origin_of self.begun.provider.config) failure).effects) }
-        ensures state { IfOk result (λ r. facts_of r.0 ≡ at_stage (unwrap_or (spec.refused (world_of shared.now) (listing_facts self) place (origin_of self.begun.provider.config) failure).stage Stage.Listing) (listing_facts self)) }
+        ensures effects { IfOk result (λ r. r.1 ≡ (spec.refused (world_of shared.now) (listing_facts self) place
+            (origin_of self.begun.provider.config)
+            failure).effects) }
+        ensures state { IfOk result (λ r. facts_of r.0 ≡ at_stage (unwrap_or
+            (spec.refused (world_of shared.now) (listing_facts self) place (origin_of self.begun.provider.config) failure).stage
+            Stage.Listing) (listing_facts self)) }
     {
         if is_mismatch(&self.begun, shared) {
             return self.shows_mismatch(alloc, shared, place, failure);
@@ -147,7 +162,8 @@ impl Listing {
         place: u32,
         failure: Failure,
     ) -> Result<(CallState, Items<Effect>), NoRoom>
-        ensures effects { IfOk result (λ r. r.1 ≡ Effect.SetLogin (origin_of self.begun.provider.config) LoginStatus.LoggedOut ∷ Effect.Dialog (Dialog.Mismatch place (spec.site_of (world_of shared.now) self.begun.origin) failure) ∷ []) }
+        ensures effects { IfOk result (λ r. r.1 ≡ Effect.SetLogin (origin_of self.begun.provider.config) LoginStatus.LoggedOut
+            ∷ Effect.Dialog (Dialog.Mismatch place (spec.site_of (world_of shared.now) self.begun.origin) failure) ∷ []) }
         ensures state { IfOk result (λ r. r.0 ≡ CallState.Mismatch (record { begun = self.begun; config = self.config })) }
     {
         let effects = mismatch_shown(alloc, &self.begun, shared, place, failure)?;
@@ -163,8 +179,11 @@ impl Listing {
         place: u32,
         accounts: Accounts,
     ) -> Result<(CallState, Items<Effect>), NoRoom>
-        ensures effects { IfOk result (λ r. r.1 ≡ (spec.accepted (world_of shared.now) (listing_facts self) place self.begun.provider accounts).effects) }
-        ensures state { IfOk result (λ r. facts_of r.0 ≡ at_stage (unwrap_or (spec.accepted (world_of shared.now) (listing_facts self) place self.begun.provider accounts).stage Stage.Listing) (with_accounts (world_of shared.now) self.begun.provider accounts (listing_facts self))) }
+        ensures effects { IfOk result (λ r. r.1 ≡ (spec.accepted (world_of shared.now) (listing_facts self) place self.begun.provider
+            accounts).effects) }
+        ensures state { IfOk result (λ r. facts_of r.0 ≡ at_stage (unwrap_or
+            (spec.accepted (world_of shared.now) (listing_facts self) place self.begun.provider accounts).stage Stage.Listing)
+            (with_accounts (world_of shared.now) self.begun.provider accounts (listing_facts self))) }
     {
         let connected = connections(alloc, shared.kept, &self.begun, accounts.list())?;
         if accounts.list().len() == 1 {
@@ -185,8 +204,11 @@ impl Listing {
     ) -> Result<(CallState, Items<Effect>), NoRoom>
         requires one { length accounts ≡ 1 }
         requires each { connected ∷ [] ≡ map (connects (world_of shared.now) self.begun.origin self.begun.provider) accounts }
-        ensures effects { IfOk result (λ r. r.1 ≡ (spec.accepted (world_of shared.now) (listing_facts self) place self.begun.provider accounts).effects) }
-        ensures state { IfOk result (λ r. facts_of r.0 ≡ at_stage (unwrap_or (spec.accepted (world_of shared.now) (listing_facts self) place self.begun.provider accounts).stage Stage.Listing) (with_accounts (world_of shared.now) self.begun.provider accounts (listing_facts self))) }
+        ensures effects { IfOk result (λ r. r.1 ≡ (spec.accepted (world_of shared.now) (listing_facts self) place self.begun.provider
+            accounts).effects) }
+        ensures state { IfOk result (λ r. facts_of r.0 ≡ at_stage (unwrap_or
+            (spec.accepted (world_of shared.now) (listing_facts self) place self.begun.provider accounts).stage Stage.Listing)
+            (with_accounts (world_of shared.now) self.begun.provider accounts (listing_facts self))) }
     {
         let waits = !connected && self.config.metadata.is_some();
         let prompt = Prompt::single(self.begun.call, place, accounts, connected, waits);
@@ -211,8 +233,11 @@ impl Listing {
     ) -> Result<(CallState, Items<Effect>), NoRoom>
         requires several { 2 ≤ length accounts }
         requires each { connected ≡ map (connects (world_of shared.now) self.begun.origin self.begun.provider) accounts }
-        ensures effects { IfOk result (λ r. r.1 ≡ (spec.accepted (world_of shared.now) (listing_facts self) place self.begun.provider accounts).effects) }
-        ensures state { IfOk result (λ r. facts_of r.0 ≡ at_stage (unwrap_or (spec.accepted (world_of shared.now) (listing_facts self) place self.begun.provider accounts).stage Stage.Listing) (with_accounts (world_of shared.now) self.begun.provider accounts (listing_facts self))) }
+        ensures effects { IfOk result (λ r. r.1 ≡ (spec.accepted (world_of shared.now) (listing_facts self) place self.begun.provider
+            accounts).effects) }
+        ensures state { IfOk result (λ r. facts_of r.0 ≡ at_stage (unwrap_or
+            (spec.accepted (world_of shared.now) (listing_facts self) place self.begun.provider accounts).stage Stage.Listing)
+            (with_accounts (world_of shared.now) self.begun.provider accounts (listing_facts self))) }
     {
         let chooser = Chooser::new(self.begun.call, place, accounts, connected);
         let effects = choice_shown(alloc, shared, &self.begun, place, &chooser)?;
@@ -228,7 +253,8 @@ impl Listing {
 
 // Whether the call is passive and not silent, and the user was logged in at the provider.
 fn is_mismatch(begun: &Call, shared: &Shared<'_>) -> bool
-    ensures { result ≡ spec.is_mismatch begun.now.mode begun.now.mediation (status_of (world_of shared.now).login (origin_of begun.now.provider.config)) }
+    ensures { result ≡ spec.is_mismatch begun.now.mode begun.now.mediation
+        (status_of (world_of shared.now).login (origin_of begun.now.provider.config)) }
 {
     let was = shared.login.get(begun.provider_origin());
     begun.mode == Mode::Passive
@@ -251,7 +277,8 @@ fn with_status(
 
 // The user is logged out at the provider, and the page gets the failure.
 fn failed(alloc: Global, begun: &Call, failure: Failure) -> Result<Items<Effect>, NoRoom>
-    ensures { IfOk result (λ effects. effects ≡ Effect.SetLogin (origin_of begun.now.provider.config) LoginStatus.LoggedOut ∷ Effect.Finish (Finish.Failed failure) ∷ []) }
+    ensures { IfOk result (λ effects. effects ≡ Effect.SetLogin (origin_of begun.now.provider.config) LoginStatus.LoggedOut
+        ∷ Effect.Finish (Finish.Failed failure) ∷ []) }
 {
     let finish = Effect::Finish(Finish::Failed(failure));
     with_status(alloc, begun, LoginStatus::LoggedOut, finish)
@@ -265,7 +292,8 @@ fn mismatch_shown(
     place: u32,
     failure: Failure,
 ) -> Result<Items<Effect>, NoRoom>
-    ensures { IfOk result (λ effects. effects ≡ Effect.SetLogin (origin_of begun.now.provider.config) LoginStatus.LoggedOut ∷ Effect.Dialog (Dialog.Mismatch place (spec.site_of (world_of shared.now) begun.now.origin) failure) ∷ []) }
+    ensures { IfOk result (λ effects. effects ≡ Effect.SetLogin (origin_of begun.now.provider.config) LoginStatus.LoggedOut
+        ∷ Effect.Dialog (Dialog.Mismatch place (spec.site_of (world_of shared.now) begun.now.origin) failure) ∷ []) }
 {
     let dialog = Effect::Dialog(Dialog::Mismatch {
         provider: place,
@@ -283,7 +311,9 @@ fn prompt_shown(
     place: u32,
     prompt: &Prompt,
 ) -> Result<Items<Effect>, NoRoom>
-    ensures { IfOk result (λ effects. effects ≡ Effect.SetLogin (origin_of listing.now.begun.provider.config) LoginStatus.LoggedIn ∷ spec.prompt_effect (world_of shared.now) (listing_facts listing.now) place listing.now.begun.provider prompt.now.pick.candidate prompt.now.pick.candidate.connected listing.now.config.metadata ∷ []) }
+    ensures { IfOk result (λ effects. effects ≡ Effect.SetLogin (origin_of listing.now.begun.provider.config) LoginStatus.LoggedIn
+        ∷ spec.prompt_effect (world_of shared.now) (listing_facts listing.now) place listing.now.begun.provider
+        prompt.now.pick.candidate prompt.now.pick.candidate.connected listing.now.config.metadata ∷ []) }
 {
     let begun = &listing.begun;
     let effect = prompt_effect(
@@ -305,7 +335,8 @@ fn choice_shown(
     place: u32,
     chooser: &Chooser,
 ) -> Result<Items<Effect>, NoRoom>
-    ensures { IfOk result (λ effects. effects ≡ Effect.SetLogin (origin_of begun.now.provider.config) LoginStatus.LoggedIn ∷ spec.choice_dialog (world_of shared.now) (begun_facts begun.now) place chooser.now.listed ∷ []) }
+    ensures { IfOk result (λ effects. effects ≡ Effect.SetLogin (origin_of begun.now.provider.config) LoginStatus.LoggedIn
+        ∷ spec.choice_dialog (world_of shared.now) (begun_facts begun.now) place chooser.now.listed ∷ []) }
 {
     let dialog = choice_dialog(alloc, shared, begun, place, chooser)?;
     with_status(alloc, begun, LoginStatus::LoggedIn, dialog)

@@ -38,7 +38,8 @@ impl Mismatch {
         shared: &Shared<'_>,
     ) -> Result<(CallState, Items<Effect>), NoRoom>
         ensures effects { IfOk result (λ r. r.1 ≡ (input_row (world_of shared.now) (mismatch_facts self) input.now).effects) }
-        ensures state { IfOk result (λ r. facts_of r.0 ≡ facts_after (world_of shared.now) (mismatch_facts self) input.now (input_row (world_of shared.now) (mismatch_facts self) input.now)) }
+        ensures state { IfOk result (λ r. facts_of r.0 ≡ facts_after (world_of shared.now) (mismatch_facts self) input.now (input_row
+            (world_of shared.now) (mismatch_facts self) input.now)) }
     {
         match input {
             Input::Cancel => fails(alloc, Failure::plain(FailStep::UserCancelled)),

@@ -48,7 +48,8 @@ impl Prompting {
         shared: &Shared<'_>,
     ) -> Result<(CallState, Items<Effect>), NoRoom>
         ensures effects { IfOk result (λ r. r.1 ≡ (input_row (world_of shared.now) (prompting_facts self) input.now).effects) }
-        ensures state { IfOk result (λ r. facts_of r.0 ≡ facts_after (world_of shared.now) (prompting_facts self) input.now (input_row (world_of shared.now) (prompting_facts self) input.now)) }
+        ensures state { IfOk result (λ r. facts_of r.0 ≡ facts_after (world_of shared.now) (prompting_facts self) input.now (input_row
+            (world_of shared.now) (prompting_facts self) input.now)) }
     {
         match input {
             Input::Reply {
@@ -73,8 +74,10 @@ impl Prompting {
         kind: ReplyKind,
         raw: &[u8],
     ) -> Result<(CallState, Items<Effect>), NoRoom>
-        ensures effects { IfOk result (λ r. r.1 ≡ (stage_reply (world_of shared.now) (prompting_facts self) Stage.Prompting place kind raw.now).effects) }
-        ensures state { IfOk result (λ r. facts_of r.0 ≡ facts_after (world_of shared.now) (prompting_facts self) (inputs.Reply place kind raw.now) (stage_reply (world_of shared.now) (prompting_facts self) Stage.Prompting place kind raw.now)) }
+        ensures effects { IfOk result (λ r. r.1 ≡ (stage_reply (world_of shared.now) (prompting_facts self) Stage.Prompting place kind
+            raw.now).effects) }
+        ensures state { IfOk result (λ r. facts_of r.0 ≡ facts_after (world_of shared.now) (prompting_facts self) (inputs.Reply place kind
+            raw.now) (stage_reply (world_of shared.now) (prompting_facts self) Stage.Prompting place kind raw.now)) }
     {
         match kind {
             ReplyKind::Metadata => self.metadata_reply(alloc, shared, place, raw),
@@ -94,8 +97,12 @@ impl Prompting {
         place: u32,
         raw: &[u8],
     ) -> Result<(CallState, Items<Effect>), NoRoom>
-        ensures effects { IfOk result (λ r. r.1 ≡ (spec.metadata_reply (world_of shared.now) (prompting_facts self) self.prompt.waits place (provider_at place (options_of self.begun)) raw.now).effects) }
-        ensures state { IfOk result (λ r. facts_of r.0 ≡ facts_after (world_of shared.now) (prompting_facts self) (inputs.Reply place ReplyKind.Metadata raw.now) (spec.metadata_reply (world_of shared.now) (prompting_facts self) self.prompt.waits place (provider_at place (options_of self.begun)) raw.now)) }
+        ensures effects { IfOk result (λ r. r.1 ≡ (spec.metadata_reply (world_of shared.now) (prompting_facts self) self.prompt.waits place
+            (provider_at place (options_of self.begun)) raw.now).effects) }
+        ensures state { IfOk result (λ r. facts_of r.0
+            ≡ facts_after (world_of shared.now) (prompting_facts self) (inputs.Reply place ReplyKind.Metadata
+            raw.now) (spec.metadata_reply (world_of shared.now) (prompting_facts self) self.prompt.waits place
+            (provider_at place (options_of self.begun)) raw.now)) }
     {
         match (self.prompt.waits(), self.begun.has(place)) {
             (true, true) => self.shows_links(alloc, shared, place, raw),
@@ -112,7 +119,9 @@ impl Prompting {
         place: u32,
         raw: &[u8],
     ) -> Result<(CallState, Items<Effect>), NoRoom>
-        ensures effects { IfOk result (λ r. r.1 ≡ prompt_dialog (world_of shared.now) (prompting_facts self) place self.prompt.pick.candidate (MetadataOf raw.now) ∷ []) }
+        ensures effects { IfOk result (λ r. r.1 ≡ prompt_dialog (world_of shared.now) (prompting_facts
+            self) place self.prompt.pick.candidate
+            (MetadataOf raw.now) ∷ []) }
         ensures state { IfOk result (λ r. r.0 ≡ CallState.Prompting (record self { prompt = record self.prompt { waits = false } })) }
     {
         let effects = links_shown(alloc, shared, &self, place, raw)?;
@@ -132,7 +141,8 @@ impl Prompting {
     // The user went on with the account, if the prompt does not wait (row C27, else row C36).
     fn go_on(self, alloc: Global) -> Result<(CallState, Items<Effect>), NoRoom>
         ensures effects { IfOk result (λ r. r.1 ≡ (spec.went_on (prompting_facts self) Stage.Prompting).effects) }
-        ensures state { IfOk result (λ r. facts_of r.0 ≡ at_stage (unwrap_or (spec.went_on (prompting_facts self) Stage.Prompting).stage Stage.Prompting) (prompting_facts self)) }
+        ensures state { IfOk result (λ r. facts_of r.0 ≡ at_stage (unwrap_or (spec.went_on (prompting_facts self) Stage.Prompting).stage
+            Stage.Prompting) (prompting_facts self)) }
     {
         let account = self.prompt.account().copy(alloc)?;
         let connected = self.prompt.connected();
@@ -165,7 +175,8 @@ fn links_shown(
     place: u32,
     raw: &[u8],
 ) -> Result<Items<Effect>, NoRoom>
-    ensures { IfOk result (λ effects. effects ≡ prompt_dialog (world_of shared.now) (prompting_facts prompting.now) place prompting.now.prompt.pick.candidate (MetadataOf raw.now) ∷ []) }
+    ensures { IfOk result (λ effects. effects ≡ prompt_dialog (world_of shared.now) (prompting_facts
+        prompting.now) place prompting.now.prompt.pick.candidate (MetadataOf raw.now) ∷ []) }
 {
     let links = read_metadata(alloc, raw)?;
     let Prompting { begun, prompt, .. } = prompting;

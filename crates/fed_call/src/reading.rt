@@ -41,7 +41,8 @@ impl Reading {
         shared: &Shared<'_>,
     ) -> Result<(CallState, Items<Effect>), NoRoom>
         ensures effects { IfOk result (λ r. r.1 ≡ (input_row (world_of shared.now) (reading_facts self) input.now).effects) }
-        ensures state { IfOk result (λ r. facts_of r.0 ≡ facts_after (world_of shared.now) (reading_facts self) input.now (input_row (world_of shared.now) (reading_facts self) input.now)) }
+        ensures state { IfOk result (λ r. facts_of r.0 ≡ facts_after (world_of shared.now) (reading_facts self) input.now (input_row
+            (world_of shared.now) (reading_facts self) input.now)) }
     {
         match input {
             Input::Reply {
@@ -68,8 +69,10 @@ impl Reading {
         kind: ReplyKind,
         raw: &[u8],
     ) -> Result<(CallState, Items<Effect>), NoRoom>
-        ensures effects { IfOk result (λ r. r.1 ≡ (stage_reply (world_of shared.now) (reading_facts self) Stage.Reading place kind raw.now).effects) }
-        ensures state { IfOk result (λ r. facts_of r.0 ≡ facts_after (world_of shared.now) (reading_facts self) (inputs.Reply place kind raw.now) (stage_reply (world_of shared.now) (reading_facts self) Stage.Reading place kind raw.now)) }
+        ensures effects { IfOk result (λ r. r.1 ≡ (stage_reply (world_of shared.now) (reading_facts self) Stage.Reading place kind
+            raw.now).effects) }
+        ensures state { IfOk result (λ r. facts_of r.0 ≡ facts_after (world_of shared.now) (reading_facts self) (inputs.Reply place kind
+            raw.now) (stage_reply (world_of shared.now) (reading_facts self) Stage.Reading place kind raw.now)) }
     {
         if !self.begun.has(place) {
             return CallState::Reading(self).ignores(alloc, Why::NotWaited);

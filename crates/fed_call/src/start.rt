@@ -1,5 +1,5 @@
 //! The beginning of a call.
-ghost use Rattle.std.specs.Prelude.{◌≡◌, [], ◌∷◌, IfOk, IfSome, length};
+ghost use Rattle.std.specs.Prelude.{◌≡◌, [], ◌∷◌, Some, IfOk, IfSome, length};
 ghost use Rattle.fed_origin.specs.WebUrl.{origin_of, scheme_of};
 ghost use Rattle.fed_status.specs.Login.{status_of};
 ghost use Rattle.fed_status.specs.Shared.{world_of};
@@ -9,7 +9,7 @@ ghost use Rattle.fed_call.specs.ReadingRows as spec;
 
 use fed_consent::{Ask, Effect, FailStep, ONLY_PLACE};
 use fed_io::{Fault, Items, NoRoom};
-use fed_origin::{GetOptions, LoginStatus, Mode, Origin, Scheme, WebUrl};
+use fed_origin::{GetOptions, LoginStatus, Mode, Origin, ProviderOptions, Scheme, WebUrl};
 use fed_provider::wellknown_url;
 use fed_status::{LoginMap, Shared};
 use std::alloc::Global;
@@ -19,7 +19,15 @@ pub fn provider_origin(alloc: Global, options: &GetOptions) -> Result<Origin, No
     requires { length options.now.providers ≡ 1 }
     ensures { IfOk result (λ origin. IfSome (provider_at only_place options.now) (λ provider. origin ≡ origin_of provider.config)) }
 {
-    Origin::of_url(alloc, &options.providers.as_slice()[0].config)
+    Origin::of_url(alloc, &only_provider(options).config)
+}
+
+// The provider of a list of one.
+fn only_provider(options: &GetOptions) -> &ProviderOptions
+    requires { length options.now.providers ≡ 1 }
+    ensures { provider_at only_place options.now ≡ Some result.now }
+{
+    &options.providers.as_slice()[ONLY_PLACE as usize]
 }
 
 /// The first requests of a call to its only provider, which is of this origin, or the step at which the call fails.
@@ -31,10 +39,12 @@ pub fn first_requests(
 ) -> Result<Result<Items<Effect>, FailStep>, NoRoom>
     requires one { length options.now.providers ≡ 1 }
     requires its { IfSome (provider_at only_place options.now) (λ p. provider.now ≡ origin_of p.config) }
-    ensures value { IfOk result (λ first. spec.first_outcome first ≡ spec.start_at (world_of shared.now) options.now.mode only_place (provider_at only_place options.now)) }
-    ensures secure { IfOk result (λ first. IfOk first (λ _. IfSome (provider_at only_place options.now) (λ p. scheme_of p.config ≡ Scheme.Https))) }
+    ensures value { IfOk result (λ first. spec.first_outcome first
+        ≡ spec.start_at (world_of shared.now) options.now.mode only_place (provider_at only_place options.now)) }
+    ensures secure { IfOk result (λ first. IfOk first (λ _. IfSome (provider_at only_place options.now)
+        (λ p. scheme_of p.config ≡ Scheme.Https))) }
 {
-    let config = &options.providers.as_slice()[0].config;
+    let config = &only_provider(options).config;
     // Row C2.
     if config.scheme() == Scheme::Http {
         return Ok(Err(FailStep::ConfigScheme));
@@ -65,7 +75,9 @@ fn is_gated(mode: Mode, login: &LoginMap, provider: &Origin) -> bool
 
 // The requests for the well-known file and the configuration.
 fn requests(alloc: Global, wellknown: WebUrl, config: &WebUrl) -> Result<Items<Effect>, NoRoom>
-    ensures { IfOk result (λ effects. effects ≡ Effect.Send only_place (Ask.WellKnown wellknown) ∷ Effect.Send only_place (Ask.Config config.now) ∷ []) }
+    ensures { IfOk result (λ effects. effects ≡ Effect.Send only_place (Ask.WellKnown wellknown)
+        ∷ Effect.Send only_place (Ask.Config config.now)
+        ∷ []) }
 {
     let config = Effect::Send(
         ONLY_PLACE,

@@ -61,7 +61,8 @@ impl CallState {
     ) -> Result<(CallState, Items<Effect>), NoRoom>
         requires { length options.providers ≡ 1 }
         ensures effects { IfOk result (λ r. r.1 ≡ (start_row (world_of shared.now) origin options).effects) }
-        ensures state { IfOk result (λ r. facts_of r.0 ≡ started call page origin options (start_row (world_of shared.now) origin options)) }
+        ensures state { IfOk result (λ r. facts_of r.0
+            ≡ started call page origin options (start_row (world_of shared.now) origin options)) }
         ensures stage { IfOk result (λ r. Some (stage_of (facts_of r.0)) ≡ (start_row (world_of shared.now) origin options).stage) }
     {
         let provider = provider_origin(alloc, &options)?;
@@ -87,7 +88,9 @@ impl CallState {
         shared: &Shared<'_>,
     ) -> Result<(CallState, Items<Effect>), NoRoom>
         ensures effects { IfOk result (λ r. r.1 ≡ (call_row (world_of shared.now) (facts_of self) input.now).effects) }
-        ensures state { IfOk result (λ r. facts_of r.0 ≡ next_facts (world_of shared.now) (facts_of self) input.now (call_row (world_of shared.now) (facts_of self) input.now)) }
+        ensures state { IfOk result (λ r. facts_of r.0
+            ≡ next_facts (world_of shared.now) (facts_of self) input.now (call_row (world_of shared.now)
+            (facts_of self) input.now)) }
     {
         match self {
             CallState::Reading(state) => state.advance(alloc, input, shared),

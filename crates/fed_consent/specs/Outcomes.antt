@@ -1,5 +1,5 @@
 -- What a call does at an event: it goes on, ends, or takes nothing.
-use Rattle.std.specs.Prelude.{ℕ, List, [], ◌∷◌, Option, Some, None}
+use Rattle.std.specs.Prelude.{ℕ, Bool, true, false, List, [], ◌∷◌, Option, Some, None}
 use Rattle.fed_origin.specs.declared.stage.Stage.{Stage}
 use Rattle.fed_origin.specs.declared.stage.Stage.TheVariants.{Ended}
 use Rattle.fed_consent.specs.declared.table.effect.Effect.{Effect}
@@ -8,6 +8,11 @@ use Rattle.fed_consent.specs.declared.table.failure.Failure.{Failure}
 use Rattle.fed_consent.specs.declared.table.finish.Finish.{Finish}
 use Rattle.fed_consent.specs.declared.table.finish.Finish.TheVariants.{Failed}
 use Rattle.fed_consent.specs.declared.table.why.Why.{Why}
+
+-- the event was not taken
+abbrev pub is_ignored : Effect → Bool
+is_ignored (acts.Ignored why) = true
+is_ignored _ = false
 
 -- the place of the provider in a call's list of one
 abbrev pub only_place : ℕ

@@ -1,5 +1,6 @@
 -- What is known of a disconnect call that began and is not over, and what an input leaves of it.
-use Rattle.std.specs.Prelude.{ℕ, Bool, true, false, List, Option, Some, None, unwrap_or, ◌==◌}
+use Rattle.std.specs.Prelude.{ℕ, Bool, true, false, List, Option, Some, None, unwrap_or}
+use Rattle.std.specs.List.{list_any}
 use Rattle.url.specs.Parts.{Parts}
 use Rattle.fed_origin.specs.declared.origin.Origin.{Origin}
 use Rattle.fed_origin.specs.declared.stage.Stage.{Stage}
@@ -15,7 +16,7 @@ use Rattle.fed_provider.specs.FirstReplies.{reply_heard}
 use Rattle.fed_status.specs.Shared.{World}
 use Rattle.fed_consent.specs.declared.table.input.Input.{Input}
 use Rattle.fed_consent.specs.declared.table.input.Input.TheVariants.{Reply}
-use Rattle.fed_consent.specs.Outcomes.{Outcome, only_place}
+use Rattle.fed_consent.specs.Outcomes.{Outcome, is_ignored}
 
 pub record DisconnectOptions : Type 0 where
   -- the configuration URL
@@ -89,20 +90,21 @@ taken (Waits replies) = replies
 taken (Both config) = both_taken config
 taken (NotWaited replies) = replies
 
--- the call after a reply of this kind, by whether it is one of its provider; one that is not awaited leaves what was taken
-abbrev pub with_reply : RuleSet → DisconnectFacts → Bool → ReplyKind → List ℕ → DisconnectFacts
-with_reply rules facts false kind raw = facts
-with_reply rules facts true kind raw =
+-- what a reply of this kind says
+abbrev pub with_reply : RuleSet → ReplyKind → List ℕ → DisconnectFacts → DisconnectFacts
+with_reply rules kind raw facts =
     record facts { replies = taken (reply_heard rules facts.replies facts.options.config kind raw) }
 
--- what an input says
-abbrev pub with_input : World → DisconnectFacts → Input → DisconnectFacts
-with_input world facts (Reply place kind raw) = with_reply world.rules facts (place == only_place) kind raw
-with_input world facts _ = facts
+-- what an input says, by whether it was ignored
+abbrev pub with_input : World → Bool → Input → DisconnectFacts → DisconnectFacts
+with_input world true input facts = facts
+with_input world false (Reply place kind raw) facts = with_reply world.rules kind raw facts
+with_input world false _ facts = facts
 
 -- the call after an input with this outcome, among what all calls look at
 abbrev pub facts_after : World → DisconnectFacts → Input → Outcome → Option DisconnectFacts
-facts_after world facts input outcome = at_stage (unwrap_or outcome.stage facts.stage) (with_input world facts input)
+facts_after world facts input outcome =
+    at_stage (unwrap_or outcome.stage facts.stage) (with_input world (list_any is_ignored outcome.effects) input facts)
 
 -- the same of a call that may be over, and then stays so
 abbrev pub next_disconnect_facts : World → Option DisconnectFacts → Input → Outcome → Option DisconnectFacts

@@ -91,7 +91,8 @@ impl Begun {
         alloc: Global,
         shared: &Shared<'_>,
     ) -> Result<Result<Items<Effect>, FailStep>, NoRoom>
-        ensures { IfOk result (λ first. spec.first_outcome first ≡ spec.disconnect_start_row (world_of shared.now) self.now.origin self.now.options) }
+        ensures { IfOk result (λ first. spec.first_outcome first
+            ≡ spec.disconnect_start_row (world_of shared.now) self.now.origin self.now.options) }
     {
         let wellknown = match wellknown_url(alloc, shared.rules, &self.config) {
             Ok(url) => url,
@@ -107,7 +108,9 @@ impl Begun {
 
 // The requests for the well-known file and the configuration.
 fn requests(alloc: Global, wellknown: WebUrl, config: &WebUrl) -> Result<Items<Effect>, NoRoom>
-    ensures { IfOk result (λ effects. effects ≡ Effect.Send only_place (Ask.WellKnown wellknown) ∷ Effect.Send only_place (Ask.Config config.now) ∷ []) }
+    ensures { IfOk result (λ effects. effects ≡ Effect.Send only_place (Ask.WellKnown wellknown)
+        ∷ Effect.Send only_place (Ask.Config config.now)
+        ∷ []) }
 {
     let config = config.copy(alloc)?;
     let next = Effect::Send(ONLY_PLACE, Ask::Config { to: config });

@@ -4,7 +4,7 @@ ghost use Rattle.fed_consent.specs.Outcomes.{ignored, only_place};
 ghost use Rattle.fed_consent.specs.declared.table.input.Input.TheVariants as inputs;
 ghost use Rattle.fed_provider.specs.FirstReplies.{reply_heard};
 ghost use Rattle.fed_status.specs.Shared.{world_of};
-ghost use Rattle.fed_disconnect.specs.Facts.{at_stage, both_taken, facts_after, taken, with_reply};
+ghost use Rattle.fed_disconnect.specs.Facts.{at_stage, both_taken, facts_after, taken};
 ghost use Rattle.fed_disconnect.specs.Rows as spec;
 ghost use Rattle.fed_disconnect.specs.State.{disconnect_facts_of, reading_facts};
 
@@ -16,7 +16,6 @@ use fed_io::{Items, NoRoom};
 use fed_origin::{ReplyKind, Stage, WebUrl};
 use fed_provider::{Config, FirstReplies, Heard};
 use fed_status::Shared;
-use fed_suffix::Suffixes;
 use std::alloc::Global;
 
 /// A disconnect call whose well-known file and configuration are awaited.
@@ -44,7 +43,9 @@ impl DReading {
         shared: &Shared<'_>,
     ) -> Result<(DState, Items<Effect>), NoRoom>
         ensures effects { IfOk result (λ r. r.1 ≡ (spec.input_row (world_of shared.now) (reading_facts self) input.now).effects) }
-        ensures state { IfOk result (λ r. disconnect_facts_of r.0 ≡ facts_after (world_of shared.now) (reading_facts self) input.now (spec.input_row (world_of shared.now) (reading_facts self) input.now)) }
+        ensures state { IfOk result (λ r. disconnect_facts_of r.0
+            ≡ facts_after (world_of shared.now) (reading_facts self) input.now (spec.input_row
+            (world_of shared.now) (reading_facts self) input.now)) }
     {
         match input {
             Input::Reply {
@@ -80,11 +81,14 @@ impl DReading {
         kind: ReplyKind,
         raw: &[u8],
     ) -> Result<(DState, Items<Effect>), NoRoom>
-        ensures effects { IfOk result (λ r. r.1 ≡ (spec.provider_reply (world_of shared.now) (reading_facts self) (place == only_place) kind raw.now).effects) }
-        ensures state { IfOk result (λ r. disconnect_facts_of r.0 ≡ facts_after (world_of shared.now) (reading_facts self) (inputs.Reply place kind raw.now) (spec.provider_reply (world_of shared.now) (reading_facts self) (place == only_place) kind raw.now)) }
+        ensures effects { IfOk result (λ r. r.1 ≡ (spec.provider_reply (world_of shared.now) (reading_facts self) (place == only_place) kind
+            raw.now).effects) }
+        ensures state { IfOk result (λ r. disconnect_facts_of r.0
+            ≡ facts_after (world_of shared.now) (reading_facts self) (inputs.Reply place kind
+            raw.now) (spec.provider_reply (world_of shared.now) (reading_facts self) (place == only_place) kind raw.now)) }
     {
         if place == ONLY_PLACE {
-            return self.hears(alloc, shared.rules, kind, raw);
+            return self.hears(alloc, shared, kind, raw);
         }
         self.ignores(alloc, Why::NotWaited)
     }
@@ -93,15 +97,18 @@ impl DReading {
     fn hears(
         self,
         alloc: Global,
-        rules: &Suffixes,
+        shared: &Shared<'_>,
         kind: ReplyKind,
         raw: &[u8],
     ) -> Result<(DState, Items<Effect>), NoRoom>
-        ensures effects { IfOk result (λ r. r.1 ≡ (spec.by_heard self.begun.origin self.begun.options (reply_heard rules.now self.replies self.begun.options.config kind raw.now)).effects) }
-        ensures state { IfOk result (λ r. disconnect_facts_of r.0 ≡ at_stage (unwrap_or (spec.by_heard self.begun.origin self.begun.options (reply_heard rules.now self.replies self.begun.options.config kind raw.now)).stage Stage.Reading) (with_reply rules.now (reading_facts self) true kind raw.now)) }
+        ensures effects { IfOk result (λ r. r.1 ≡ (spec.stage_reply (world_of shared.now) (reading_facts self) Stage.Reading kind
+            raw.now).effects) }
+        ensures state { IfOk result (λ r. disconnect_facts_of r.0
+            ≡ facts_after (world_of shared.now) (reading_facts self) (inputs.Reply only_place kind
+            raw.now) (spec.stage_reply (world_of shared.now) (reading_facts self) Stage.Reading kind raw.now)) }
     {
         let DReading { begun, replies } = self;
-        let heard = replies.hear(alloc, rules, &begun.config, kind, raw)?;
+        let heard = replies.hear(alloc, shared.rules, &begun.config, kind, raw)?;
         goes_on(alloc, begun, heard)
     }
 }
@@ -109,7 +116,8 @@ impl DReading {
 // What a call does by what a reply comes to.
 fn goes_on(alloc: Global, begun: Begun, heard: Heard) -> Result<(DState, Items<Effect>), NoRoom>
     ensures effects { IfOk result (λ r. r.1 ≡ (spec.by_heard begun.origin begun.options heard).effects) }
-    ensures state { IfOk result (λ r. disconnect_facts_of r.0 ≡ at_stage (unwrap_or (spec.by_heard begun.origin begun.options heard).stage Stage.Reading) (record begun { replies = taken heard })) }
+    ensures state { IfOk result (λ r. disconnect_facts_of r.0 ≡ at_stage (unwrap_or (spec.by_heard begun.origin begun.options heard).stage
+        Stage.Reading) (record begun { replies = taken heard })) }
 {
     match heard {
         Heard::Refused(step) => fails(alloc, Failure::of_provider(step)),
@@ -132,7 +140,9 @@ fn asks_disconnect(
     config: Config,
 ) -> Result<(DState, Items<Effect>), NoRoom>
     ensures effects { IfOk result (λ r. r.1 ≡ (spec.asks_disconnect begun.origin begun.options config.disconnect).effects) }
-    ensures state { IfOk result (λ r. disconnect_facts_of r.0 ≡ at_stage (unwrap_or (spec.asks_disconnect begun.origin begun.options config.disconnect).stage Stage.Reading) (record begun { replies = both_taken config })) }
+    ensures state { IfOk result (λ r. disconnect_facts_of r.0 ≡ at_stage (unwrap_or
+        (spec.asks_disconnect begun.origin begun.options config.disconnect).stage Stage.Reading) (record begun
+        { replies = both_taken config })) }
 {
     match &config.disconnect {
         Some(to) => {
@@ -146,7 +156,9 @@ fn asks_disconnect(
 impl Begun {
     // The request for the end of the account's permission.
     fn disconnect_request(&self, alloc: Global, to: &WebUrl) -> Result<Items<Effect>, NoRoom>
-        ensures { IfOk result (λ effects. effects ≡ Effect.Send only_place (Ask.Disconnect to.now self.now.options.client self.now.options.hint self.now.origin) ∷ []) }
+        ensures { IfOk result (λ effects. effects ≡ Effect.Send only_place (Ask.Disconnect to.now self.now.options.client
+            self.now.options.hint
+            self.now.origin) ∷ []) }
     {
         let ask = Ask::Disconnect {
             to: to.copy(alloc)?,

@@ -6,7 +6,7 @@ ghost use Rattle.fed_origin.specs.Origin.{origin_text};
 ghost use Rattle.fed_status.specs.Kept.{has_triple, triple_of};
 ghost use Rattle.fed_status.specs.Shared.{world_of};
 ghost use Rattle.fed_token.specs.Read.{DisconnectOf, IsDisconnectStep};
-ghost use Rattle.fed_disconnect.specs.Facts.{at_stage, facts_after, provider_origin, with_reply};
+ghost use Rattle.fed_disconnect.specs.Facts.{facts_after, provider_origin};
 ghost use Rattle.fed_disconnect.specs.Rows as spec;
 ghost use Rattle.fed_disconnect.specs.State.{disconnect_facts_of, sending_facts};
 
@@ -45,7 +45,9 @@ impl DSending {
         shared: &Shared<'_>,
     ) -> Result<(DState, Items<Effect>), NoRoom>
         ensures effects { IfOk result (λ r. r.1 ≡ (spec.input_row (world_of shared.now) (sending_facts self) input.now).effects) }
-        ensures state { IfOk result (λ r. disconnect_facts_of r.0 ≡ facts_after (world_of shared.now) (sending_facts self) input.now (spec.input_row (world_of shared.now) (sending_facts self) input.now)) }
+        ensures state { IfOk result (λ r. disconnect_facts_of r.0
+            ≡ facts_after (world_of shared.now) (sending_facts self) input.now (spec.input_row
+            (world_of shared.now) (sending_facts self) input.now)) }
     {
         match input {
             Input::Reply {
@@ -81,8 +83,11 @@ impl DSending {
         kind: ReplyKind,
         raw: &[u8],
     ) -> Result<(DState, Items<Effect>), NoRoom>
-        ensures effects { IfOk result (λ r. r.1 ≡ (spec.provider_reply (world_of shared.now) (sending_facts self) (place == only_place) kind raw.now).effects) }
-        ensures state { IfOk result (λ r. disconnect_facts_of r.0 ≡ facts_after (world_of shared.now) (sending_facts self) (inputs.Reply place kind raw.now) (spec.provider_reply (world_of shared.now) (sending_facts self) (place == only_place) kind raw.now)) }
+        ensures effects { IfOk result (λ r. r.1 ≡ (spec.provider_reply (world_of shared.now) (sending_facts self) (place == only_place) kind
+            raw.now).effects) }
+        ensures state { IfOk result (λ r. disconnect_facts_of r.0
+            ≡ facts_after (world_of shared.now) (sending_facts self) (inputs.Reply place kind
+            raw.now) (spec.provider_reply (world_of shared.now) (sending_facts self) (place == only_place) kind raw.now)) }
     {
         if place == ONLY_PLACE {
             return self.hears(alloc, shared, kind, raw);
@@ -98,8 +103,11 @@ impl DSending {
         kind: ReplyKind,
         raw: &[u8],
     ) -> Result<(DState, Items<Effect>), NoRoom>
-        ensures effects { IfOk result (λ r. r.1 ≡ (spec.asserting_reply shared.now.kept.now self.begun.origin (provider_origin self.begun.options) kind raw.now).effects) }
-        ensures state { IfOk result (λ r. disconnect_facts_of r.0 ≡ at_stage (unwrap_or (spec.asserting_reply shared.now.kept.now self.begun.origin (provider_origin self.begun.options) kind raw.now).stage Stage.Asserting) (with_reply shared.now.rules.now (sending_facts self) true kind raw.now)) }
+        ensures effects { IfOk result (λ r. r.1 ≡ (spec.stage_reply (world_of shared.now) (sending_facts self) Stage.Asserting kind
+            raw.now).effects) }
+        ensures state { IfOk result (λ r. disconnect_facts_of r.0
+            ≡ facts_after (world_of shared.now) (sending_facts self) (inputs.Reply only_place kind
+            raw.now) (spec.stage_reply (world_of shared.now) (sending_facts self) Stage.Asserting kind raw.now)) }
     {
         match kind {
             ReplyKind::Disconnect => {
@@ -122,7 +130,8 @@ fn answered(
     kept: &KeptSet,
     raw: &[u8],
 ) -> Result<Items<Effect>, NoRoom>
-    ensures { IfOk result (λ effects. effects ≡ (spec.answered kept.now begun.now.origin (provider_origin begun.now.options) (DisconnectOf raw.now (origin_text begun.now.origin))).effects) }
+    ensures { IfOk result (λ effects. effects ≡ (spec.answered kept.now begun.now.origin (provider_origin begun.now.options)
+        (DisconnectOf raw.now (origin_text begun.now.origin))).effects) }
 {
     match read_disconnect(alloc, raw, &begun.origin) {
         Ok(account) => {
@@ -154,7 +163,8 @@ fn refusal(step: TokenStep) -> Failure
 impl Begun {
     // The permissions that go with this account: its own where it is kept, and else all of the page and the provider.
     fn forgotten(&self, alloc: Global, kept: &KeptSet, account: Text) -> Result<Effect, NoRoom>
-        ensures { IfOk result (λ effect. effect ≡ spec.forgotten self.now.origin (provider_origin self.now.options) account (has_triple kept.now (triple_of self.now.origin (provider_origin self.now.options) account))) }
+        ensures { IfOk result (λ effect. effect ≡ spec.forgotten self.now.origin (provider_origin self.now.options) account
+            (has_triple kept.now (triple_of self.now.origin (provider_origin self.now.options) account))) }
     {
         if kept.has(&self.origin, &self.provider, &account) {
             let page = self.origin.copy(alloc)?;

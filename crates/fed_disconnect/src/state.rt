@@ -53,9 +53,12 @@ impl DState {
         hint: Text,
         shared: &Shared<'_>,
     ) -> Result<(DState, Items<Effect>), NoRoom>
-        ensures effects { IfOk result (λ r. r.1 ≡ (disconnect_start_row (world_of shared.now) origin (disconnect_options config client hint)).effects) }
-        ensures state { IfOk result (λ r. disconnect_facts_of r.0 ≡ disconnect_started call page origin (disconnect_options config client hint) (disconnect_start_row (world_of shared.now) origin (disconnect_options config client hint))) }
-        ensures stage { IfOk result (λ r. Some (disconnect_stage (disconnect_facts_of r.0)) ≡ (disconnect_start_row (world_of shared.now) origin (disconnect_options config client hint)).stage) }
+        ensures effects { IfOk result (λ r. r.1 ≡ (disconnect_start_row (world_of shared.now) origin
+            (disconnect_options config client hint)).effects) }
+        ensures state { IfOk result (λ r. disconnect_facts_of r.0 ≡ disconnect_started call page origin (disconnect_options config client
+            hint) (disconnect_start_row (world_of shared.now) origin (disconnect_options config client hint))) }
+        ensures stage { IfOk result (λ r. Some (disconnect_stage (disconnect_facts_of r.0))
+            ≡ (disconnect_start_row (world_of shared.now) origin (disconnect_options config client hint)).stage) }
     {
         if config.scheme() == Scheme::Http {
             return fails(alloc, Failure::plain(FailStep::ConfigScheme));
@@ -79,7 +82,8 @@ impl DState {
         shared: &Shared<'_>,
     ) -> Result<(DState, Items<Effect>), NoRoom>
         ensures effects { IfOk result (λ r. r.1 ≡ (disconnect_row (world_of shared.now) (disconnect_facts_of self) input.now).effects) }
-        ensures state { IfOk result (λ r. disconnect_facts_of r.0 ≡ next_disconnect_facts (world_of shared.now) (disconnect_facts_of self) input.now (disconnect_row (world_of shared.now) (disconnect_facts_of self) input.now)) }
+        ensures state { IfOk result (λ r. disconnect_facts_of r.0 ≡ next_disconnect_facts (world_of shared.now) (disconnect_facts_of
+            self) input.now (disconnect_row (world_of shared.now) (disconnect_facts_of self) input.now)) }
     {
         match self {
             DState::DReading(state) => state.advance(alloc, input, shared),

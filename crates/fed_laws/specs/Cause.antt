@@ -1,5 +1,6 @@
 -- Why a token is asked for, and to whom it is given: what happened, by events alone.
-use Rattle.std.specs.Prelude.{◌≡◌, ℕ, Bool, true, false, ◌&&◌, nat_eq, ◌≤◌, List, [], ◌∷◌, ◌++◌, length, Option, Some, None, is_some, option_and_then, option_map, not, if◌then◌else◌, Result as Answer, Ok, ◌⊎◌}
+use Rattle.std.specs.Prelude.{◌≡◌, ℕ, Bool, true, false, ◌&&◌, nat_eq, ◌≤◌, List, [], ◌∷◌, ◌++◌, length, Option, Some, None, is_some}
+use Rattle.std.specs.Prelude.{option_and_then, option_map, not, if◌then◌else◌, Result as Answer, Ok, ◌⊎◌}
 use Rattle.std.specs.Option.{option_or}
 use Rattle.std.specs.List.{list_any}
 use Rattle.std.specs.Result.{result_ok}
@@ -22,7 +23,7 @@ use Rattle.fed_script.specs.declared.event.Event.TheVariants.{Reply, Choose, GoO
 use Rattle.fed_origin.specs.declared.stage.ReplyKind.TheVariants as kinds
 use Rattle.fed_consent.specs.declared.table.ask.Ask.TheVariants as asks
 use Rattle.fed_consent.specs.declared.table.input.Input.TheVariants as inputs
-use Rattle.fed_trace.specs.Begun.{Begun}
+use Rattle.fed_trace.specs.Begun.{Begun, ToGet, GetCall}
 use Rattle.fed_trace.specs.Effect.{Begin, Login, Sent, is_ignored}
 use Rattle.fed_trace.specs.Known.{world_at, input_to}
 use Rattle.fed_trace.specs.Trace.{Row, Trace, page_at}
@@ -72,11 +73,13 @@ pub record Accepted (T : Trace) (call provider : ℕ) : Type 0 where
   pub reply : Row
   pub before : List Row
   pub rows : T.rows ≡ since ++ reply ∷ before
-  -- how the call began, and its provider
+  -- how the call began: it is a get, of this provider
   pub begun : Begun
   pub began : call_at T.rows call ≡ Some begun
+  pub get : GetOptions
+  pub is_get : begun.options ≡ ToGet get
   pub options : ProviderOptions
-  pub has_provider : provider_at provider begun.options ≡ Some options
+  pub has_provider : provider_at provider get ≡ Some options
   -- the reply, and the accounts in it that the call's hints ask for
   pub raw : List ℕ
   pub event : reply.event ≡ Reply call provider kinds.Accounts raw
@@ -102,9 +105,11 @@ pub record FirstChoice (call provider : ℕ) (id : List ℕ) (listed : Listed) (
   pub first : list_any (λ row. chooses call provider listed row.event) waiting ≡ false
 
 -- how the user agreed to name the page to the provider for an account
-pub data Agreed (event : Event) (call provider : ℕ) (id : List ℕ) (listed : Listed) (candidate : Candidate) (config : Option Config) (since : List Row) : Type 0 where
+pub data Agreed (event : Event) (call provider : ℕ) (id : List ℕ) (listed : Listed) (candidate : Candidate) (config : Option Config)
+    (since : List Row) : Type 0 where
   -- by the first choice among several, of a connected account
-  ByChoice : 2 ≤ length listed.accounts → event ≡ Choose call provider id → list_any (λ row. chooses call provider listed row.event) since ≡ false
+  ByChoice : 2 ≤ length listed.accounts → event ≡ Choose call provider id
+      → list_any (λ row. chooses call provider listed row.event) since ≡ false
       → candidate.connected ≡ true → Agreed event call provider id listed candidate config since
   -- by going on with the only account, which is connected or was shown with what the client's metadata say
   BySinglePrompt : event ≡ GoOn call → listed.accounts ≡ candidate.account ∷ []
@@ -120,17 +125,18 @@ pub record AssertionCause (T : Trace) (event : Event) (call provider : ℕ) (id 
   pub candidate : Candidate
   pub is_listed : chosen id accepted.listed ≡ Some candidate
   pub first : assertions call T.rows ≡ []
-  pub agreed : Agreed event call provider id accepted.listed candidate (config_at T.rows call provider accepted.begun.options) accepted.since
+  pub agreed : Agreed event call provider id accepted.listed candidate (config_at T.rows call provider accepted.get) accepted.since
 
 -- the event is that the user went on with the call's prompt
 abbrev pub is_going : Event → Bool
 is_going (GoOn call) = true
 is_going _ = false
 
--- The request goes to the assertion endpoint, names the call's page, client, nonce and text and the account, and says that the user took part, and
--- whether that was by going on with an account that was not connected.
-pub record SaysWhy (T : Trace) (event : Event) (call provider : ℕ) (id : List ℕ) (cause : AssertionCause T event call provider id) (ask : AssertionFields) : Type 0 where
-  pub to : Some ask.to ≡ option_map (λ config. config.assertion) (config_at T.rows call provider cause.accepted.begun.options)
+-- The request goes to the assertion endpoint, names the call's page, client, nonce and text and the account, and says that the user took
+-- part, and whether that was by going on with an account that was not connected.
+pub record SaysWhy (T : Trace) (event : Event) (call provider : ℕ) (id : List ℕ) (cause : AssertionCause T event call provider id)
+    (ask : AssertionFields) : Type 0 where
+  pub to : Some ask.to ≡ option_map (λ config. config.assertion) (config_at T.rows call provider cause.accepted.get)
   pub origin : ask.origin ≡ cause.accepted.begun.origin
   pub client : ask.client ≡ cause.accepted.options.client
   pub nonce : ask.nonce ≡ cause.accepted.options.nonce
@@ -159,10 +165,10 @@ pub record Asked (rows : List Row) (call provider : ℕ) : Type 0 where
   pub rows_are : rows ≡ since ++ asking ∷ before
   pub ask : AssertionFields
   pub cookies : List ℕ
-  pub sends : Has asking.effects (Sent call provider (asks.Assertion ask) cookies)
+  pub sends : Has asking.effects (Sent GetCall call provider (asks.Assertion ask) cookies)
 
--- The event gives the token to the page: it is the reply to the call's request, the call is of the page, and the page stands, with the origin
--- that it had when the call began and neither loaded nor closed since.
+-- The event gives the token to the page: it is the reply to the call's request, the call is of the page, and the page stands, with the
+-- origin that it had when the call began and neither loaded nor closed since.
 pub record Delivers (T : Trace) (event : Event) (call page provider : ℕ) (token : List ℕ) : Type 0 where
   pub begun : Begun
   pub undisturbed : Undisturbed T.rows call begun

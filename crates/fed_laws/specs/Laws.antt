@@ -7,7 +7,7 @@ use Rattle.fed_token.specs.Read.{AssertionOf}
 use Rattle.fed_consent.specs.declared.table.ask.Ask.TheVariants as asks
 use Rattle.fed_consent.specs.declared.table.finish.Finish.TheVariants.{Token}
 use Rattle.fed_consent.specs.Consent.{AssertionFields}
-use Rattle.fed_trace.specs.Begun.{Begun}
+use Rattle.fed_trace.specs.Begun.{Begun, CallKind, GetCall}
 use Rattle.fed_trace.specs.OfCall.{Has, assertions, call_at, disturbs}
 use Rattle.fed_laws.specs.Cause.{AssertionCause, SaysWhy, Delivers}
 use Rattle.fed_script.specs.declared.event.Event.TheVariants.{Reply}
@@ -48,9 +48,10 @@ AsksOnce T = (call : ℕ) → length (assertions call T.rows) ≤ 1
 -- where a row asks for a token, its event is the cause, and the request says so
 abbrev pub HasCause : Trace → Type 0
 HasCause T =
-    (after before : List Row) (row : Row) (call provider : ℕ) (ask : AssertionFields) (cookies : List ℕ)
-    → T.rows ≡ after ++ row ∷ before → Has row.effects (Sent call provider (asks.Assertion ask) cookies)
-    → (cause : AssertionCause (at T before) row.event call provider ask.account) × SaysWhy (at T before) row.event call provider ask.account cause ask
+    (after before : List Row) (row : Row) (kind : CallKind) (call provider : ℕ) (ask : AssertionFields) (cookies : List ℕ)
+    → T.rows ≡ after ++ row ∷ before → Has row.effects (Sent kind call provider (asks.Assertion ask) cookies)
+    → (cause : AssertionCause (at T before) row.event call provider ask.account)
+    × SaysWhy (at T before) row.event call provider ask.account cause ask
 
 -- a token is given to the page that asked for it, as the provider's reply says
 abbrev pub ReachesItsPage : Trace → Type 0
@@ -62,8 +63,9 @@ ReachesItsPage T =
 -- Where the reply to a call's request holds a token, and nothing disturbed the call since that request, the page gets the token.
 abbrev pub IsAnswered : Trace → Type 0
 IsAnswered T =
-    (after since before : List Row) (row asking : Row) (call provider : ℕ) (ask : AssertionFields) (cookies : List ℕ) (begun : Begun) (raw token : List ℕ)
-    → T.rows ≡ after ++ row ∷ (since ++ asking ∷ before) → Has asking.effects (Sent call provider (asks.Assertion ask) cookies)
+    (after since before : List Row) (row asking : Row) (kind : CallKind) (call provider : ℕ) (ask : AssertionFields) (cookies : List ℕ)
+    (begun : Begun) (raw token : List ℕ)
+    → T.rows ≡ after ++ row ∷ (since ++ asking ∷ before) → Has asking.effects (Sent kind call provider (asks.Assertion ask) cookies)
     → call_at before call ≡ Some begun → list_any (disturbs call begun.page) since ≡ false
     → row.event ≡ Reply call provider kinds.Assertion raw → AssertionOf raw (origin_text begun.origin) ≡ Ok token
     → (auto : Bool) × Has row.effects (Result call begun.page (Token auto provider token))
@@ -73,4 +75,5 @@ abbrev pub IsAskedFor : Trace → Type 0
 IsAskedFor T =
     (after before : List Row) (row : Row) (call provider : ℕ) (id : List ℕ)
     → T.rows ≡ after ++ row ∷ before → AssertionCause (at T before) row.event call provider id
-    → (ask : AssertionFields) × (cookies : List ℕ) × (ask.account ≡ id) × Has row.effects (Sent call provider (asks.Assertion ask) cookies)
+    → (ask : AssertionFields) × (cookies : List ℕ) × (ask.account ≡ id)
+    × Has row.effects (Sent GetCall call provider (asks.Assertion ask) cookies)

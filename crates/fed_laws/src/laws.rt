@@ -8,22 +8,24 @@ pub fn asks_once()
     ensures scripts { OfScripts AsksOnce }
 {}
 
-/// Where a call asks for a token, the user had agreed: by choosing an account that was connected, or by going on at the prompt of the one that was
-/// offered, or chosen. The request names that account and the call's own page, client, nonce and text.
+/// Where a call asks for a token, the user had agreed: by choosing an account that was connected, or by going on at the prompt of the one
+/// that was offered, or chosen. The request names that account and the call's own page, client, nonce and text.
 pub fn assertion_has_cause()
     ensures runs { OfRuns HasCause }
     ensures sessions { OfSessions HasCause }
     ensures scripts { OfScripts HasCause }
 {}
 
-/// A token that a page gets is in the reply to the request of a call of its own, and the page was neither loaded nor closed since that call.
+/// A token that a page gets is in the reply to the request of a call of its own, and the page was neither loaded nor closed since that
+/// call.
 pub fn token_reaches_its_page()
     ensures runs { OfRuns ReachesItsPage }
     ensures sessions { OfSessions ReachesItsPage }
     ensures scripts { OfScripts ReachesItsPage }
 {}
 
-/// Where the reply to a call's request holds a token, its page gets the token, unless the call had a result or the page was loaded or closed before.
+/// Where the reply to a call's request holds a token, its page gets the token, unless the call had a result or the page was loaded or
+/// closed before.
 pub fn token_is_given()
     ensures runs { OfRuns IsAnswered }
     ensures sessions { OfSessions IsAnswered }

@@ -82,7 +82,8 @@ fn print_provider_error(
     code: &str,
     url: Option<&str>,
 ) -> Result<(), NoRoom>
-    ensures { OnOk result (PrintsObject printer.old printer.new (spec.provider_error_members line call page code.now (option_copied url.entry))) }
+    ensures { OnOk result (PrintsObject printer.old printer.new
+        (spec.provider_error_members line call page code.now (option_copied url.entry))) }
 {
     printer.begin()?;
     printer.count("call", call)?;

@@ -38,7 +38,8 @@ fn print_each(printer: &mut Printer, accounts: &[Shown]) -> Result<(), NoRoom>
 
 // The member with the accounts.
 fn print_accounts(printer: &mut Printer, accounts: &[Shown]) -> Result<(), NoRoom>
-    ensures { OnOk result (PrintsMember printer.old printer.new (codes "accounts") (Some (objects (map spec.account_members accounts.now)))) }
+    ensures { OnOk result (PrintsMember printer.old printer.new (codes "accounts")
+        (Some (objects (map spec.account_members accounts.now)))) }
 {
     printer.name("accounts")?;
     printer.begin_list()?;
@@ -79,7 +80,8 @@ fn print_prompt(
     privacy: Option<&str>,
     terms: Option<&str>,
 ) -> Result<(), NoRoom>
-    ensures { OnOk result (PrintsObject printer.old printer.new (spec.prompt_members line call account.now context site.now (option_copied privacy.entry) (option_copied terms.entry))) }
+    ensures { OnOk result (PrintsObject printer.old printer.new
+        (spec.prompt_members line call account.now context site.now (option_copied privacy.entry) (option_copied terms.entry))) }
 {
     printer.begin()?;
     printer.name("account")?;

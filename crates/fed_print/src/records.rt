@@ -17,7 +17,8 @@ use std::alloc::Global;
 
 // The member with the bytes of a request.
 fn print_bytes(alloc: Global, printer: &mut Printer, bytes: &[u8]) -> Result<(), NoRoom>
-    ensures { OnOk result (let named = spec.bytes_member (spec.ascii_text bytes.now) bytes.now in PrintsMember printer.old printer.new named.0 named.1) }
+    ensures { OnOk result (let named =
+        spec.bytes_member (spec.ascii_text bytes.now) bytes.now in PrintsMember printer.old printer.new named.0 named.1) }
 {
     match ascii_text(bytes) {
         Some(text) => printer.text("text", text),
@@ -34,7 +35,8 @@ fn print_request(
     kind: ReplyKind,
     bytes: &[u8],
 ) -> Result<(), NoRoom>
-    ensures { OnOk result (PrintsObject printer.old printer.new (spec.request_members line call provider kind (spec.bytes_member (spec.ascii_text bytes.now) bytes.now))) }
+    ensures { OnOk result (PrintsObject printer.old printer.new
+        (spec.request_members line call provider kind (spec.bytes_member (spec.ascii_text bytes.now) bytes.now))) }
 {
     printer.begin()?;
     printer.count("call", call)?;

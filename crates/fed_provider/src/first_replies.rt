@@ -85,7 +85,8 @@ impl FirstReplies {
         raw: &[u8],
     ) -> Result<Heard, NoRoom>
         requires { scheme_of config.now ≡ Scheme.Https }
-        ensures { IfOk result (λ heard. heard ≡ spec.wellknown_heard self.wellknown self.config (spec.wellknown_read rules.now config.now raw.now)) }
+        ensures { IfOk result (λ heard. heard ≡ spec.wellknown_heard self.wellknown self.config
+            (spec.wellknown_read rules.now config.now raw.now)) }
     {
         if self.wellknown {
             return Ok(Heard::NotWaited(self));

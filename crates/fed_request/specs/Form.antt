@@ -29,7 +29,8 @@ client_form ask = with_pair (codes "nonce") ask.nonce (append_pair [] (codes "cl
 unfoldable pub account_form : AssertionFields → List ℕ
 account_form ask =
     append_pair
-    (append_pair (append_pair (client_form ask) (codes "account_id") ask.account) (codes "disclosure_text_shown") (truth_text ask.disclosure))
+    (append_pair (append_pair (client_form ask) (codes "account_id") ask.account) (codes "disclosure_text_shown")
+    (truth_text ask.disclosure))
     (codes "is_auto_selected") (truth_text ask.auto)
 
 -- the form of an assertion request: what the call gave for the provider comes last

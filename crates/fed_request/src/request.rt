@@ -42,7 +42,8 @@ fn metadata_text(
     client: &Text,
     origin: &Origin,
 ) -> Result<Bytes, NoRoom>
-    ensures { IfOk result (λ bytes. bytes ≡ spec.named_get_text (metadata_target to.now client.now) (host_field to.now) (origin_text origin.now)) }
+    ensures { IfOk result (λ bytes. bytes ≡ spec.named_get_text (metadata_target to.now client.now) (host_field to.now) (origin_text
+        origin.now)) }
 {
     let room = GET_LINES
         .saturating_add(client.as_str().len())
@@ -64,7 +65,8 @@ fn post_text(
     form: &[u8],
     cookies: &[u8],
 ) -> Result<Bytes, NoRoom>
-    ensures { IfOk result (λ bytes. bytes ≡ spec.post_text (path_query_of to.now) (host_field to.now) (origin_text origin.now) form.now cookies.now) }
+    ensures { IfOk result (λ bytes. bytes ≡ spec.post_text (path_query_of to.now) (host_field to.now) (origin_text origin.now) form.now
+        cookies.now) }
 {
     let room = POST_LINES
         .saturating_add(origin.host.text.as_str().len())

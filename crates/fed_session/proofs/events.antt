@@ -1,4 +1,4 @@
 -- What each event owes to the trace.
 pub mod Event
-pub mod Get
+pub mod Begin
 pub mod Input

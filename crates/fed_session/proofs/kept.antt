@@ -1,3 +1,4 @@
 -- What a session keeps of pages and calls.
 pub mod Calls
+pub mod Held
 pub mod Pages

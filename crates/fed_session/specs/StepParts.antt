@@ -1,12 +1,13 @@
 -- What the private clauses of a step speak of: what each part of a session is after an event.
-use Rattle.std.specs.Prelude.{ℕ, ◌+◌, Bool, true, false, nat_eq, List, [], ◌∷◌, Option, Some, None, is_some, option_map, option_and_then, ⊤}
+use Rattle.std.specs.Prelude.{ℕ, ◌+◌, Bool, true, false, not, nat_eq, List, [], ◌∷◌, ◌++◌, filter, Option, Some, None, is_some, option_map}
+use Rattle.std.specs.Prelude.{option_and_then, if◌then◌else◌, ⊤}
 use Rattle.std.specs.Option.{option_map_or}
 use Rattle.std.specs.List.{filter_map, AllByRecursion}
 use Rattle.std.specs.Map.{lookup, set_value}
 use Rattle.indexmap.specs.IndexMap.{insert_entry}
-use Rattle.fed_origin.specs.declared.options.GetOptions.{GetOptions}
 use Rattle.fed_origin.specs.declared.origin.Origin.{Origin}
 use Rattle.fed_origin.specs.declared.stage.Stage.{Stage}
+use Rattle.fed_origin.specs.declared.stage.Stage.TheVariants.{Ended}
 use Rattle.fed_origin.specs.declared.status.LoginStatus.{LoginStatus}
 use Rattle.fed_origin.specs.Origin.{is_trustworthy}
 use Rattle.fed_jar.specs.Send.{jar_text}
@@ -17,10 +18,17 @@ use Rattle.fed_consent.specs.declared.table.ask.Ask.TheVariants as asks
 use Rattle.fed_consent.specs.declared.table.effect.Effect.{Effect as CallEffect}
 use Rattle.fed_consent.specs.declared.table.effect.Effect.TheVariants as does
 use Rattle.fed_consent.specs.declared.table.input.Input.{Input}
-use Rattle.fed_consent.specs.declared.table.why.Why.TheVariants.{NoPage, NoCall}
-use Rattle.fed_call.specs.Facts.{Facts, started, next_facts}
+use Rattle.fed_consent.specs.declared.table.why.Why.TheVariants.{NoPage, NoCall, CallEnded}
 use Rattle.fed_consent.specs.Outcomes.{Outcome, ignored}
-use Rattle.fed_call.specs.Row.{start_row, call_row}
+use Rattle.fed_status.specs.Flags.{without_flag}
+use Rattle.fed_status.specs.Kept.{with_triple, without_triple, without_pair}
+use Rattle.fed_origin.specs.declared.status.Triple.{Triple}
+use Rattle.fed_trace.specs.Begun.{CallKind, GetCall, DisconnectCall, CallOptions, Begun}
+use Rattle.fed_call.specs.State.{facts_of}
+use Rattle.fed_disconnect.specs.State.{disconnect_facts_of}
+use Rattle.fed_session.specs.declared.calls.Pending.{Pending}
+use Rattle.fed_session.specs.declared.calls.Pending.TheVariants.{Get, Disconnect}
+use Rattle.fed_trace.specs.Call.{Known, OfGet, OfDisconnect, kind_of, page_of, stage_of, first_row, started, input_row, known_after}
 use Rattle.fed_script.specs.declared.event.Have.{Have}
 use Rattle.fed_script.specs.declared.event.Have.TheVariants as haves
 use Rattle.fed_script.specs.Used.{IsKnown}
@@ -29,8 +37,8 @@ use Rattle.fed_session.specs.declared.page.Page.{Page}
 use Rattle.fed_session.specs.declared.sight.Sight.{Sight}
 use Rattle.fed_trace.specs.Effect.{Effect, Sent, Shown, Window, Result, Ignored}
 use Rattle.fed_trace.specs.Records.{record_of, records_of}
-use Rattle.fed_trace.specs.Row.{get_effects, input_effects, status_effects}
-use Rattle.fed_session.specs.Session.{State, get_of, kept_at}
+use Rattle.fed_trace.specs.Row.{begin_effects, input_effects, status_effects}
+use Rattle.fed_session.specs.Session.{State, get_of, held_by, kept_at}
 
 -- the session as it was before a step began, and as it is after the step is counted
 abbrev pub revived : State → State
@@ -54,13 +62,9 @@ cookies_of sight (asks.Disconnect to client hint origin) = jar_text sight.rules 
 cookies_of sight (asks.Assertion ask) = jar_text sight.rules ask.to sight.time sight.jar
 cookies_of sight _ = []
 
--- The session can do it: a status that is set was said. No row keeps or ends a permission, or clears a flag, yet.
+-- The session can do it: a status that is set was said.
 abbrev pub CanApply : CallEffect → Type 0
 CanApply (does.SetLogin origin status) = IsKnown status
-CanApply (does.Keep triple) = ⊥
-CanApply (does.Forget triple) = ⊥
-CanApply (does.ForgetPair origin provider) = ⊥
-CanApply (does.ClearFlag origin) = ⊥
 CanApply _ = ⊤
 
 -- the same of all that a call does
@@ -76,9 +80,38 @@ abbrev pub login_after : List CallEffect → Logins → Logins
 login_after [] logins = logins
 login_after (effect ∷ effects) logins = login_after effects (login_by effect logins)
 
--- the record of what a call of the page does, if it is written
+-- the kept permissions after what a call does
+abbrev pub kept_by : CallEffect → List Triple → List Triple
+kept_by (does.Keep triple) kept = with_triple kept triple
+kept_by (does.Forget triple) kept = without_triple kept triple
+kept_by (does.ForgetPair origin provider) kept = without_pair kept origin provider
+kept_by _ kept = kept
+
+abbrev pub kept_after : List CallEffect → List Triple → List Triple
+kept_after [] kept = kept
+kept_after (effect ∷ effects) kept = kept_after effects (kept_by effect kept)
+
+-- the flags after what a call does
+abbrev pub flags_by : CallEffect → List Origin → List Origin
+flags_by (does.ClearFlag origin) flags = without_flag flags origin
+flags_by _ flags = flags
+
+abbrev pub flags_after : List CallEffect → List Origin → List Origin
+flags_after [] flags = flags
+flags_after (effect ∷ effects) flags = flags_after effects (flags_by effect flags)
+
+-- what all calls look at, after what a call does
+abbrev pub sight_by : CallEffect → Sight → Sight
+sight_by effect sight =
+    record sight { login = login_by effect sight.login; kept = kept_by effect sight.kept; flags = flags_by effect sight.flags }
+
+abbrev pub sight_after : List CallEffect → Sight → Sight
+sight_after effects sight =
+    record sight { login = login_after effects sight.login; kept = kept_after effects sight.kept; flags = flags_after effects sight.flags }
+
+-- the record of what a call of the page does, if it is written; the kind of the call is in none
 abbrev pub call_record : ℕ → (Ask → List ℕ) → ℕ → ℕ → CallEffect → Option Out
-call_record line cookies call page (does.Send provider ask) = record_of line (Sent call provider ask (cookies ask))
+call_record line cookies call page (does.Send provider ask) = record_of line (Sent GetCall call provider ask (cookies ask))
 call_record line cookies call page (does.Dialog dialog) = record_of line (Shown call dialog)
 call_record line cookies call page (does.Window provider url) = record_of line (Window call provider url)
 call_record line cookies call page (does.Finish finish) = record_of line (Result call page finish)
@@ -89,45 +122,79 @@ call_record line cookies call page _ = None
 abbrev pub call_records : ℕ → (Ask → List ℕ) → ℕ → ℕ → List CallEffect → List Out
 call_records line cookies call page effects = filter_map (call_record line cookies call page) effects
 
--- the effects of a get, by what is kept of its page
-abbrev pub get_at : World → (Ask → List ℕ) → Option Page → ℕ → ℕ → GetOptions → List Effect
-get_at world cookies found page call options =
-    get_effects world cookies (option_map (λ p. p.origin) found) (is_some (get_of found)) page call options
+-- the effects of a call that begins, by what is kept of its page
+abbrev pub begin_at : World → (Ask → List ℕ) → Option Page → ℕ → ℕ → CallOptions → List Effect
+begin_at world cookies found page call options =
+    begin_effects world cookies (option_map (λ p. p.origin) found) (is_some (get_of found)) page call options
 
--- what is kept of a get that is taken, by whether its page has a pending one
-abbrev pub begun_as : World → Bool → ℕ → ℕ → Origin → GetOptions → Option Facts
-begun_as world true page call origin options = None
-begun_as world false page call origin options = started call page origin options (start_row world origin options)
+-- what is kept of a call that is taken, by whether its page has a pending get
+abbrev pub begun_as : World → Bool → Begun → Option Known
+begun_as world busy b = started b (first_row world busy b.origin b.options)
 
--- what is kept of a get of a page that stands, by whether it is trustworthy; none where it is not taken
-abbrev pub standing_kept : World → Bool → Bool → ℕ → ℕ → Origin → GetOptions → Option (Option Facts)
-standing_kept world false busy page call origin options = None
-standing_kept world true busy page call origin options = Some (begun_as world busy page call origin options)
+-- what is kept of a call of a page that stands, by whether it is trustworthy; none where it is not taken
+abbrev pub standing_kept : World → Bool → Bool → Begun → Option (Option Known)
+standing_kept world false busy b = None
+standing_kept world true busy b = Some (begun_as world busy b)
 
-abbrev pub get_kept : World → Option Page → ℕ → ℕ → GetOptions → Option (Option Facts)
-get_kept world None page call options = None
-get_kept world (Some p) page call options = standing_kept world (is_trustworthy p.origin) (is_some p.get) page call p.origin options
+abbrev pub begin_kept : World → Option Page → ℕ → ℕ → CallOptions → Option (Option Known)
+begin_kept world None page call options = None
+begin_kept world (Some p) page call options =
+    standing_kept world (is_trustworthy p.origin) (is_some p.get) (record
+    { call = call; page = page; origin = p.origin; options = options })
 
--- the calls after a get
-abbrev pub with_new : ℕ → Option (Option Facts) → List (ℕ × Option Facts) → List (ℕ × Option Facts)
+-- the calls after one more
+abbrev pub with_new : ℕ → Option (Option Known) → List (ℕ × Option Known) → List (ℕ × Option Known)
 with_new call None calls = calls
 with_new call (Some kept) calls = insert_entry nat_eq calls call kept
 
--- the pages with this call as the page's pending get
-abbrev pub with_get : ℕ → ℕ → List (ℕ × Page) → List (ℕ × Page)
-with_get page call pages =
-    option_map_or (λ p. set_value (nat_eq page) pages (record p { get = Some call })) (lookup (nat_eq page) pages) pages
+-- the page's pending get, after a call of this kind
+abbrev pub get_with : CallKind → ℕ → Option ℕ → Option ℕ
+get_with GetCall call get = Some call
+get_with DisconnectCall call get = get
 
--- the pages after a get
-abbrev pub holding : ℕ → ℕ → Option (Option Facts) → List (ℕ × Page) → List (ℕ × Page)
-holding page call (Some (Some facts)) pages = with_get page call pages
+-- the page with one pending call more
+abbrev pub page_with : CallKind → ℕ → Page → Page
+page_with kind call p = record p { calls = p.calls ++ call ∷ []; get = get_with kind call p.get }
+
+-- the pages with this call as one more of its page
+abbrev pub with_call : CallKind → ℕ → ℕ → List (ℕ × Page) → List (ℕ × Page)
+with_call kind page call pages =
+    option_map_or (λ p. set_value (nat_eq page) pages (page_with kind call p)) (lookup (nat_eq page) pages) pages
+
+-- the pages after a call began
+abbrev pub holding : ℕ → ℕ → Option (Option Known) → List (ℕ × Page) → List (ℕ × Page)
+holding page call (Some (Some known)) pages = with_call (kind_of known) page call pages
 holding page call (Some None) pages = pages
 holding page call None pages = pages
 
--- the pages after this one has no pending get any longer
-abbrev pub without_call : ℕ → List (ℕ × Page) → List (ℕ × Page)
-without_call page pages =
-    option_map_or (λ p. set_value (nat_eq page) pages (record p { get = None })) (lookup (nat_eq page) pages) pages
+-- the page's pending get, unless it is this call
+abbrev pub get_but : ℕ → Option ℕ → Option ℕ
+get_but call None = None
+get_but call (Some get) = if nat_eq call get then None else Some get
+
+-- the page without this one among its pending calls
+abbrev pub page_without : ℕ → Page → Page
+page_without call p = record p { calls = filter (λ c. not (nat_eq call c)) p.calls; get = get_but call p.get }
+
+-- the pages with this call no longer among those of its page
+abbrev pub without_call : ℕ → ℕ → List (ℕ × Page) → List (ℕ × Page)
+without_call page call pages =
+    option_map_or (λ p. set_value (nat_eq page) pages (page_without call p)) (lookup (nat_eq page) pages) pages
+
+-- the kind of a call in this state
+abbrev pub kind_in : Pending → CallKind
+kind_in (Get state) = GetCall
+kind_in (Disconnect state) = DisconnectCall
+
+-- what is known of it
+abbrev pub known_of : Pending → Option Known
+known_of (Get state) = option_map OfGet (facts_of state.value)
+known_of (Disconnect state) = option_map OfDisconnect (disconnect_facts_of state.value)
+
+-- the stage of a call that may be over
+abbrev pub stage_in : Option Known → Stage
+stage_in None = Ended
+stage_in (Some known) = stage_of known
 
 -- the records of a page that closes, by what is kept of it
 abbrev pub close_records : ℕ → Option Page → List Out
@@ -139,47 +206,54 @@ abbrev pub status_at : Option Page → LoginStatus → List Effect
 status_at found status = status_effects (option_map (λ p. p.origin) found) status
 
 -- the calls after this one, if it was taken, is kept so
-abbrev pub with_kept : ℕ → Option Facts → List (ℕ × Option Facts) → List (ℕ × Option Facts)
+abbrev pub with_kept : ℕ → Option Known → List (ℕ × Option Known) → List (ℕ × Option Known)
 with_kept call kept calls = option_map_or (λ old. set_value (nat_eq call) calls kept) (lookup (nat_eq call) calls) calls
 
 -- the calls after this one, if it was taken, has ended
-abbrev pub with_ended : ℕ → List (ℕ × Option Facts) → List (ℕ × Option Facts)
+abbrev pub with_ended : ℕ → List (ℕ × Option Known) → List (ℕ × Option Known)
 with_ended call calls = with_kept call None calls
 
--- the calls after the pending get of a page, if it has one, has ended
-abbrev pub without_get : Option Page → List (ℕ × Option Facts) → List (ℕ × Option Facts)
-without_get page calls = option_map_or (λ call. with_ended call calls) (get_of page) calls
+-- the calls after these have ended, one after the other
+abbrev pub with_all_ended : List ℕ → List (ℕ × Option Known) → List (ℕ × Option Known)
+with_all_ended [] calls = calls
+with_all_ended (call ∷ more) calls = with_all_ended more (with_ended call calls)
+
+-- the calls after the pending ones of a page have ended
+abbrev pub without_held : Option Page → List (ℕ × Option Known) → List (ℕ × Option Known)
+without_held page calls = with_all_ended (held_by page) calls
 
 -- the effects of an input, by what is kept of its call
-abbrev pub input_at : World → (Ask → List ℕ) → Option (Option Facts) → ℕ → Input → List Effect
+abbrev pub input_at : World → (Ask → List ℕ) → Option (Option Known) → ℕ → Input → List Effect
 input_at world cookies found call input =
     input_effects world cookies (is_some found) call (option_and_then (λ kept. kept) found) input
 
 -- what is kept of a call after an input
-abbrev pub kept_after : World → Option Facts → Input → Option Facts
-kept_after world facts input = next_facts world facts input (call_row world facts input)
+abbrev pub kept_next : World → Option Known → Input → Option Known
+kept_next world None input = None
+kept_next world (Some known) input = known_after world known input (input_row world known input)
 
 -- what an input does, by what is kept of its call
-abbrev pub outcome_at : World → Option (Option Facts) → Input → Outcome
+abbrev pub outcome_at : World → Option (Option Known) → Input → Outcome
 outcome_at world None input = ignored NoCall
-outcome_at world (Some facts) input = call_row world facts input
+outcome_at world (Some None) input = ignored CallEnded
+outcome_at world (Some (Some known)) input = input_row world known input
 
 -- the calls after an input of one of them
-abbrev pub input_kept : World → ℕ → Input → List (ℕ × Option Facts) → List (ℕ × Option Facts)
-input_kept world call input calls = with_kept call (kept_after world (kept_at call calls) input) calls
+abbrev pub input_kept : World → ℕ → Input → List (ℕ × Option Known) → List (ℕ × Option Known)
+input_kept world call input calls = with_kept call (kept_next world (kept_at call calls) input) calls
 
--- the pages after an input of a call: where it ended, its page has no pending get any longer
-abbrev pub freed_at : ℕ → Option Facts → List (ℕ × Page) → List (ℕ × Page)
-freed_at page None pages = without_call page pages
-freed_at page (Some after) pages = pages
+-- the pages after an input of a call: where it ended, its page has it no longer
+abbrev pub freed_at : ℕ → ℕ → Option Known → List (ℕ × Page) → List (ℕ × Page)
+freed_at page call None pages = without_call page call pages
+freed_at page call (Some after) pages = pages
 
-abbrev pub freed : Option Facts → Option Facts → List (ℕ × Page) → List (ℕ × Page)
-freed (Some facts) after pages = freed_at facts.page after pages
-freed None after pages = pages
+abbrev pub freed : ℕ → Option Known → Option Known → List (ℕ × Page) → List (ℕ × Page)
+freed call (Some known) after pages = freed_at (page_of known) call after pages
+freed call None after pages = pages
 
-abbrev pub freed_by : World → Option (Option Facts) → Input → List (ℕ × Page) → List (ℕ × Page)
-freed_by world found input pages =
-    freed (option_and_then (λ kept. kept) found) (kept_after world (option_and_then (λ kept. kept) found) input) pages
+abbrev pub freed_by : World → ℕ → Option (Option Known) → Input → List (ℕ × Page) → List (ℕ × Page)
+freed_by world call found input pages =
+    freed call (option_and_then (λ kept. kept) found) (kept_next world (option_and_then (λ kept. kept) found) input) pages
 
 -- statuses that Set-Login values say
 abbrev pub logins_in : List (List ℕ) → List LoginStatus
@@ -196,5 +270,5 @@ have_statuses (haves.Cookie url field) logins = logins
 have_statuses (haves.Login origin status) logins = with_status logins origin status
 
 -- a call by what is kept of it, where it is pending
-abbrev pub shown_call : ℕ × Option Facts → Option (ℕ × ℕ × Stage)
-shown_call c = option_map (λ facts. (c.0, facts.page, facts.stage)) c.1
+abbrev pub shown_call : ℕ × Option Known → Option (ℕ × ℕ × Stage)
+shown_call c = option_map (λ known. (c.0, page_of known, stage_of known)) c.1

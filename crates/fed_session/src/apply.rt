@@ -1,10 +1,11 @@
-//! What a call does: statuses that it sets, and records.
+//! What a call does: statuses, permissions and flags that it sets, and records.
 ghost use Rattle.std.specs.Prelude.{◌≡◌, ◌++◌, [], ◌∷◌, IfOk, OnOk, Some};
 ghost use Rattle.std.specs.Option.{option_to_list};
 ghost use Rattle.std.specs.List.{filter_map};
+ghost use Rattle.fed_trace.specs.Begun.{GetCall};
 ghost use Rattle.fed_trace.specs.Effect.{Sent, Ignored};
 ghost use Rattle.fed_trace.specs.Records.{records_of, record_of};
-ghost use Rattle.fed_session.specs.StepParts.{cookies_of, call_records, CanApplyAll, login_after};
+ghost use Rattle.fed_session.specs.StepParts.{cookies_of, call_records, CanApplyAll, sight_after};
 
 use crate::sight::Sight;
 use fed_consent::{Ask, Effect, Why};
@@ -22,7 +23,7 @@ pub(crate) fn ignored(alloc: Global, line: u32, why: Why) -> Result<Items<Out>, 
     Ok(outs)
 }
 
-/// What a call of the page does, in its order: statuses are set, and the rest is answered as records.
+/// What a call of the page does, in its order: what it sets is set, and the rest is answered as records.
 pub(crate) fn apply(
     alloc: Global,
     line: u32,
@@ -33,9 +34,9 @@ pub(crate) fn apply(
 ) -> Result<Items<Out>, NoRoom>
     requires { CanApplyAll effects }
     ensures outs { IfOk result (λ outs. outs ≡ call_records line (cookies_of sight.old) call page effects) }
-    ensures sight { OnOk result (sight.new ≡ record sight.old { login = login_after effects sight.old.login }) }
+    ensures sight { OnOk result (sight.new ≡ sight_after effects sight.old) }
 {
-    set_statuses(sight, effects.as_slice())?;
+    set_all(alloc, sight, effects.as_slice())?;
     let outs = answered(alloc, line, sight, call, page, effects)?;
     Ok(outs)
 }
@@ -60,13 +61,13 @@ pub(crate) fn answered(
     Ok(outs)
 }
 
-// Sets the login statuses that a call sets, in their order.
-fn set_statuses(sight: &mut Sight, effects: &[Effect]) -> Result<(), NoRoom>
+// Sets the statuses, permissions and flags that a call sets, in their order.
+fn set_all(alloc: Global, sight: &mut Sight, effects: &[Effect]) -> Result<(), NoRoom>
     requires { CanApplyAll effects.now }
-    ensures { OnOk result (sight.new ≡ record sight.old { login = login_after effects.now sight.old.login }) }
+    ensures { OnOk result (sight.new ≡ sight_after effects.now sight.old) }
 {
     for effect in effects {
-        sight.set_status(effect)?;
+        sight.set(alloc, effect)?;
     }
     Ok(())
 }
@@ -116,7 +117,7 @@ fn request(
     provider: u32,
     ask: &Ask,
 ) -> Result<Out, NoRoom>
-    ensures { IfOk result (λ out. Some out ≡ record_of line (Sent call provider ask.now (cookies_of sight.now ask.now))) }
+    ensures { IfOk result (λ out. Some out ≡ record_of line (Sent GetCall call provider ask.now (cookies_of sight.now ask.now))) }
 {
     let cookies = sight.cookies(alloc, ask)?;
     Ok(Out::Request {

@@ -5,8 +5,9 @@ ghost use Rattle.fed_consent.specs.Outcomes.{fails};
 ghost use Rattle.fed_consent.specs.Failures.{plain};
 ghost use Rattle.fed_status.specs.Shared.{world_of};
 ghost use Rattle.fed_trace.specs.Records.{records_of};
-ghost use Rattle.fed_trace.specs.Row.{get_outcome};
-ghost use Rattle.fed_session.specs.StepParts.{cookies_of, world_in, get_at, get_kept, with_new, holding, begun_as};
+ghost use Rattle.fed_trace.specs.Begun.{ToGet};
+ghost use Rattle.fed_trace.specs.Call.{first_row};
+ghost use Rattle.fed_session.specs.StepParts.{cookies_of, world_in, begin_at, begin_kept, with_new, holding, begun_as};
 
 use crate::apply::{answered, ignored};
 use crate::calls::{Calls, Kept};
@@ -33,9 +34,14 @@ pub(crate) fn get(
     options: &GetOptions,
 ) -> Result<Items<Out>, NoRoom>
     requires { length options.now.providers ≡ 1 }
-    ensures outs { IfOk result (λ outs. outs ≡ records_of line (get_at (world_in sight.now) (cookies_of sight.now) (lookup (nat_eq page) pages.old.entries) page call options.now)) }
-    ensures pages { OnOk result (pages.new.entries ≡ holding page call (get_kept (world_in sight.now) (lookup (nat_eq page) pages.old.entries) page call options.now) pages.old.entries) }
-    ensures calls { OnOk result (calls.new.entries ≡ with_new call (get_kept (world_in sight.now) (lookup (nat_eq page) pages.old.entries) page call options.now) calls.old.entries) }
+    ensures outs { IfOk result (λ outs. outs ≡ records_of line (begin_at (world_in sight.now) (cookies_of sight.now)
+        (lookup (nat_eq page) pages.old.entries) page call (ToGet options.now))) }
+    ensures pages { OnOk result (pages.new.entries
+        ≡ holding page call (begin_kept (world_in sight.now) (lookup (nat_eq page) pages.old.entries) page
+        call (ToGet options.now)) pages.old.entries) }
+    ensures calls { OnOk result (calls.new.entries
+        ≡ with_new call (begin_kept (world_in sight.now) (lookup (nat_eq page) pages.old.entries) page call
+        (ToGet options.now)) calls.old.entries) }
 {
     let Some(found) = pages.get(&page) else {
         return ignored(alloc, line, Why::NoPage);
@@ -52,7 +58,7 @@ pub(crate) fn get(
         &found.origin,
         options,
     )?;
-    hold(pages, page, call, &kept);
+    hold(pages, page, call, &kept)?;
     calls.insert(call, kept)?;
     let outs = answered(alloc, line, sight, call, page, effects)?;
     Ok(outs)
@@ -69,8 +75,9 @@ fn begin(
     options: &GetOptions,
 ) -> Result<(Kept, Items<Effect>), NoRoom>
     requires { length options.now.providers ≡ 1 }
-    ensures effects { IfOk result (λ r. r.1 ≡ (get_outcome (world_of shared.now) busy origin.now options.now).effects) }
-    ensures kept { IfOk result (λ r. r.0 ≡ begun_as (world_of shared.now) busy page call origin.now options.now) }
+    ensures effects { IfOk result (λ r. r.1 ≡ (first_row (world_of shared.now) busy origin.now (ToGet options.now)).effects) }
+    ensures kept { IfOk result (λ r. r.0 ≡ begun_as (world_of shared.now) busy (record
+        { call = call; page = page; origin = origin.now; options = ToGet options.now })) }
 {
     if busy {
         return Ok((Kept::over(), pending_elsewhere(alloc)?));
@@ -83,7 +90,7 @@ fn begin(
         options.copy(alloc)?,
         shared,
     )?;
-    Ok((Kept::of(alloc, state)?, effects))
+    Ok((Kept::of_get(alloc, state)?, effects))
 }
 
 // The page has a pending get.

@@ -3,10 +3,10 @@ ghost use Rattle.std.specs.Prelude.{◌≡◌, nat_eq, IfOk, OnOk};
 ghost use Rattle.std.specs.Map.{lookup};
 ghost use Rattle.fed_trace.specs.Known as spec;
 ghost use Rattle.fed_trace.specs.Records.{records_of};
-ghost use Rattle.fed_session.specs.StepParts.{cookies_of, world_in, login_after, outcome_at, input_at, input_kept, freed_by};
+ghost use Rattle.fed_session.specs.StepParts.{cookies_of, world_in, sight_after, outcome_at, input_at, input_kept, freed_by};
 
 use crate::apply::{apply, ignored};
-use crate::calls::{Calls, Kept, give_back, lend};
+use crate::calls::{Calls, give_back, lend};
 use crate::page::{Page, free};
 use crate::sight::Sight;
 use fed_consent::{Input, Why};
@@ -16,7 +16,7 @@ use fed_trace::Out;
 use indexmap::IndexMap;
 use std::alloc::Global;
 
-/// An input of a call: its records, and the statuses, the pages and the calls after it.
+/// An input of a call: its records, and what all calls look at, the pages and the calls after it.
 pub(crate) fn take_input(
     alloc: Global,
     line: u32,
@@ -26,9 +26,13 @@ pub(crate) fn take_input(
     call: u32,
     input: &Input,
 ) -> Result<Items<Out>, NoRoom>
-    ensures outs { IfOk result (λ outs. outs ≡ records_of line (input_at (world_in sight.old) (cookies_of sight.old) (lookup (nat_eq call) calls.old.entries) call input.now)) }
-    ensures sight { OnOk result (sight.new ≡ record sight.old { login = login_after (outcome_at (world_in sight.old) (lookup (nat_eq call) calls.old.entries) input.now).effects sight.old.login }) }
-    ensures pages { OnOk result (pages.new.entries ≡ freed_by (world_in sight.old) (lookup (nat_eq call) calls.old.entries) input.now pages.old.entries) }
+    ensures outs { IfOk result (λ outs. outs ≡ records_of line (input_at (world_in sight.old) (cookies_of sight.old)
+        (lookup (nat_eq call) calls.old.entries) call input.now)) }
+    ensures sight { OnOk result (sight.new ≡ sight_after (outcome_at (world_in sight.old) (lookup (nat_eq call) calls.old.entries)
+        input.now).effects
+        sight.old) }
+    ensures pages { OnOk result (pages.new.entries ≡ freed_by (world_in sight.old) call (lookup (nat_eq call)
+        calls.old.entries) input.now pages.old.entries) }
     ensures calls { OnOk result (calls.new.entries ≡ input_kept (world_in sight.old) call input.now calls.old.entries) }
 {
     let Some(kept) = lend(calls, call) else {
@@ -38,12 +42,11 @@ pub(crate) fn take_input(
         return ignored(alloc, line, Why::CallEnded);
     };
     let page = state.page();
-    let (state, effects) = state.advance(alloc, input, &sight.lent())?;
-    let kept = Kept::of(alloc, state)?;
+    let (kept, effects) = state.advance(alloc, input, &sight.lent())?;
     let Some(page) = page else {
         return ignored(alloc, line, Why::CallEnded);
     };
-    free(pages, page, &kept);
+    free(alloc, pages, page, call, &kept);
     give_back(calls, call, kept);
     let outs = apply(alloc, line, sight, call, page, effects)?;
     Ok(outs)

@@ -23,7 +23,12 @@ pub(crate) fn take_head(
     url: &WebUrl,
     raw: &Option<Bytes>,
 ) -> Result<(), NoRoom>
-    ensures { OnOk result (sight.new ≡ record sight.old { jar = cookies_after sight.old.jar (cookies_from sight.old.rules url.now sight.old.time (set_cookies raw.now)); login = with_statuses (origin_of url.now) (set_logins raw.now) sight.old.login }) }
+    ensures { OnOk result (sight.new ≡ record sight.old {
+      jar =
+          cookies_after sight.old.jar (cookies_from sight.old.rules url.now sight.old.time (set_cookies raw.now));
+      login =
+          with_statuses (origin_of url.now) (set_logins raw.now) sight.old.login;
+    }) }
 {
     let Some(raw) = raw else {
         return Ok(());
@@ -41,7 +46,10 @@ pub(crate) fn take_head(
 
 // Stores each Set-Cookie value of a reply.
 fn store_fields(alloc: Global, sight: &mut Sight, url: &WebUrl, head: &Reply) -> Result<(), NoRoom>
-    ensures { OnOk result (sight.new ≡ record sight.old { jar = cookies_after sight.old.jar (cookies_from sight.old.rules url.now sight.old.time (values set_cookie_name head.now.fields)) }) }
+    ensures { OnOk result (sight.new ≡ record sight.old {
+      jar =
+          cookies_after sight.old.jar (cookies_from sight.old.rules url.now sight.old.time (values set_cookie_name head.now.fields));
+    }) }
 {
     for value in head.values("set-cookie") {
         sight.store(alloc, url, value.as_bytes())?;
@@ -72,7 +80,12 @@ fn set_status(login: &mut LoginMap, origin: &Origin, field: &[u8]) -> Result<(),
 /// Stores the cookie, or sets the status, that a line of the kind `have` names.
 pub(crate) fn take_have(alloc: Global, sight: &mut Sight, have: &Have) -> Result<(), NoRoom>
     requires { SaysKnown have.now }
-    ensures { OnOk result (sight.new ≡ record sight.old { jar = cookies_after sight.old.jar (have_cookies sight.old.rules sight.old.time have.now); login = have_statuses have.now sight.old.login }) }
+    ensures { OnOk result (sight.new ≡ record sight.old {
+      jar =
+          cookies_after sight.old.jar (have_cookies sight.old.rules sight.old.time have.now);
+      login =
+          have_statuses have.now sight.old.login;
+    }) }
 {
     match have {
         Have::Cookie { url, field } => sight.store(alloc, url, field.as_slice()),

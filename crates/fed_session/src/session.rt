@@ -47,7 +47,19 @@ impl Model for Session {
 
     ghost coded = { Prim.hlevel (codes, set.code {R = rule_cmp} rule_code) };
 
-    ghost view = { λ s. record { alive = s.alive; steps = s.steps; time = s.sight.time; rules = s.sight.rules; cookies = s.sight.jar; login = s.sight.login; kept = s.sight.kept; flags = s.sight.flags; pages = s.pages.entries; calls = s.calls.entries } };
+    ghost view = { λ s. record {
+      alive = s.alive;
+      steps = s.steps;
+      time = s.sight.time;
+      rules = s.sight.rules;
+      cookies = s.sight.jar;
+      login =
+          s.sight.login;
+      kept = s.sight.kept;
+      flags = s.sight.flags;
+      pages = s.pages.entries;
+      calls = s.calls.entries;
+    } };
 }
 
 // Written out, so that one function lets a session go wherever it ends.
@@ -163,7 +175,8 @@ impl Session {
     fn have(&mut self, have: &Have) -> Result<Items<Out>, NoRoom>
         requires { SaysKnown have.now }
         ensures row { (T : Trace) (line : ℕ) → Stands (revived self.old) T
-            → IfOk result (λ outs. (outs ≡ records (row_of T line (events.Have have.now))) × Stands (stepped self.new) (with_event T line (events.Have have.now))) }
+            → IfOk result (λ outs. (outs ≡ records (row_of T line (events.Have have.now)))
+            × Stands (stepped self.new) (with_event T line (events.Have have.now))) }
         ensures steps { self.new.steps ≡ self.old.steps }
         ensures alive { self.new.alive ≡ self.old.alive }
     {
@@ -174,7 +187,8 @@ impl Session {
     // A page is loaded.
     fn load(&mut self, page: u32, url: &WebUrl, raw: &Option<Bytes>) -> Result<Items<Out>, NoRoom>
         ensures row { (T : Trace) (line : ℕ) → Stands (revived self.old) T
-            → IfOk result (λ outs. (outs ≡ records (row_of T line (events.Load page url.now raw.now))) × Stands (stepped self.new) (with_event T line (events.Load page url.now raw.now))) }
+            → IfOk result (λ outs. (outs ≡ records (row_of T line (events.Load page url.now raw.now)))
+            × Stands (stepped self.new) (with_event T line (events.Load page url.now raw.now))) }
         ensures steps { self.new.steps ≡ self.old.steps }
         ensures alive { self.new.alive ≡ self.old.alive }
     {
@@ -194,7 +208,8 @@ impl Session {
         requires fresh { lookup (nat_eq call) self.old.calls ≡ None }
         requires one { length options.now.providers ≡ 1 }
         ensures row { (T : Trace) → Stands (revived self.old) T
-            → IfOk result (λ outs. (outs ≡ records (row_of T line (events.Get page call options.now))) × Stands (stepped self.new) (with_event T line (events.Get page call options.now))) }
+            → IfOk result (λ outs. (outs ≡ records (row_of T line (events.Get page call options.now)))
+            × Stands (stepped self.new) (with_event T line (events.Get page call options.now))) }
         ensures steps { self.new.steps ≡ self.old.steps }
         ensures alive { self.new.alive ≡ self.old.alive }
     {

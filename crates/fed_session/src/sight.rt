@@ -5,7 +5,7 @@ ghost use Rattle.fed_jar.specs.Cookie.{cookies_after};
 ghost use Rattle.fed_request.specs.Request.{TakesCookies};
 ghost use Rattle.fed_status.specs.Shared.{world_of};
 ghost use Rattle.fed_trace.specs.Row.{cookies_from};
-ghost use Rattle.fed_session.specs.StepParts.{cookies_of, world_in, CanApply, login_by};
+ghost use Rattle.fed_session.specs.StepParts.{cookies_of, world_in, CanApply, sight_by};
 
 use fed_consent::{Ask, Effect};
 use fed_cookie::read_set_cookie;
@@ -96,7 +96,10 @@ impl Sight {
 
     /// Stores the cookie of one Set-Cookie value of a reply from the URL, unless it is ignored (RFC 6265, 5.3).
     pub(crate) fn store(&mut self, alloc: Global, url: &WebUrl, field: &[u8]) -> Result<(), NoRoom>
-        ensures { OnOk result (self.new ≡ record self.old { jar = cookies_after self.old.jar (cookies_from self.old.rules url.now self.old.time (field.now ∷ [])) }) }
+        ensures { OnOk result (self.new ≡ record self.old {
+          jar =
+              cookies_after self.old.jar (cookies_from self.old.rules url.now self.old.time (field.now ∷ []));
+        }) }
     {
         if let Some(raw) = read_set_cookie(alloc, field)? {
             self.jar.store(&self.rules, url, self.time, raw)?;
@@ -104,22 +107,26 @@ impl Sight {
         Ok(())
     }
 
-    /// Sets the login status that an effect of a call sets, if it sets one.
-    pub(crate) fn set_status(&mut self, effect: &Effect) -> Result<(), NoRoom>
+    /// Sets the login status, the permission or the flag that an effect of a call sets, if it sets one.
+    pub(crate) fn set(&mut self, alloc: Global, effect: &Effect) -> Result<(), NoRoom>
         requires { CanApply effect.now }
-        ensures { OnOk result (self.new ≡ record self.old { login = login_by effect.now self.old.login }) }
+        ensures { OnOk result (self.new ≡ sight_by effect.now self.old) }
     {
         match effect {
-            Effect::SetLogin(origin, status) => self.login.set(origin, *status),
+            Effect::SetLogin(origin, status) => self.login.set(origin, *status)?,
+            Effect::Keep(triple) => self.kept.add(triple.copy(alloc)?)?,
+            Effect::Forget(triple) => {
+                self.kept
+                    .remove(&triple.page, &triple.provider, &triple.account)
+            }
+            Effect::ForgetPair(page, provider) => self.kept.remove_pair(page, provider),
+            Effect::ClearFlag(origin) => self.flags.clear(origin),
             Effect::Send(_, _)
             | Effect::Dialog(_)
             | Effect::Window(_, _)
-            | Effect::Keep(_)
-            | Effect::Forget(_)
-            | Effect::ForgetPair(_, _)
-            | Effect::ClearFlag(_)
             | Effect::Finish(_)
-            | Effect::Ignored(_) => Ok(()),
+            | Effect::Ignored(_) => {}
         }
+        Ok(())
     }
 }

@@ -1,3 +1,4 @@
 -- The pending calls of pages, and the calls that began.
 pub mod Pending
+pub mod Gets
 pub mod Begins

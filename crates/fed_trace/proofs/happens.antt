@@ -5,3 +5,5 @@ pub mod First
 pub mod Happens
 pub mod Over
 pub mod Taken
+pub mod Disconnects
+pub mod Gets

@@ -1,3 +1,5 @@
 -- What is known of a call.
 pub mod Facts
+pub mod Stages
 pub mod Known
+pub mod Kinds

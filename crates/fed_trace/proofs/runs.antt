@@ -1,3 +1,5 @@
 -- Runs, and the traces of scripts.
 pub mod Untaken
 pub mod Scripts
+pub mod Gets
+pub mod Only

@@ -12,7 +12,7 @@ use Rattle.fed_consent.specs.declared.table.ask.Ask.{Ask}
 use Rattle.fed_consent.specs.declared.table.dialog.Dialog.{Dialog}
 use Rattle.fed_consent.specs.declared.table.finish.Finish.{Finish}
 use Rattle.fed_consent.specs.declared.table.why.Why.{Why}
-use Rattle.fed_trace.specs.Begun.{Begun}
+use Rattle.fed_trace.specs.Begun.{Begun, CallKind, kind_asked, of_get}
 use Rattle.fed_trace.specs.Keyed.{Change}
 
 pub data Effect : Type 0 where
@@ -28,10 +28,10 @@ pub data Effect : Type 0 where
   Login : (origin : Origin) → (status : LoginStatus) → Effect
   -- the call was taken
   Begin : (begun : Begun) → Effect
-  -- the call moved
-  Move : (call : ℕ) → (stage : Stage) → Effect
-  -- a request of the call to a provider, with the text of its cookies
-  Sent : (call : ℕ) → (provider : ℕ) → (ask : Ask) → (cookies : List ℕ) → Effect
+  -- the call, of this kind, moved
+  Move : (kind : CallKind) → (call : ℕ) → (stage : Stage) → Effect
+  -- a request of the call, of this kind, to a provider, with the text of its cookies
+  Sent : (kind : CallKind) → (call : ℕ) → (provider : ℕ) → (ask : Ask) → (cookies : List ℕ) → Effect
   -- a dialog of the call is shown
   Shown : (call : ℕ) → (dialog : Dialog) → Effect
   -- the login window of a provider of the call opens at this URL
@@ -71,20 +71,40 @@ abbrev pub flag_change : Effect → Option (Change Origin ⊤)
 flag_change (Flag origin stays) = Some (key_change origin stays)
 flag_change _ = None
 
+-- of a pending call: its page, and of which kind it is
+pub record PendingCall : Type 0 where
+  pub page : ℕ
+  pub kind : CallKind
+
 -- a call is pending until it has ended
-abbrev pub unless_ended : ℕ → Stage → Option (Change ℕ ℕ)
+abbrev pub unless_ended : {V : Type 0} → ℕ → Stage → Option (Change ℕ V)
 unless_ended call Ended = Some (call, None)
 unless_ended call _ = None
 
--- what an effect says of pending calls, with the pages that they are of
-abbrev pub call_change : Effect → Option (Change ℕ ℕ)
-call_change (Begin begun) = Some (begun.call, Some begun.page)
-call_change (Move call stage) = unless_ended call stage
+-- what is said of a call that begins
+abbrev pub pending_from : Begun → PendingCall
+pending_from begun = record { page = begun.page; kind = kind_asked begun.options }
+
+-- what an effect says of pending calls
+abbrev pub call_change : Effect → Option (Change ℕ PendingCall)
+call_change (Begin begun) = Some (begun.call, Some (pending_from begun))
+call_change (Move kind call stage) = unless_ended call stage
 call_change _ = None
+
+-- what an effect says of pending gets, with the pages that they are of
+abbrev pub get_change : Effect → Option (Change ℕ ℕ)
+get_change (Begin begun) = of_get (kind_asked begun.options) (Some (begun.call, Some begun.page))
+get_change (Move kind call stage) = of_get kind (unless_ended call stage)
+get_change _ = None
+
+-- the get that an effect begins
+abbrev pub get_begun : Effect → Option ℕ
+get_begun (Begin begun) = of_get (kind_asked begun.options) (Some begun.call)
+get_begun _ = None
 
 -- what an effect says of the stages of calls
 abbrev pub stage_change : Effect → Option (Change ℕ Stage)
-stage_change (Move call stage) = Some (call, Some stage)
+stage_change (Move kind call stage) = Some (call, Some stage)
 stage_change _ = None
 
 -- the time that an effect brings

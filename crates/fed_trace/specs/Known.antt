@@ -1,13 +1,13 @@
 -- What is known of a call: how it began, what the inputs that it took said, and its stage.
-use Rattle.std.specs.Prelude.{ℕ, Bool, nat_eq, List, [], ◌∷◌, Option, Some, None, option_map, if◌then◌else◌}
+use Rattle.std.specs.Prelude.{ℕ, Bool, nat_eq, List, [], ◌∷◌, Option, Some, None, option_map, option_and_then, if◌then◌else◌}
 use Rattle.std.specs.Option.{option_or}
 use Rattle.std.specs.List.{list_any}
 use Rattle.fed_origin.specs.declared.stage.Stage.{Stage}
 use Rattle.fed_status.specs.Shared.{World}
 use Rattle.fed_consent.specs.declared.table.input.Input.{Input}
 use Rattle.fed_consent.specs.declared.table.input.Input.TheVariants as inputs
-use Rattle.fed_trace.specs.Begun.{Begun}
-use Rattle.fed_call.specs.Facts.{Facts, at_stage, fresh, with_input}
+use Rattle.fed_trace.specs.Call.{Known, get_facts, at_stage, known_first, with_input}
+use Rattle.fed_call.specs.Facts.{Facts}
 use Rattle.fed_script.specs.declared.event.Event.{Event}
 use Rattle.fed_script.specs.declared.event.Event.TheVariants as events
 use Rattle.fed_script.specs.declared.event.Header.{Header}
@@ -40,27 +40,28 @@ for_call call (Some brought) = if nat_eq call brought.0 then Some brought.1 else
 abbrev pub input_to : ℕ → Event → Option Input
 input_to call event = for_call call (input_of event)
 
--- what is known of a call of which no input was taken
-abbrev pub known_first : Begun → Facts
-known_first b = fresh b.call b.page b.origin b.options
-
 -- what is known of a call after an input, if there is one, among what all calls looked at then, by whether it was ignored
-abbrev pub with_said : World → Bool → Option Input → Facts → Facts
-with_said world ignored None facts = facts
-with_said world ignored (Some input) facts = with_input world ignored input facts
+abbrev pub with_said : World → Bool → Option Input → Known → Known
+with_said world ignored None known = known
+with_said world ignored (Some input) known = with_input world ignored input known
 
 -- what is known of a call, but for its stage: how it began, and what each input that it took said
-abbrev pub known_in : Header → List Row → ℕ → Option Facts
+abbrev pub known_in : Header → List Row → ℕ → Option Known
 known_in header [] call = None
 known_in header (row ∷ rows) call =
     option_or (option_map known_first (last_of (begins call) row.effects))
-    (option_map (with_said (world_at (record { header = header; rows = rows })) (list_any is_ignored row.effects) (input_to call row.event)) (known_in header rows call))
+    (option_map (with_said (world_at (record { header = header; rows = rows })) (list_any is_ignored row.effects) (input_to call row.event))
+    (known_in header rows call))
 
-abbrev pub facts_by : Option Stage → Option Facts → Option Facts
-facts_by (Some stage) (Some known) = at_stage stage known
-facts_by (Some stage) None = None
-facts_by None known = None
+abbrev pub known_by : Option Stage → Option Known → Option Known
+known_by (Some stage) (Some known) = at_stage stage known
+known_by (Some stage) None = None
+known_by None known = None
 
 -- what is known of a call that is not over
+abbrev pub known_at : Trace → ℕ → Option Known
+known_at T call = known_by (stage_at T call) (known_in T.header T.rows call)
+
+-- the same of a get
 abbrev pub facts_at : Trace → ℕ → Option Facts
-facts_at T call = facts_by (stage_at T call) (known_in T.header T.rows call)
+facts_at T call = option_and_then get_facts (known_at T call)

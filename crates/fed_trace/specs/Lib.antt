@@ -1,4 +1,5 @@
 pub mod Begun
+pub mod Call
 pub mod Effect
 pub mod Keyed
 pub mod Known

@@ -18,7 +18,7 @@ pub record Has (effects : List Effect) (effect : Effect) : Type 0 where
 
 -- the request for a token of the call that an effect sends, if it does, with the place of its provider
 abbrev pub asked : ℕ → Effect → Option (ℕ × AssertionFields)
-asked call (Sent c provider (asks.Assertion ask) cookies) = if nat_eq call c then Some (provider, ask) else None
+asked call (Sent kind c provider (asks.Assertion ask) cookies) = if nat_eq call c then Some (provider, ask) else None
 asked call _ = None
 
 -- the requests for a token of the call, in their order

@@ -10,7 +10,7 @@ use Rattle.fed_trace.specs.Trace.{Row}
 
 -- the record of an effect in a row of this line, if the effect is written
 abbrev pub record_of : ℕ → Effect → Option Out
-record_of line (Sent call provider ask cookies) = Some (outs.Request line call provider (kind_of ask) (request_bytes ask cookies))
+record_of line (Sent kind call provider ask cookies) = Some (outs.Request line call provider (kind_of ask) (request_bytes ask cookies))
 record_of line (Shown call dialog) = Some (outs.Dialog line call dialog)
 record_of line (Window call provider url) = Some (outs.Window line call provider url)
 record_of line (Result call page finish) = Some (outs.Answer line call page finish)

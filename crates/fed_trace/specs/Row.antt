@@ -1,8 +1,8 @@
 -- What each event does, by what is looked up: the tables, row by row.
-use Rattle.std.specs.Prelude.{◌≡◌, ℕ, Bool, true, false, nat_eq, ◌==◌, List, [], ◌∷◌, ◌++◌, length, map, codes, Option, Some, None, option_and_then, Result as Answer, Ok, Err, ⊤}
+use Rattle.std.specs.Prelude.{◌≡◌, ℕ, Bool, true, false, nat_eq, ◌==◌, List, [], ◌∷◌, ◌++◌, length, map, codes, Option, Some, None}
+use Rattle.std.specs.Prelude.{option_and_then, Result as Answer, Ok, Err, ⊤}
 use Rattle.std.specs.List.{list_any, filter_map, flat_map}
 use Rattle.url.specs.Parts.{Parts}
-use Rattle.fed_origin.specs.declared.options.GetOptions.{GetOptions}
 use Rattle.fed_origin.specs.declared.origin.Origin.{Origin}
 use Rattle.fed_origin.specs.declared.stage.Stage.{Stage}
 use Rattle.fed_origin.specs.declared.stage.Stage.TheVariants.{Ended}
@@ -25,14 +25,11 @@ use Rattle.fed_consent.specs.declared.table.ask.Ask.{Ask}
 use Rattle.fed_consent.specs.declared.table.ask.Ask.TheVariants as asks
 use Rattle.fed_consent.specs.declared.table.effect.Effect.{Effect as CallEffect}
 use Rattle.fed_consent.specs.declared.table.effect.Effect.TheVariants as does
-use Rattle.fed_consent.specs.declared.table.failure.FailStep.TheVariants.{CallPending}
 use Rattle.fed_consent.specs.declared.table.input.Input.{Input}
-use Rattle.fed_consent.specs.declared.table.why.Why.TheVariants.{NoPage, PageInsecure, NoCall}
-use Rattle.fed_trace.specs.Begun.{Begun}
-use Rattle.fed_call.specs.Facts.{Facts}
-use Rattle.fed_consent.specs.Outcomes.{Outcome, fails}
-use Rattle.fed_consent.specs.Failures.{plain}
-use Rattle.fed_call.specs.Row.{start_row, call_row}
+use Rattle.fed_consent.specs.declared.table.why.Why.TheVariants.{NoPage, PageInsecure, NoCall, CallEnded}
+use Rattle.fed_consent.specs.Outcomes.{Outcome}
+use Rattle.fed_trace.specs.Begun.{Begun, CallKind, CallOptions, ToGet, kind_asked}
+use Rattle.fed_trace.specs.Call.{Known, kind_of, page_of, first_row, input_row}
 use Rattle.fed_script.specs.declared.event.Event.{Event}
 use Rattle.fed_script.specs.declared.event.Event.TheVariants as events
 use Rattle.fed_script.specs.declared.event.Event.TheVariants.{At, Load, ClosePage, Get, SetStatus}
@@ -40,8 +37,8 @@ use Rattle.fed_script.specs.declared.event.Have.{Have}
 use Rattle.fed_script.specs.declared.event.Have.TheVariants as haves
 use Rattle.fed_script.specs.declared.event.Header.{Header}
 use Rattle.fed_trace.specs.Effect.{Effect, Time, Page, Closed, Cookie, Login, Begin, Move, Sent, Shown, Window, Kept, Flag, Result, Ignored}
-use Rattle.fed_trace.specs.Known.{world_at, is_begun, input_of, facts_at}
-use Rattle.fed_trace.specs.Trace.{Row, Trace, page_at, pending, pending_of, now_at, writes, begun}
+use Rattle.fed_trace.specs.Known.{world_at, is_begun, input_of, known_at}
+use Rattle.fed_trace.specs.Trace.{Row, Trace, page_at, gets, pending_of, now_at, writes, begun}
 
 -- ---- what a call does
 
@@ -52,75 +49,69 @@ cookies_with T (asks.Disconnect to client hint origin) = jar.cookie_text T.heade
 cookies_with T (asks.Assertion ask) = jar.cookie_text T.header.rules ask.to (now_at T) (writes T)
 cookies_with T _ = []
 
--- what a call of the page does, among what all calls look at, with the cookies of its requests; where a pair loses its permissions,
--- each of them goes, in their order
-abbrev pub call_effects : World → (Ask → List ℕ) → ℕ → ℕ → CallEffect → List Effect
-call_effects world cookies call page (does.Send provider ask) = Sent call provider ask (cookies ask) ∷ []
-call_effects world cookies call page (does.Dialog dialog) = Shown call dialog ∷ []
-call_effects world cookies call page (does.Window provider url) = Window call provider url ∷ []
-call_effects world cookies call page (does.SetLogin origin status) = Login origin status ∷ []
-call_effects world cookies call page (does.Keep triple) = Kept triple true ∷ []
-call_effects world cookies call page (does.Forget triple) = Kept triple false ∷ []
-call_effects world cookies call page (does.ForgetPair origin provider) =
+-- what a call of this kind, of the page, does, among what all calls look at, with the cookies of its requests; where a pair loses its
+-- permissions, each of them goes, in their order
+abbrev pub call_effects : World → (Ask → List ℕ) → CallKind → ℕ → ℕ → CallEffect → List Effect
+call_effects world cookies kind call page (does.Send provider ask) = Sent kind call provider ask (cookies ask) ∷ []
+call_effects world cookies kind call page (does.Dialog dialog) = Shown call dialog ∷ []
+call_effects world cookies kind call page (does.Window provider url) = Window call provider url ∷ []
+call_effects world cookies kind call page (does.SetLogin origin status) = Login origin status ∷ []
+call_effects world cookies kind call page (does.Keep triple) = Kept triple true ∷ []
+call_effects world cookies kind call page (does.Forget triple) = Kept triple false ∷ []
+call_effects world cookies kind call page (does.ForgetPair origin provider) =
     map (λ triple. Kept triple false) (triples_of_pair world.kept origin provider)
-call_effects world cookies call page (does.ClearFlag origin) = Flag origin false ∷ []
-call_effects world cookies call page (does.Finish finish) = Result call page finish ∷ []
-call_effects world cookies call page (does.Ignored why) = Ignored why ∷ []
+call_effects world cookies kind call page (does.ClearFlag origin) = Flag origin false ∷ []
+call_effects world cookies kind call page (does.Finish finish) = Result call page finish ∷ []
+call_effects world cookies kind call page (does.Ignored why) = Ignored why ∷ []
 
 -- the call moves, or stays
-abbrev pub moves : ℕ → Option Stage → List Effect
-moves call None = []
-moves call (Some stage) = Move call stage ∷ []
+abbrev pub moves : CallKind → ℕ → Option Stage → List Effect
+moves kind call None = []
+moves kind call (Some stage) = Move kind call stage ∷ []
 
 -- an outcome of a call of the page
-abbrev pub outcome_effects : World → (Ask → List ℕ) → ℕ → ℕ → Outcome → List Effect
-outcome_effects world cookies call page outcome = flat_map (call_effects world cookies call page) outcome.effects ++ moves call outcome.stage
+abbrev pub outcome_effects : World → (Ask → List ℕ) → CallKind → ℕ → ℕ → Outcome → List Effect
+outcome_effects world cookies kind call page outcome =
+    flat_map (call_effects world cookies kind call page) outcome.effects ++ moves kind call outcome.stage
 
--- ---- a get
+-- ---- a call that begins
 
--- some pending call is of the page
+-- some pending get is of the page
 abbrev pub is_busy : ℕ → List (ℕ × ℕ) → Bool
-is_busy page calls = list_any (λ call. call.1 == page) calls
+is_busy page gets = list_any (λ get. get.1 == page) gets
 
--- the outcome of a get of a page of this origin that is taken: a page has at most one that is pending (row C1)
-abbrev pub get_outcome : World → Bool → Origin → GetOptions → Outcome
-get_outcome world true origin options = fails (plain CallPending)
-get_outcome world false origin options = start_row world origin options
+-- a call of a page that stands, by whether the page is trustworthy
+abbrev pub standing_call : World → (Ask → List ℕ) → Bool → Bool → Begun → List Effect
+standing_call world cookies false busy b = Ignored PageInsecure ∷ []
+standing_call world cookies true busy b =
+    Begin b ∷ outcome_effects world cookies (kind_asked b.options) b.call b.page (first_row world busy b.origin b.options)
 
--- a get of a page that stands, by whether the page is trustworthy
-abbrev pub standing_get : World → (Ask → List ℕ) → Bool → Bool → Begun → List Effect
-standing_get world cookies false busy b = Ignored PageInsecure ∷ []
-standing_get world cookies true busy b = Begin b ∷ outcome_effects world cookies b.call b.page (get_outcome world busy b.origin b.options)
-
--- a get, by the origin of its page, if it stands, and by whether that page has a pending one
-abbrev pub get_effects : World → (Ask → List ℕ) → Option Origin → Bool → ℕ → ℕ → GetOptions → List Effect
-get_effects world cookies None busy page call options = Ignored NoPage ∷ []
-get_effects world cookies (Some origin) busy page call options =
-    standing_get world cookies (is_trustworthy origin) busy (record { call = call; page = page; origin = origin; options = options })
+-- a call with these options, by the origin of its page, if it stands, and by whether that page has a pending get
+abbrev pub begin_effects : World → (Ask → List ℕ) → Option Origin → Bool → ℕ → ℕ → CallOptions → List Effect
+begin_effects world cookies None busy page call options = Ignored NoPage ∷ []
+begin_effects world cookies (Some origin) busy page call options =
+    standing_call world cookies (is_trustworthy origin) busy (record { call = call; page = page; origin = origin; options = options })
 
 -- ---- an event that names a call
 
--- the page of a call that began
-abbrev pub page_of : Option Facts → ℕ
-page_of None = 0
-page_of (Some facts) = facts.page
-
 -- an input of a call, by whether it was taken and by what is known of it where it is not over
-abbrev pub input_effects : World → (Ask → List ℕ) → Bool → ℕ → Option Facts → Input → List Effect
-input_effects world cookies false call facts input = Ignored NoCall ∷ []
-input_effects world cookies true call facts input = outcome_effects world cookies call (page_of facts) (call_row world facts input)
+abbrev pub input_effects : World → (Ask → List ℕ) → Bool → ℕ → Option Known → Input → List Effect
+input_effects world cookies false call known input = Ignored NoCall ∷ []
+input_effects world cookies true call None input = Ignored CallEnded ∷ []
+input_effects world cookies true call (Some known) input =
+    outcome_effects world cookies (kind_of known) call (page_of known) (input_row world known input)
 
 -- an event by the call that it names and the input that it brings, if it brings one
 abbrev pub brought_effects : Trace → Option (ℕ × Input) → List Effect
 brought_effects T None = []
 brought_effects T (Some brought) =
-    input_effects (world_at T) (cookies_with T) (is_begun T brought.0) brought.0 (facts_at T brought.0) brought.1
+    input_effects (world_at T) (cookies_with T) (is_begun T brought.0) brought.0 (known_at T brought.0) brought.1
 
 -- ---- loads
 
 -- the calls end without a result, in their order (row C35)
-abbrev pub ends_of : List ℕ → List Effect
-ends_of calls = map (λ call. Move call Ended) calls
+abbrev pub ends_of : List (ℕ × CallKind) → List Effect
+ends_of calls = map (λ call. Move call.1 call.0 Ended) calls
 
 -- the cookie that a Set-Cookie value from this URL writes at this time, unless it is ignored
 abbrev pub cookie_from : RuleSet → Parts → ℕ → List ℕ → Option StoredCookie
@@ -163,14 +154,14 @@ abbrev pub login_effects : Origin → List LoginStatus → List Effect
 login_effects origin statuses = map (Login origin) statuses
 
 -- a load: the page's pending calls end, then the page stands with its URL's origin, then cookies are written and statuses set
-abbrev pub load_effects : List ℕ → ℕ → Parts → List StoredCookie → List LoginStatus → List Effect
+abbrev pub load_effects : List (ℕ × CallKind) → ℕ → Parts → List StoredCookie → List LoginStatus → List Effect
 load_effects calls page url cookies statuses =
     ends_of calls ++ (Page page (origin_of url) ∷ (cookie_effects cookies ++ login_effects (origin_of url) statuses))
 
 -- ---- other events
 
 -- a page is closed: its pending calls end, and it no longer stands
-abbrev pub close_effects : List ℕ → ℕ → Option Origin → List Effect
+abbrev pub close_effects : List (ℕ × CallKind) → ℕ → Option Origin → List Effect
 close_effects calls page None = Ignored NoPage ∷ []
 close_effects calls page (Some origin) = ends_of calls ++ Closed page ∷ []
 
@@ -199,7 +190,8 @@ effects_of T (At time) = Time time ∷ []
 effects_of T (Load page url raw) =
     load_effects (pending_of T page) page url (cookies_from T.header.rules url (now_at T) (set_cookies raw)) (set_logins raw)
 effects_of T (ClosePage page) = close_effects (pending_of T page) page (page_at T page)
-effects_of T (Get page call options) = get_effects (world_at T) (cookies_with T) (page_at T page) (is_busy page (pending T)) page call options
+effects_of T (Get page call options) =
+    begin_effects (world_at T) (cookies_with T) (page_at T page) (is_busy page (gets T)) page call (ToGet options)
 effects_of T (SetStatus page status) = status_effects (page_at T page) status
 effects_of T event = brought_effects T (input_of event)
 

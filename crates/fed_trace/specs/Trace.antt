@@ -14,7 +14,9 @@ use Rattle.fed_script.specs.declared.event.Header.{Header}
 use Rattle.fed_trace.specs.Keyed.{Change, entries_after, last_said}
 use Rattle.fed_jar.specs.Cookie.{StoredCookie}
 use Rattle.fed_jar.specs.Writes as jar
-use Rattle.fed_trace.specs.Effect.{Effect, last_of, page_change, login_change, kept_change, flag_change, call_change, stage_change, time_of, written_by, begun_by}
+use Rattle.fed_trace.specs.Begun.{CallKind}
+use Rattle.fed_trace.specs.Effect.{Effect, PendingCall, last_of, page_change, login_change, kept_change, flag_change, call_change}
+use Rattle.fed_trace.specs.Effect.{get_change, stage_change, time_of, written_by, begun_by}
 
 pub record Row : Type 0 where
   pub line : ℕ
@@ -67,16 +69,24 @@ kept T = keys_of (standing same_triple kept_change T.rows)
 abbrev pub flags : Trace → List Origin
 flags T = keys_of (standing same_origin flag_change T.rows)
 
--- the pending calls and their pages, in order of beginning
-abbrev pub pending : Trace → List (ℕ × ℕ)
+-- the pending calls, in order of beginning
+abbrev pub pending : Trace → List (ℕ × PendingCall)
 pending T = standing nat_eq call_change T.rows
 
--- the calls of a page among calls and their pages, in their order
-abbrev pub calls_of : ℕ → List (ℕ × ℕ) → List ℕ
-calls_of page calls = map (λ call. call.0) (filter (λ call. call.1 == page) calls)
+-- the pending gets and their pages, in order of beginning
+abbrev pub gets : Trace → List (ℕ × ℕ)
+gets T = standing nat_eq get_change T.rows
 
--- the pending calls of a page, in order of beginning
-abbrev pub pending_of : Trace → ℕ → List ℕ
+-- a pending call by its number and its kind
+abbrev pub by_kind : ℕ × PendingCall → ℕ × CallKind
+by_kind call = (call.0, call.1.kind)
+
+-- the calls of a page among pending calls, with their kinds, in their order
+abbrev pub calls_of : ℕ → List (ℕ × PendingCall) → List (ℕ × CallKind)
+calls_of page calls = map by_kind (filter (λ call. call.1.page == page) calls)
+
+-- the pending calls of a page with their kinds, in order of beginning
+abbrev pub pending_of : Trace → ℕ → List (ℕ × CallKind)
 pending_of T page = calls_of page (pending T)
 
 -- the stage of a call, where it began
@@ -84,8 +94,8 @@ abbrev pub stage_at : Trace → ℕ → Option Stage
 stage_at T call = last_value nat_eq stage_change call T.rows
 
 -- a call with its page and its stage
-abbrev pub staged_by : (ℕ → Option Stage) → ℕ × ℕ → ℕ × ℕ × Option Stage
-staged_by stage call = (call.0, call.1, stage call.0)
+abbrev pub staged_by : (ℕ → Option Stage) → ℕ × PendingCall → ℕ × ℕ × Option Stage
+staged_by stage call = (call.0, call.1.page, stage call.0)
 
 -- the pending calls with their pages and stages, in order of beginning
 abbrev pub staged : Trace → List (ℕ × ℕ × Option Stage)

@@ -32,7 +32,7 @@ pub record JarTwin (a b : Script) : Type 0 where
 -- an effect without the cookies that it writes or sends
 abbrev pub but_cookies : Effect → Option Effect
 but_cookies (Cookie cookie) = None
-but_cookies (Sent call provider ask cookies) = Some (Sent call provider ask [])
+but_cookies (Sent kind call provider ask cookies) = Some (Sent kind call provider ask [])
 but_cookies effect = Some effect
 
 -- a row's line and effects without cookies

@@ -1,22 +1,27 @@
 -- The look-backs that a sign-in request hangs on, of two traces of which providers can tell the same.
-use Rattle.std.specs.Prelude.{◌≡◌, ℕ, true, option_map}
+use Rattle.std.specs.Prelude.{◌≡◌, ℕ, true, List, option_map}
 use Rattle.url.specs.Parts.{Parts}
 use Rattle.fed_origin.specs.declared.origin.Origin.{Origin}
 use Rattle.fed_origin.specs.WebUrl.{host_of}
 use Rattle.fed_jar.specs.Writes as jar
 use Rattle.fed_status.specs.Login.{status_of}
-use Rattle.fed_trace.specs.Known.{is_begun}
-use Rattle.fed_trace.specs.Trace.{Trace, now_at, page_at, pending, writes, logins}
+use Rattle.fed_trace.specs.Effect.{get_begun}
+use Rattle.fed_trace.specs.Trace.{Row, Trace, all_said, now_at, page_at, gets, writes, logins}
 use Rattle.fed_twin.specs.Providers.{Providers, is_provider}
 use Rattle.fed_twin.specs.Script.{first_requests}
 use Rattle.fed_twin.specs.Seen.{told, view}
+
+-- the numbers of the gets that were taken, in order of beginning
+abbrev pub gets_begun : List Row → List ℕ
+gets_begun rows = all_said get_begun rows
 
 pub record SameLooks (p : Providers) (T U : Trace) : Type 0 where
   pub now : now_at T ≡ now_at U
   -- of the origins of pages only what is told
   pub pages : (page : ℕ) → option_map (told p) (page_at T page) ≡ option_map (told p) (page_at U page)
-  pub pending : pending T ≡ pending U
-  pub begun : (call : ℕ) → is_begun T call ≡ is_begun U call
+  -- of gets alone
+  pub gets : gets T ≡ gets U
+  pub begun : gets_begun T.rows ≡ gets_begun U.rows
   -- the Cookie field of a request to a provider, at any time
   pub cookies : (to : Parts) (now : ℕ) → is_provider p (host_of to) ≡ true
       → jar.cookie_text p.rules to now (writes T) ≡ jar.cookie_text p.rules to now (writes U)

@@ -63,8 +63,8 @@ pub record SameFacts (p : Providers) (f f' : Facts) : Type 0 where
   pub past : (f.stage ≡ stages.Reading) ⊎ (is_some f.config ≡ true)
   pub said : SameData p f f'
 
--- The call is the same in both worlds: it is over or never began in both, or goes on in the same way. Events without a call use three facts of
--- it alone: the stages are equal; it holds again where what is known is what it was; and where nothing is known in either world.
+-- The call is the same in both worlds: it is over or never began in both, or goes on in the same way. Events without a call use three facts
+-- of it alone: the stages are equal; it holds again where what is known is what it was; and where nothing is known in either world.
 abbrev pub SameCall : Providers → Option Facts → Option Facts → Type 0
 SameCall p f f' = IfBoth (SameFacts p) f f'
 

@@ -9,6 +9,7 @@ use Rattle.fed_script.specs.declared.event.Event.{Event}
 use Rattle.fed_script.specs.declared.event.Event.TheVariants.{Reply}
 use Rattle.fed_script.specs.declared.event.Numbered.{Numbered}
 use Rattle.fed_script.specs.Script.{Script}
+use Rattle.fed_trace.specs.Begun.{of_get}
 use Rattle.fed_trace.specs.Effect.{Effect, Sent}
 use Rattle.fed_trace.specs.OfScript.{start, with_events}
 use Rattle.fed_trace.specs.Trace.{Row, Trace, all_said}
@@ -44,10 +45,10 @@ first_bytes (asks.Accounts to) cookies = Some (request_bytes (asks.Accounts to) 
 first_bytes _ cookies = None
 
 abbrev pub first_sent : Effect → Option (List ℕ)
-first_sent (Sent call provider ask cookies) = first_bytes ask cookies
+first_sent (Sent kind call provider ask cookies) = of_get kind (first_bytes ask cookies)
 first_sent _ = None
 
--- the bytes of the requests for well-known files, configurations and accounts, in their order
+-- the bytes of the requests of gets for well-known files, configurations and accounts, in their order
 abbrev pub first_requests : List Row → List (List ℕ)
 first_requests rows = all_said first_sent rows
 
@@ -58,7 +59,7 @@ is_naming (asks.Disconnect to client hint origin) = true
 is_naming _ = false
 
 abbrev pub names : Effect → Bool
-names (Sent call provider ask cookies) = is_naming ask
+names (Sent kind call provider ask cookies) = is_naming ask
 names _ = false
 
 -- the row sends such a request, for a token or a disconnect

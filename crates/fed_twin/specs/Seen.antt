@@ -8,6 +8,7 @@ use Rattle.fed_origin.specs.Origin.{is_trustworthy}
 use Rattle.fed_jar.specs.Cookie.{StoredCookie}
 use Rattle.fed_consent.specs.declared.table.ask.Ask.{Ask}
 use Rattle.fed_consent.specs.declared.table.ask.Ask.TheVariants as asks
+use Rattle.fed_trace.specs.Begun.{kind_asked, of_get}
 use Rattle.fed_trace.specs.Effect.{Effect}
 use Rattle.fed_trace.specs.Effect as does
 use Rattle.fed_trace.specs.Trace.{Row, all_said}
@@ -46,16 +47,16 @@ seen_sent call provider (asks.Config to) cookies = Some (Sent call provider (ask
 seen_sent call provider (asks.Accounts to) cookies = Some (Sent call provider (asks.Accounts to) cookies)
 seen_sent call provider _ cookies = None
 
--- what providers can tell of an effect
+-- what providers can tell of an effect; of disconnect calls nothing is said
 abbrev pub seen : Providers → Effect → Option Seen
 seen p (does.Time time) = Some (Time time)
 seen p (does.Page page origin) = Some (Page page (is_trustworthy origin) (told_origin p origin))
 seen p (does.Closed page) = Some (Closed page)
 seen p (does.Cookie cookie) = if is_provider p cookie.domain then Some (Cookie cookie) else None
 seen p (does.Login origin status) = if is_provider p origin.host then Some (Login origin status) else None
-seen p (does.Begin begun) = Some (Begin begun.call begun.page)
-seen p (does.Move call stage) = seen_move call stage
-seen p (does.Sent call provider ask cookies) = seen_sent call provider ask cookies
+seen p (does.Begin begun) = of_get (kind_asked begun.options) (Some (Begin begun.call begun.page))
+seen p (does.Move kind call stage) = of_get kind (seen_move call stage)
+seen p (does.Sent kind call provider ask cookies) = of_get kind (seen_sent call provider ask cookies)
 seen p (does.Shown call dialog) = None
 seen p (does.Window call provider url) = None
 seen p (does.Kept triple stays) = None

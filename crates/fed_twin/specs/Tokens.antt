@@ -8,6 +8,7 @@ use Rattle.fed_consent.specs.declared.table.finish.Finish.TheVariants.{Token}
 use Rattle.fed_script.specs.declared.event.Event.TheVariants.{Reply}
 use Rattle.fed_script.specs.declared.event.Numbered.{Numbered}
 use Rattle.fed_script.specs.Script.{Script}
+use Rattle.fed_trace.specs.Begun.{GetCall}
 use Rattle.fed_trace.specs.Effect.{Effect, Move, Result}
 use Rattle.fed_trace.specs.Trace.{Row}
 use Rattle.fed_trace.specs.OfScript.{trace_of}
@@ -39,8 +40,8 @@ pub record TokenTwin (a b : Script) (call : ℕ) : Type 0 where
 pub data ButToken (call : ℕ) : List Effect → List Effect → Type 0 where
   Equal : (effects : List Effect) → ButToken call effects effects
   Tokens : (page provider : ℕ) → (auto : Bool) → (token token' : List ℕ)
-      → ButToken call (Result call page (Token auto provider token) ∷ Move call Ended ∷ [])
-      (Result call page (Token auto provider token') ∷ Move call Ended ∷ [])
+      → ButToken call (Result call page (Token auto provider token) ∷ Move GetCall call Ended ∷ [])
+      (Result call page (Token auto provider token') ∷ Move GetCall call Ended ∷ [])
 
 -- the rows of two traces are the same, but for one, which differs in a token
 pub record OneRowDiffers (call : ℕ) (rows rows' : List Row) : Type 0 where

@@ -45,8 +45,8 @@ pub fn twins_of_themselves()
     ensures before { (s : Script) (k : ℕ) → Quiet s (suc k) → Quiet s k }
 {}
 
-/// Where providers can tell the same of what happened, these look-backs are the same, on which a sign-in request hangs: the time, pending calls and
-/// calls that began, what is told of pages, the cookies and the statuses of providers, and the requests that were sent.
+/// Where providers can tell the same of what happened, these look-backs are the same, on which a sign-in request hangs: the time, pending
+/// gets and gets that began, what is told of pages, the cookies and the statuses of providers, and the requests that were sent.
 pub fn looks_are_seen()
     ensures { LooksAreSeen }
 {}

@@ -51,7 +51,8 @@ pub record RunAlike (first second : List ℕ) (pair : Pair) (quiet : ℕ) : Type
   pub begins' : Begins (run_text second) (records_to pair.second quiet)
   pub alike : sign_in_requests (records_to pair.first quiet) ≡ sign_in_requests (records_to pair.second quiet)
 
--- Of every input whose two halves are twins: the transcripts of the halves have the same sign-in requests, up to the event that `twin` names.
+-- Of every input whose two halves are twins: the transcripts of the halves have the same sign-in requests, up to the event that `twin`
+-- names.
 abbrev pub HalvesRunAlike : Type 0
 HalvesRunAlike =
     (bytes first second : List ℕ) (pair : Pair) (quiet : ℕ)

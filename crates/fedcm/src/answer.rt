@@ -15,7 +15,8 @@ use std::sync::ledger::Ledger;
 // What `run` comes to. Bytes of which there are more than the limit are too many.
 fn answer_run<L: Ledger>(alloc: Global, bytes: &[u8], steps: &mut Steps<L>) -> Result<Ran, NoRoom>
     requires { length bytes.now ≤ LIMIT + 1 }
-    ensures { IfOk result (λ ran. (more : List ℕ) → IsWhole LIMIT bytes.now more → EndsRun LIMIT (bytes.now ++ more) ran.status ran.text.items) }
+    ensures { IfOk result (λ ran. (more : List ℕ) → IsWhole LIMIT bytes.now more
+        → EndsRun LIMIT (bytes.now ++ more) ran.status ran.text.items) }
 {
     if bytes.len() > LIMIT {
         return Ok(Ran {
@@ -29,7 +30,8 @@ fn answer_run<L: Ledger>(alloc: Global, bytes: &[u8], steps: &mut Steps<L>) -> R
 // What `twin` comes to. Of more bytes than the limit only those within it are looked at.
 fn answer_twin(alloc: Global, bytes: &[u8]) -> Result<Ran, NoRoom>
     requires { length bytes.now ≤ LIMIT + 1 }
-    ensures { IfOk result (λ ran. (more : List ℕ) → IsWhole LIMIT bytes.now more → EndsTwin LIMIT (bytes.now ++ more) ran.status ran.text.items) }
+    ensures { IfOk result (λ ran. (more : List ℕ) → IsWhole LIMIT bytes.now more
+        → EndsTwin LIMIT (bytes.now ++ more) ran.status ran.text.items) }
 {
     if bytes.len() > LIMIT {
         return twin_of_front(alloc, &bytes[..LIMIT]);
@@ -45,7 +47,8 @@ pub fn answer<L: Ledger>(
     steps: &mut Steps<L>,
 ) -> Result<Ran, NoRoom>
     requires { length bytes.now ≤ LIMIT + 1 }
-    ensures { IfOk result (λ ran. (more : List ℕ) → IsWhole LIMIT bytes.now more → Ends LIMIT form (bytes.now ++ more) ran.status ran.text.items) }
+    ensures { IfOk result (λ ran. (more : List ℕ) → IsWhole LIMIT bytes.now more
+        → Ends LIMIT form (bytes.now ++ more) ran.status ran.text.items) }
 {
     match form {
         Form::Run => answer_run(alloc, bytes, steps),

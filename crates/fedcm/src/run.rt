@@ -8,7 +8,8 @@ ghost use Rattle.fed_session.specs.Session.{Stands, IsFresh};
 ghost use Rattle.fed_trace.specs.Trace.{Trace};
 ghost use Rattle.fed_print.specs.Lines.{line_of};
 ghost use Rattle.fedcm.specs.Text.{bad_members};
-ghost use Rattle.fedcm.specs.Run.{run_text, rows_text, outcome, last_written, IsAt, GoesAs, Follows, after_line, used_after_line, line_cause, script_status};
+ghost use Rattle.fedcm.specs.Run.{run_text, rows_text, outcome, last_written, IsAt, GoesAs, Follows, after_line, used_after_line};
+ghost use Rattle.fedcm.specs.Run.{line_cause, script_status};
 
 use crate::print::{print_all, print_bad, print_end};
 use crate::ran::Ran;
@@ -148,7 +149,8 @@ fn run_events<L: Ledger>(
     steps: &mut Steps<L>,
 ) -> Result<Ran, NoRoom>
     requires { length lines.now < 2 ^ 31 }
-    ensures { IfOk result (λ ran. record { text = ran.text.items; status = ran.status } ≡ outcome (start header) (events_of (unused header.now) 2 (lines_of lines.now))) }
+    ensures { IfOk result (λ ran. record { text = ran.text.items; status = ran.status }
+        ≡ outcome (start header) (events_of (unused header.now) 2 (lines_of lines.now))) }
 {
     let mut used = Used::new(alloc, header.now);
     let mut session = Session::new(alloc, header)?;

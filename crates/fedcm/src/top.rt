@@ -58,15 +58,17 @@ pub fn fedcm<S: Source, K: Sink, L: Ledger>(
         × IfSome (S.left source.old) (λ bytes. Writes LIMIT (form words.now) bytes Status.NotTwins (K.taken sink.old) (K.taken sink.new)) }
 
     // A line is bad, or is missing where two scripts are read; bytes within the limit were read to their end.
-    ensures bad_script { result ≡ Status.BadScript → IfSome (S.left source.old) (λ bytes. (length bytes ≤ LIMIT → IsAtEnd (S.left source.new))
-        × Writes LIMIT (form words.now) bytes Status.BadScript (K.taken sink.old) (K.taken sink.new)) }
+    ensures bad_script { result ≡ Status.BadScript → IfSome (S.left source.old)
+        (λ bytes. (length bytes ≤ LIMIT → IsAtEnd (S.left source.new)) × Writes LIMIT (form words.now) bytes Status.BadScript
+        (K.taken sink.old) (K.taken sink.new)) }
 
     // The byte after the limit was read. Nothing is written.
     ensures too_long { result ≡ Status.TooLong → IfSome (S.left source.old) (λ bytes. EndsAs LIMIT (form words.now) bytes Status.TooLong)
         × Keeps (K.taken sink.old) (K.taken sink.new) }
 
     // Only where the source's count of faults rose. Nothing is written.
-    ensures read_fault { result ≡ Status.ReadFault → Rose (S.faults source.old) (S.faults source.new) × Keeps (K.taken sink.old) (K.taken sink.new) }
+    ensures read_fault { result ≡ Status.ReadFault
+        → Rose (S.faults source.old) (S.faults source.new) × Keeps (K.taken sink.old) (K.taken sink.new) }
 
     // Only where the sink's count rose. It took a front of the text.
     ensures write_fault { result ≡ Status.WriteFault → Rose (K.faults sink.old) (K.faults sink.new)
@@ -76,7 +78,8 @@ pub fn fedcm<S: Source, K: Sink, L: Ledger>(
     ensures no_room { result ≡ Status.NoRoom → Keeps (K.taken sink.old) (K.taken sink.new) }
 
     // Where no count rose the bytes say how it ends, unless memory runs out.
-    ensures complete { IsSome (form words.now) → NoneRose (S.faults source.old) (S.faults source.new) → NoneRose (K.faults sink.old) (K.faults sink.new)
+    ensures complete { IsSome (form words.now) → NoneRose (S.faults source.old) (S.faults source.new)
+        → NoneRose (K.faults sink.old) (K.faults sink.new)
         → IfSome (S.left source.old) (λ bytes. EndsAs LIMIT (form words.now) bytes result ⊎ (result ≡ Status.NoRoom)) }
 
     ensures takes { TakesAtMost (S.left source.old) (S.left source.new) (LIMIT + 1) }

@@ -77,7 +77,8 @@ pub fn twin(alloc: Global, bytes: &[u8]) -> Result<Ran, NoRoom>
 /// The same where these are the first bytes of more: a bad line that ends within them is told, or else that they are too many.
 pub fn twin_of_front(alloc: Global, bytes: &[u8]) -> Result<Ran, NoRoom>
     requires { length bytes.now < 2 ^ 31 }
-    ensures { IfOk result (λ ran. (more : List ℕ) → 0 < length more → TellsCut (bad_within (length bytes.now) (bytes.now ++ more)) ran.status ran.text.items) }
+    ensures { IfOk result (λ ran. (more : List ℕ) → 0 < length more
+        → TellsCut (bad_within (length bytes.now) (bytes.now ++ more)) ran.status ran.text.items) }
 {
     match bad_line_in(alloc, bytes)? {
         Some(stop) => stopped(alloc, stop),

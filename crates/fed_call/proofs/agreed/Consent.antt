@@ -2,11 +2,13 @@
 use Rattle.std.proofs.Common.{◌≡◌, Bool, true, false, Result, Ok, Err, refl, rules, if◌then◌else◌}
 use Rattle.fed_consent.specs.Consent.{Agreement, Pick, Question, by_choice, by_prompt}
 
-by_test : {T : Type 0} (test : Bool) (agreed : Agreement) (kept back : T) → (if test then Ok agreed else Err kept) ≡ Err back → (back ≡ kept) × (test ≡ false)
+by_test : {T : Type 0} (test : Bool) (agreed : Agreement) (kept back : T) → (if test then Ok agreed else Err kept) ≡ Err back
+    → (back ≡ kept) × (test ≡ false)
 by_test true agreed kept back e = absurd (grind rules)
 by_test false agreed kept back e = (grind rules, refl)
 
-by_wait : {T : Type 0} (test : Bool) (agreed : Agreement) (kept back : T) → (if test then Err kept else Ok agreed) ≡ Err back → (back ≡ kept) × (test ≡ true)
+by_wait : {T : Type 0} (test : Bool) (agreed : Agreement) (kept back : T) → (if test then Err kept else Ok agreed) ≡ Err back
+    → (back ≡ kept) × (test ≡ true)
 by_wait true agreed kept back e = (grind rules, refl)
 by_wait false agreed kept back e = absurd (grind rules)
 

@@ -35,7 +35,8 @@ pub reply_row : (world : World) (begun : Begun) (replies : FirstReplies) (place 
     ≡ by_heard place (reply_heard world.rules replies begun.provider.config kind raw)
 reply_row world begun replies place kinds.WellKnown raw e =
     rw e (wellknown_row place replies.wellknown replies.config (wellknown_read world.rules begun.provider.config raw))
-reply_row world begun replies place kinds.Config raw e = rw e (config_row place replies.wellknown replies.config (ConfigOf raw begun.provider.config))
+reply_row world begun replies place kinds.Config raw e =
+    rw e (config_row place replies.wellknown replies.config (ConfigOf raw begun.provider.config))
 reply_row world begun replies place kinds.Accounts raw e = refl
 reply_row world begun replies place kinds.Metadata raw e = refl
 reply_row world begun replies place kinds.Assertion raw e = refl
@@ -43,8 +44,10 @@ reply_row world begun replies place kinds.Disconnect raw e = refl
 
 -- ---- what is known of it then
 
-wellknown_facts : (world : World) (begun : Begun) (heard : Bool) (config : Option Config) (place : ℕ) (raw : List ℕ) (read : Result (Unit {0}) ProviderStep)
-    → facts_after world (reading_facts (record { begun = begun; replies = record { wellknown = heard; config = config } })) (Reply place kinds.WellKnown raw)
+wellknown_facts : (world : World) (begun : Begun) (heard : Bool) (config : Option Config) (place : ℕ) (raw : List ℕ)
+    (read : Result (Unit {0}) ProviderStep)
+    → facts_after world (reading_facts (record { begun = begun; replies = record { wellknown = heard; config = config } }))
+    (Reply place kinds.WellKnown raw)
     (by_heard place (wellknown_heard heard config read))
     ≡ facts_heard begun (wellknown_heard heard config read)
 wellknown_facts world begun true config place raw read = refl
@@ -53,9 +56,11 @@ wellknown_facts world begun false (Some config) place raw (Ok good) = refl
 wellknown_facts world begun false None place raw (Err step) = refl
 wellknown_facts world begun false (Some config) place raw (Err step) = refl
 
-config_facts : (world : World) (begun : Begun) (heard : Bool) (config : Option Config) (place : ℕ) (raw : List ℕ) (read : Result Config ProviderStep)
+config_facts : (world : World) (begun : Begun) (heard : Bool) (config : Option Config) (place : ℕ) (raw : List ℕ)
+    (read : Result Config ProviderStep)
     → config_read raw (provider_at place (options_of begun)) ≡ Some read
-    → facts_after world (reading_facts (record { begun = begun; replies = record { wellknown = heard; config = config } })) (Reply place kinds.Config raw)
+    → facts_after world (reading_facts (record { begun = begun; replies = record { wellknown = heard; config = config } }))
+    (Reply place kinds.Config raw)
     (by_heard place (config_heard heard config read))
     ≡ facts_heard begun (config_heard heard config read)
 config_facts world begun heard (Some config) place raw read e = refl

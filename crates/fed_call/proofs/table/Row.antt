@@ -12,7 +12,8 @@ use Rattle.fed_consent.specs.declared.consent.manner.Manner.TheVariants.{Chosen}
 use Rattle.fed_consent.specs.Consent.{Agreement, Candidate, chosen}
 use Rattle.fed_status.specs.Shared.{World}
 use Rattle.fed_call.specs.Accounts.{candidate_of}
-use Rattle.fed_call.specs.Facts.{Facts, is_ignored, metadata_endpoint, with_choice, with_input}
+use Rattle.fed_call.specs.Facts.{Facts, metadata_endpoint, with_choice, with_input}
+use Rattle.fed_consent.specs.Outcomes.{is_ignored}
 use Rattle.fed_call.specs.AssertingRows.{asserts}
 use Rattle.fed_call.specs.DialogRows.{agreed_to, settles, choice}
 use Rattle.fed_call.specs.ListingRows.{by_mismatch, prompt_effect, offers, by_accounts}
@@ -22,7 +23,8 @@ mismatch_taken : (place : ℕ) (site : List ℕ) (failure : Failure) (mismatch :
 mismatch_taken place site failure true = refl
 mismatch_taken place site failure false = refl
 
-pub prompt_taken : (world : World) (facts : Facts) (place : ℕ) (provider : ProviderOptions) (candidate : Candidate) (connected : Bool) (endpoint : Option Parts)
+pub prompt_taken : (world : World) (facts : Facts) (place : ℕ) (provider : ProviderOptions) (candidate : Candidate) (connected : Bool)
+    (endpoint : Option Parts)
     → is_ignored (prompt_effect world facts place provider candidate connected endpoint) ≡ false
 prompt_taken world facts place provider candidate true endpoint = refl
 prompt_taken world facts place provider candidate false None = refl
@@ -57,7 +59,8 @@ settles_taken world facts place provider candidate false =
 -- what a choice leaves known of a call: the account, if it is offered
 pub choice_with : (world : World) (facts : Facts) (place : ℕ) (provider : ProviderOptions) (id : List ℕ) (found : Option Candidate)
     → option_and_then (chosen id) facts.listed ≡ found
-    → with_input world (list_any is_ignored (choice world facts place (Some provider) found).effects) (Choose place id) facts ≡ with_choice found facts
+    → with_input world (list_any is_ignored (choice world facts place (Some provider) found).effects) (Choose place id) facts
+    ≡ with_choice found facts
 choice_with world facts place provider id None e = refl
 choice_with world facts place provider id (Some candidate) e =
     rw (settles_taken world facts place provider candidate candidate.connected) (rw e refl)

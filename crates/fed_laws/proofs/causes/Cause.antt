@@ -1,11 +1,13 @@
 -- A request for a token has its cause.
-use Rattle.std.proofs.Common.{◌≡◌, ℕ, suc, Bool, true, false, nat_eq, ◌+◌, ◌||◌, ◌&&◌, ◌≤◌, ◌⊎◌, inl, inr, List, [], ◌∷◌, ◌++◌, length, Option, Some, None, refl, sym, ap, subst, ◌∙◌, arith, cond}
+use Rattle.std.proofs.Common.{◌≡◌, ℕ, suc, Bool, true, false, nat_eq, ◌+◌, ◌||◌, ◌&&◌, ◌≤◌, ◌⊎◌, inl, inr, List, [], ◌∷◌, ◌++◌, length}
+use Rattle.std.proofs.Common.{Option, Some, None, refl, sym, ap, subst, ◌∙◌, arith, cond}
 use Rattle.std.proofs.lemmas.Slice.Eq.{bytes_eq-Decides}
 use Rattle.std.specs.Prelude.{bytes_eq, nat_lt, not, option_and_then, option_map, slice_get, is_some}
 use Rattle.std.specs.Option.{option_or}
 use Rattle.std.specs.List.{list_any, position_or_len}
 use Rattle.fed_origin.specs.declared.options.ProviderOptions.{ProviderOptions}
 use Rattle.fed_origin.specs.declared.origin.Origin.{Origin}
+use Rattle.fed_origin.specs.declared.stage.Stage.{Stage}
 use Rattle.fed_origin.specs.declared.stage.Stage.TheVariants.{Reading, Choosing, Prompting, Ended}
 use Rattle.fed_provider.specs.declared.config.Config.{Config}
 use Rattle.fed_accounts.specs.declared.account.Account.{Account}
@@ -13,21 +15,24 @@ use Rattle.fed_status.specs.Shared.{World}
 use Rattle.fed_consent.specs.declared.table.input.Input.TheVariants as inputs
 use Rattle.fed_consent.specs.Consent.{Candidate, Listed, candidate_at, chosen, has_id}
 use Rattle.fed_call.specs.Accounts.{candidate_of, listed_of}
-use Rattle.fed_call.specs.Facts.{Facts}
+use Rattle.fed_call.specs.Facts.{Facts, fresh}
 use Rattle.fed_consent.specs.Outcomes.{Outcome}
 use Rattle.fed_script.specs.declared.event.Event.{Event}
 use Rattle.fed_script.specs.declared.event.Event.TheVariants as events
 use Rattle.fed_script.specs.declared.event.Event.TheVariants.{Choose, Reply}
 use Rattle.fed_script.specs.declared.event.Header.{Header}
-use Rattle.fed_trace.specs.Begun.{Begun}
+use Rattle.fed_origin.specs.declared.options.GetOptions.{GetOptions}
+use Rattle.fed_trace.specs.Begun.{CallOptions, ToGet, ToDisconnect}
+use Rattle.fed_trace.specs.Call.{get_facts, at_stage, first_row}
+use Rattle.fed_trace.specs.Call as first
 use Rattle.fed_laws.specs.Cause.{Accepted, FirstChoice, IsReady, chooses, config_at, config_given, config_in, config_taken, is_metadata}
 use Rattle.fed_trace.specs.OfCall.{call_at, disturbs}
 use Rattle.fed_trace.specs.Effect.{begins, is_ignored, last_of}
-use Rattle.fed_trace.specs.Known.{world_at, input_to, is_begun, known_first, facts_at}
-use Rattle.fed_trace.specs.Row.{effects_of, row_of, with_event, get_outcome, IsNew, IsRun}
+use Rattle.fed_trace.specs.Known.{world_at, input_to, is_begun, facts_at}
+use Rattle.fed_trace.specs.Row.{effects_of, row_of, with_event, IsNew, IsRun}
 use Rattle.fed_trace.specs.Trace.{Row, Trace, begun}
 use Rattle.fed_laws.proofs.pending.Asked.{row_is}
-use Rattle.fed_trace.proofs.happens.First.{FirstTurn, FailsFirst, ReadsFirst, first_turn, facts_begun}
+use Rattle.fed_trace.proofs.happens.First.{FirstTurn, FailsFirst, ReadsFirst, first_turn, is_first, is_beginning, known_begun}
 use Rattle.fed_laws.proofs.pending.Begun.{or_true}
 use Rattle.fed_laws.proofs.pending.Stood.{Stood, calm, left_page, no_facts, unbegun_before}
 use Rattle.fed_trace.proofs.happens.Ends.{Happens, Left, Ends, Started, Took, Leaves, Starts}
@@ -46,7 +51,8 @@ passed_at p (y ∷ ys) x h = go (p y) refl (passed_at p ys x) h
         let same : y ≡ x = cc in
         ap p (sym same) ∙ is
     go false is rest h =
-        let there : slice_get (y ∷ ys) (1 + position_or_len p ys) ≡ Some x = sym (ap (λ t. slice_get (y ∷ ys) (cond (not t) (1 + position_or_len p ys) 0)) is) ∙ h in
+        let there : slice_get (y ∷ ys) (1 + position_or_len p ys) ≡ Some x =
+        sym (ap (λ t. slice_get (y ∷ ys) (cond (not t) (1 + position_or_len p ys) 0)) is) ∙ h in
         let next : 1 + position_or_len p ys ≡ suc (position_or_len p ys) = omega arith in
         rest (subst (λ i. slice_get (y ∷ ys) i ≡ Some x) next there)
 
@@ -57,14 +63,16 @@ chosen_id id listed candidate h = found (nat_lt place (length listed.accounts)) 
     place : ℕ
     place = position_or_len (has_id id) listed.accounts
 
-    with_flag : (account : Account) (o : Option Bool) → option_map (λ connected. let c : Candidate = record { account = account; connected = connected } in c) o ≡ Some candidate
+    with_flag : (account : Account) (o : Option Bool)
+        → option_map (λ connected. let c : Candidate = record { account = account; connected = connected } in c) o ≡ Some candidate
         → account ≡ candidate.account
     with_flag account None h = absurd (cc)
     with_flag account (Some connected) h =
         let same : record { account = account; connected = connected } ≡ candidate = cc in ap (λ c. c.account) same
 
     at : (o : Option Account) → slice_get listed.accounts place ≡ o
-        → option_and_then (λ account. option_map (λ connected. let c : Candidate = record { account = account; connected = connected } in c) (slice_get listed.connected place)) o ≡ Some candidate
+        → option_and_then (λ account. option_map (λ connected. let c : Candidate = record { account = account; connected = connected } in
+        c) (slice_get listed.connected place)) o ≡ Some candidate
         → candidate.account.id ≡ id
     at None is h = absurd (cc)
     at (Some account) is h =
@@ -88,7 +96,8 @@ only_chosen world page provider only =
 
 -- how the account of a prompt came to be the one, and what it waits for
 pub data Path (waits : Bool) (config : Option Config) (call : ℕ) (candidate : Candidate) (listed : Listed) (since : List Row) : Type 0 where
-  Alone : listed.accounts ≡ candidate.account ∷ [] → (waits ≡ false → (candidate.connected ≡ true) ⊎ IsReady call 0 config since) → Path waits config call candidate listed since
+  Alone : listed.accounts ≡ candidate.account ∷ [] → (waits ≡ false → (candidate.connected ≡ true) ⊎ IsReady call 0 config since)
+      → Path waits config call candidate listed since
   AfterChoice : (choice : FirstChoice call 0 candidate.account.id listed since) → (waits ≡ false → IsReady call 0 config choice.after)
       → Path waits config call candidate listed since
 
@@ -117,7 +126,8 @@ pub record Caused (T : Trace) (call : ℕ) (f : Facts) : Type 0 where
 -- ---- one row more
 
 -- a row that says nothing of the call's beginning and does not disturb it
-unfoldable pub accepted_on : (T : Trace) (line : ℕ) (event : Event) (call : ℕ) (f : Facts) → Stood T call f → Accepted T call 0 → last_of (begins call) (effects_of T event) ≡ None
+unfoldable pub accepted_on : (T : Trace) (line : ℕ) (event : Event) (call : ℕ) (f : Facts) → Stood T call f → Accepted T call 0
+    → last_of (begins call) (effects_of T event) ≡ None
     → disturbs call f.page (row_of T line event) ≡ false → Accepted (with_event T line event) call 0
 accepted_on T line event call f s a begins_none calm =
     let same : Some a.begun ≡ Some s.begun = sym a.began ∙ s.began in
@@ -130,6 +140,8 @@ accepted_on T line event call f s a begins_none calm =
       rows = ap (λ rs. row_of T line event ∷ rs) a.rows;
       begun = a.begun;
       began = ap (λ o. option_or o (call_at T.rows call)) begins_none ∙ a.began;
+      get = a.get;
+      is_get = a.is_get;
       options = a.options;
       has_provider = a.has_provider;
       raw = a.raw;
@@ -137,15 +149,19 @@ accepted_on T line event call f s a begins_none calm =
       logged_in = a.logged_in;
       listed = a.listed;
       offers = a.offers;
-      stands = ap (λ b. b || list_any (disturbs call a.begun.page) (a.since ++ a.reply ∷ [])) (subst (λ p. disturbs call p (row_of T line event) ≡ false) page_is calm) ∙ a.stands;
+      stands =
+          ap (λ b. b || list_any (disturbs call a.begun.page) (a.since ++ a.reply ∷ [])) (subst
+          (λ p. disturbs call p (row_of T line event) ≡ false) page_is calm) ∙ a.stands;
     }
 
-ready_on : (call : ℕ) (config : Option Config) (row : Row) (rows : List Row) → IsReady call 0 config rows → IsReady call 0 config (row ∷ rows)
+ready_on : (call : ℕ) (config : Option Config) (row : Row) (rows : List Row) → IsReady call 0 config rows
+    → IsReady call 0 config (row ∷ rows)
 ready_on call config row rows (inl none) = inl none
 ready_on call config row rows (inr came) = inr (ap (λ b. is_metadata call 0 row.event || b) came ∙ or_true (is_metadata call 0 row.event))
 
 -- a row more since a choice
-choice_on : (call : ℕ) (id : List ℕ) (listed : Listed) (row : Row) (since : List Row) → FirstChoice call 0 id listed since → FirstChoice call 0 id listed (row ∷ since)
+choice_on : (call : ℕ) (id : List ℕ) (listed : Listed) (row : Row) (since : List Row) → FirstChoice call 0 id listed since
+    → FirstChoice call 0 id listed (row ∷ since)
 choice_on call id listed row since c =
     record {
       several = c.several;
@@ -169,17 +185,21 @@ path_on waits config call candidate listed row since (AfterChoice c ready) =
     AfterChoice (choice_on call candidate.account.id listed row since c) (λ h. ready_on call config row c.after (ready h))
 
 -- a metadata reply in a row makes the prompt ready
-pub path_ready : (waits : Bool) (config : Option Config) (call : ℕ) (candidate : Candidate) (listed : Listed) (row : Row) (since : List Row) → is_metadata call 0 row.event ≡ true
+pub path_ready : (waits : Bool) (config : Option Config) (call : ℕ) (candidate : Candidate) (listed : Listed) (row : Row) (since : List Row)
+    → is_metadata call 0 row.event ≡ true
     → Path waits config call candidate listed since → Path false config call candidate listed (row ∷ since)
 unfolding choice_on
 path_ready waits config call candidate listed row since came (Alone one ready) =
     Alone one (λ h. inr (inr (ap (λ b. b || list_any (λ r. is_metadata call 0 r.event) since) came)))
 path_ready waits config call candidate listed row since came (AfterChoice c ready) =
-    AfterChoice (choice_on call candidate.account.id listed row since c) (λ h. inr (ap (λ b. b || list_any (λ r. is_metadata call 0 r.event) c.after) came))
+    AfterChoice (choice_on call candidate.account.id listed row since c)
+    (λ h. inr (ap (λ b. b || list_any (λ r. is_metadata call 0 r.event) c.after) came))
 
 -- the call stays at its dialog
-pub opened_on : (T : Trace) (line : ℕ) (event : Event) (call : ℕ) (f : Facts) → Stood T call f → (o : Opened T call f) → last_of (begins call) (effects_of T event) ≡ None
-    → disturbs call f.page (row_of T line event) ≡ false → chooses call 0 o.accepted.listed event ≡ false → Opened (with_event T line event) call f
+pub opened_on : (T : Trace) (line : ℕ) (event : Event) (call : ℕ) (f : Facts) → Stood T call f → (o : Opened T call f)
+    → last_of (begins call) (effects_of T event) ≡ None
+    → disturbs call f.page (row_of T line event) ≡ false → chooses call 0 o.accepted.listed event ≡ false
+    → Opened (with_event T line event) call f
 unfolding accepted_on
 opened_on T line event call f s o begins_none calm none =
     record {
@@ -189,7 +209,8 @@ opened_on T line event call f s o begins_none calm none =
       unchosen = ap (λ b. b || list_any (λ row. chooses call 0 o.accepted.listed row.event) o.accepted.since) none ∙ o.unchosen;
     }
 
-pub prompts_on : (T : Trace) (line : ℕ) (event : Event) (call : ℕ) (f : Facts) → Stood T call f → Prompts T call f → last_of (begins call) (effects_of T event) ≡ None
+pub prompts_on : (T : Trace) (line : ℕ) (event : Event) (call : ℕ) (f : Facts) → Stood T call f → Prompts T call f
+    → last_of (begins call) (effects_of T event) ≡ None
     → disturbs call f.page (row_of T line event) ≡ false → Prompts (with_event T line event) call f
 unfolding accepted_on
 prompts_on T line event call f s p begins_none calm =
@@ -228,7 +249,8 @@ untold true = refl
 untold false = refl
 
 -- no configuration comes by a row that brings the call no input
-pub config_same : (T : Trace) (line : ℕ) (event : Event) (call : ℕ) → input_to call event ≡ None → config_taken call 0 (with_event T line event).rows ≡ config_taken call 0 T.rows
+pub config_same : (T : Trace) (line : ℕ) (event : Event) (call : ℕ) → input_to call event ≡ None
+    → config_taken call 0 (with_event T line event).rows ≡ config_taken call 0 T.rows
 config_same T line event call none =
     ap (λ i. option_or (config_given 0 (list_any is_ignored (effects_of T event)) i) (config_taken call 0 T.rows)) none
     ∙ ap (λ o. option_or o (config_taken call 0 T.rows)) (untold (list_any is_ignored (effects_of T event)))
@@ -237,7 +259,8 @@ config_same T line event call none =
 pub left_unsaid : (T : Trace) (event : Event) (call : ℕ) (f : Facts) → Stood T call f → Leaves T event call → input_to call event ≡ None
 left_unsaid T event call f s l = go l.untaken
   where
-    go : (input_to call event ≡ None) ⊎ ((list_any is_ignored (effects_of T event) ≡ true) × (is_begun T call ≡ false)) → input_to call event ≡ None
+    go : (input_to call event ≡ None) ⊎ ((list_any is_ignored (effects_of T event) ≡ true) × (is_begun T call ≡ false))
+        → input_to call event ≡ None
     go (inl none) = none
     go (inr refused) = let no : true ≡ false = sym s.is_taken ∙ refused.1 in absurd (cc)
 
@@ -258,60 +281,88 @@ caused_left T line event call f s l c =
 -- ---- the call begins
 
 -- nothing was taken of a call that has not begun
-untaken_row : (T : Trace) (line : ℕ) (event : Event) (call : ℕ) → is_begun (with_event T line event) call ≡ false → config_taken call 0 T.rows ≡ None
+untaken_row : (T : Trace) (line : ℕ) (event : Event) (call : ℕ) → is_begun (with_event T line event) call ≡ false
+    → config_taken call 0 T.rows ≡ None
     → config_taken call 0 (with_event T line event).rows ≡ None
 untaken_row T line event call new none = go (happens T event call)
   where
-    refused : (list_any is_ignored (effects_of T event) ≡ true) × (is_begun T call ≡ false) → config_taken call 0 (with_event T line event).rows ≡ None
+    refused : (list_any is_ignored (effects_of T event) ≡ true) × (is_begun T call ≡ false)
+        → config_taken call 0 (with_event T line event).rows ≡ None
     refused r = ap (λ b. option_or (config_given 0 b (input_to call event)) (config_taken call 0 T.rows)) r.0 ∙ none
 
-    left_by : (input_to call event ≡ None) ⊎ ((list_any is_ignored (effects_of T event) ≡ true) × (is_begun T call ≡ false)) → config_taken call 0 (with_event T line event).rows ≡ None
+    left_by : (input_to call event ≡ None) ⊎ ((list_any is_ignored (effects_of T event) ≡ true) × (is_begun T call ≡ false))
+        → config_taken call 0 (with_event T line event).rows ≡ None
     left_by (inl unsaid) = config_same T line event call unsaid ∙ none
     left_by (inr r) = refused r
 
     go : Happens T event call → config_taken call 0 (with_event T line event).rows ≡ None
     go (Left l) = left_by l.untaken
     go (Ends e) = config_same T line event call e.unsaid ∙ none
-    go (Started s) = config_same T line event call (ap (input_to call) s.is_get) ∙ none
+    go (Started s) =
+        config_same T line event call ((is_beginning event s.begun.page s.begun.call s.begun.options s.is_event).unsaid call) ∙ none
     go (Took t) = let no : true ≡ false = sym t.begun ∙ unbegun_before T line event call new in absurd (cc)
 
-pub untaken : (header : Header) (rows : List Row) (call : ℕ) → IsRun header rows → list_any (nat_eq call) (begun rows) ≡ false → config_taken call 0 rows ≡ None
+pub untaken : (header : Header) (rows : List Row) (call : ℕ) → IsRun header rows → list_any (nat_eq call) (begun rows) ≡ false
+    → config_taken call 0 rows ≡ None
 untaken header [] call run new = refl
 untaken header (row ∷ rows) call run new =
     let T : Trace = record { header = header; rows = rows } in
     let is = row_is T row run.0 in
-    let now : is_begun (with_event T row.line row.event) call ≡ false = subst (λ r. list_any (nat_eq call) (begun (r ∷ rows)) ≡ false) is new in
+    let now : is_begun (with_event T row.line row.event) call ≡ false =
+    subst (λ r. list_any (nat_eq call) (begun (r ∷ rows)) ≡ false) is new in
     ap (λ r. config_taken call 0 (r ∷ rows)) is
     ∙ untaken_row T row.line row.event call now (untaken header rows call run.2 (unbegun_before T row.line row.event call now))
 
-caused_first : (T : Trace) (call : ℕ) (b : Begun) → config_taken call 0 T.rows ≡ None → Caused T call (known_first b)
-caused_first T call b none =
+caused_first : (T : Trace) (call page : ℕ) (origin : Origin) (options : GetOptions) → config_taken call 0 T.rows ≡ None
+    → Caused T call (fresh call page origin options)
+caused_first T call page origin options none =
     record {
-      config = ap (option_and_then (config_in b.options 0)) (sym none);
+      config = ap (option_and_then (config_in options 0)) (sym none);
       configured = inl refl;
       choosing = λ at. absurd (cc);
       prompting = λ at. absurd (cc);
     }
 
-pub caused_started : (T : Trace) (line : ℕ) (event : Event) (call : ℕ) (f : Facts) → IsNew T.rows event → config_taken call 0 T.rows ≡ None → Starts T event call
+-- the facts of a get that began are those with which it did
+pub caused_started : (T : Trace) (line : ℕ) (event : Event) (call : ℕ) (f : Facts) → IsNew T.rows event → config_taken call 0 T.rows ≡ None
+    → Starts T event call
     → facts_at (with_event T line event) call ≡ Some f → Caused (with_event T line event) call f
 caused_started T line event call f new none s is =
     subst (λ c. Caused (with_event T line event) c f) s.is_call
-    (go (first_turn (world_at T) s.busy s.begun.origin s.begun.options (subst (IsNew T.rows) s.is_get new).1))
+    (go (first_turn (world_at T) s.busy s.begun.origin s.begun.options
+    (is_first T event s.begun.page s.begun.call s.begun.options new s.is_event).one))
   where
     o : Outcome
-    o = get_outcome (world_at T) s.busy s.begun.origin s.begun.options
+    o = first_row (world_at T) s.busy s.begun.origin s.begun.options
 
     is_own : facts_at (with_event T line event) s.begun.call ≡ Some f
     is_own = subst (λ c. facts_at (with_event T line event) c ≡ Some f) (sym s.is_call) is
 
     still : config_taken s.begun.call 0 (with_event T line event).rows ≡ None
-    still = subst (λ c. config_taken c 0 (with_event T line event).rows ≡ None) (sym s.is_call) (config_same T line event call (ap (input_to call) s.is_get) ∙ none)
+    still =
+        subst (λ c. config_taken c 0 (with_event T line event).rows ≡ None) (sym s.is_call)
+        (config_same T line event call ((is_beginning event s.begun.page s.begun.call s.begun.options s.is_event).unsaid call) ∙ none)
+
+    by : (stage : Stage) → o.stage ≡ Some stage → (options : CallOptions) → s.begun.options ≡ options
+        → option_and_then get_facts (at_stage stage (first.fresh s.begun.call s.begun.page s.begun.origin options)) ≡ Some f
+    by stage at options asked =
+        ap (λ x. option_and_then get_facts (at_stage stage (first.fresh s.begun.call s.begun.page s.begun.origin x))) (sym asked)
+        ∙ ap (option_and_then get_facts) (sym (known_begun T line event s.begun o stage s.effects at)) ∙ is_own
+
+    reads : (options : CallOptions) → s.begun.options ≡ options → o.stage ≡ Some Reading → Caused (with_event T line event) s.begun.call f
+    reads (ToGet options) asked reading =
+        let whole : Some (fresh s.begun.call s.begun.page s.begun.origin options) ≡ Some f = by Reading reading (ToGet options) asked in
+        let same : fresh s.begun.call s.begun.page s.begun.origin options ≡ f = cc in
+        subst (Caused (with_event T line event) s.begun.call) same
+        (caused_first (with_event T line event) s.begun.call s.begun.page s.begun.origin options still)
+    reads (ToDisconnect options) asked reading =
+        let no : None ≡ Some f = by Reading reading (ToDisconnect options) asked in
+        absurd (cc)
+
+    ends : (options : CallOptions) → s.begun.options ≡ options → o.stage ≡ Some Ended → Caused (with_event T line event) s.begun.call f
+    ends (ToGet options) asked ended = let no : None ≡ Some f = by Ended ended (ToGet options) asked in absurd (cc)
+    ends (ToDisconnect options) asked ended = let no : None ≡ Some f = by Ended ended (ToDisconnect options) asked in absurd (cc)
 
     go : FirstTurn o → Caused (with_event T line event) s.begun.call f
-    go (FailsFirst failure ended asks gives) =
-        no_facts (facts_at (with_event T line event) s.begun.call) f (facts_begun T line event s.begun o Ended s.effects ended) is_own
-    go (ReadsFirst reading asks gives) =
-        let first : Some (known_first s.begun) ≡ Some f = sym (facts_begun T line event s.begun o Reading s.effects reading) ∙ is_own in
-        let same : known_first s.begun ≡ f = cc in
-        subst (Caused (with_event T line event) s.begun.call) same (caused_first (with_event T line event) s.begun.call s.begun still)
+    go (FailsFirst failure ended asks gives) = ends s.begun.options refl ended
+    go (ReadsFirst reading asks gives) = reads s.begun.options refl reading

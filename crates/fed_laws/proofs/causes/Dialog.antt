@@ -1,5 +1,6 @@
 -- How a call that stands comes to a dialog, and what stands of it there.
-use Rattle.std.proofs.Common.{◌≡◌, ℕ, Bool, true, false, nat_eq, ◌||◌, ◌&&◌, ◌≤◌, ◌⊎◌, inl, inr, List, [], ◌∷◌, ◌++◌, length, Option, Some, None, map, refl, sym, ap, subst, ◌∙◌, arith}
+use Rattle.std.proofs.Common.{◌≡◌, ℕ, Bool, true, false, nat_eq, ◌||◌, ◌&&◌, ◌≤◌, ◌⊎◌, inl, inr, List, [], ◌∷◌, ◌++◌, length, Option, Some}
+use Rattle.std.proofs.Common.{None, map, refl, sym, ap, subst, ◌∙◌, arith}
 use Rattle.std.specs.Prelude.{option_and_then, unwrap_or, is_some}
 use Rattle.std.specs.Option.{option_or}
 use Rattle.std.specs.List.{filter_map, list_any, flat_map}
@@ -18,13 +19,15 @@ use Rattle.fed_consent.specs.declared.table.input.Input.{Input}
 use Rattle.fed_consent.specs.declared.table.input.Input.TheVariants as inputs
 use Rattle.fed_consent.specs.Consent.{Candidate, chosen}
 use Rattle.fed_call.specs.Accounts.{candidate_of, listed_of, needs_metadata}
-use Rattle.fed_call.specs.Facts as call_facts
-use Rattle.fed_call.specs.Facts.{Facts, at_stage, facts_after, metadata_endpoint, provider_at, with_accounts, with_candidate, with_choice, with_input, with_list, with_listing}
+use Rattle.fed_consent.specs.Outcomes as outcomes
+use Rattle.fed_call.specs.Facts.{Facts, at_stage, facts_after, metadata_endpoint, provider_at, with_accounts, with_candidate, with_choice}
+use Rattle.fed_call.specs.Facts.{with_input, with_list, with_listing}
 use Rattle.fed_consent.specs.Outcomes.{Outcome}
 use Rattle.fed_script.specs.declared.event.Event.{Event}
 use Rattle.fed_script.specs.declared.event.Event.TheVariants.{Choose, Reply}
 use Rattle.fed_laws.specs.Cause.{Accepted, IsReady, config_at, config_given, config_in, config_taken, is_metadata}
 use Rattle.fed_trace.specs.OfCall.{disturbs, given}
+use Rattle.fed_trace.specs.Begun.{GetCall}
 use Rattle.fed_trace.specs.Effect.{Login, begins, is_ignored, last_of}
 use Rattle.fed_trace.specs.Known.{world_at, input_to}
 use Rattle.fed_laws.specs.Laws.{at}
@@ -82,24 +85,28 @@ gives_no_more T line event call f f' s = gives_at T event call f s.meets ∙ go 
 pub calm_step : (T : Trace) (line : ℕ) (event : Event) (call : ℕ) (f f' : Facts) → (s : Step T line event call f f') → (page : ℕ)
     → disturbs call page (row_of T line event) ≡ false
 calm_step T line event call f f' s page =
-    calm T line event call page (input_keeps_pages event call s.meets.takes.input page s.meets.takes.is_event) (gives_no_more T line event call f f' s)
+    calm T line event call page (input_keeps_pages event call s.meets.takes.input page s.meets.takes.is_event)
+    (gives_no_more T line event call f f' s)
 
-pub begins_no_more : (T : Trace) (line : ℕ) (event : Event) (call : ℕ) (f f' : Facts) → (s : Step T line event call f f') → last_of (begins call) (effects_of T event) ≡ None
+pub begins_no_more : (T : Trace) (line : ℕ) (event : Event) (call : ℕ) (f f' : Facts) → (s : Step T line event call f f')
+    → last_of (begins call) (effects_of T event) ≡ None
 begins_no_more T line event call f f' s =
-    ap (last_of (begins call)) (does_at T event call f s.meets) ∙ outcome_begins (world_at T) (cookies_with T) call f.page call (outcome_of T f s.meets.takes.input)
+    ap (last_of (begins call)) (does_at T event call f s.meets)
+    ∙ outcome_begins (world_at T) (cookies_with T) GetCall call f.page call (outcome_of T f s.meets.takes.input)
 
 -- what is known of the call's beginning is the same
-origin_same : (T : Trace) (line : ℕ) (event : Event) (call : ℕ) (f f' : Facts) → (s : Step T line event call f f') → f.origin ≡ s.stood_then.begun.origin
+origin_same : (T : Trace) (line : ℕ) (event : Event) (call : ℕ) (f f' : Facts) → (s : Step T line event call f f')
+    → f.origin ≡ s.stood_then.begun.origin
 origin_same T line event call f f' s =
     let input = s.meets.takes.input in
-    sym (same_origin_of (world_at T) (list_any call_facts.is_ignored (outcome_of T f input).effects) input f)
+    sym (same_origin_of (world_at T) (list_any outcomes.is_ignored (outcome_of T f input).effects) input f)
     ∙ ap (λ g. g.origin) (sym (after_step T line event call f f' s)) ∙ s.stood_then.of_origin
 
 options_then : (T : Trace) (line : ℕ) (event : Event) (call : ℕ) (f f' : Facts) → (s : Step T line event call f f') → f'.options ≡ f.options
 options_then T line event call f f' s =
     let input = s.meets.takes.input in
     ap (λ g. g.options) (after_step T line event call f f' s)
-    ∙ same_options (world_at T) (list_any call_facts.is_ignored (outcome_of T f input).effects) input f
+    ∙ same_options (world_at T) (list_any outcomes.is_ignored (outcome_of T f input).effects) input f
 
 -- the only provider of the call
 pub one_provider : (T : Trace) (call : ℕ) (f : Facts) → Stood T call f → length f.options.providers ≡ 1
@@ -112,22 +119,27 @@ pub config_then : (T : Trace) (line : ℕ) (event : Event) (call : ℕ) (f f' : 
 config_then T line event call f f' s =
     let input = s.meets.takes.input in
     let o = outcome_of T f input in
-    let ignored = list_any call_facts.is_ignored o.effects in
+    let ignored = list_any outcomes.is_ignored o.effects in
     let said : config_given 0 ignored (Some input) ≡ config_given 0 (list_any is_ignored (effects_of T event)) (input_to call event) =
-    ap (λ b. config_given 0 b (Some input)) (sym (ap (list_any is_ignored) (does_at T event call f s.meets) ∙ ignored_outcome (world_at T) (cookies_with T) call f.page o))
+    ap (λ b. config_given 0 b (Some input)) (sym (ap (list_any is_ignored) (does_at T event call f s.meets)
+    ∙ ignored_outcome (world_at T) (cookies_with T) GetCall call f.page o))
     ∙ ap (config_given 0 (list_any is_ignored (effects_of T event))) (sym s.meets.takes.input_is) in
     ap (λ g. g.config) (after_step T line event call f f' s)
-    ∙ config_told (world_at T) ignored input f (config_taken call 0 T.rows) (one_provider T call f s.stood) (has_its_provider (world_at T) f input) s.caused.config
+    ∙ config_told (world_at T) ignored input f (config_taken call 0 T.rows) (one_provider T call f s.stood)
+    (has_its_provider (world_at T) f input) s.caused.config
     ∙ ap (λ x. option_and_then (config_in f.options 0) (option_or x (config_taken call 0 T.rows))) said
-    ∙ ap (λ x. option_and_then (config_in x 0) (config_taken call 0 (with_event T line event).rows)) (sym (options_then T line event call f f' s))
+    ∙ ap (λ x. option_and_then (config_in x 0) (config_taken call 0 (with_event T line event).rows))
+    (sym (options_then T line event call f f' s))
 
-pub configured_then : (T : Trace) (line : ℕ) (event : Event) (call : ℕ) (f f' : Facts) → (s : Step T line event call f f') → (f'.stage ≡ Reading) ⊎ (is_some f'.config ≡ true)
+pub configured_then : (T : Trace) (line : ℕ) (event : Event) (call : ℕ) (f f' : Facts) → (s : Step T line event call f f')
+    → (f'.stage ≡ Reading) ⊎ (is_some f'.config ≡ true)
 configured_then T line event call f f' s = go (keeps_config (world_at T) f s.meets.takes.input s.caused.configured)
   where
     is : f' ≡ record (told_then T f s.meets.takes.input) { stage = stage_then T f s.meets.takes.input }
     is = after_step T line event call f f' s
 
-    go : Configured (stage_then T f s.meets.takes.input) (told_then T f s.meets.takes.input).config → (f'.stage ≡ Reading) ⊎ (is_some f'.config ≡ true)
+    go : Configured (stage_then T f s.meets.takes.input) (told_then T f s.meets.takes.input).config
+        → (f'.stage ≡ Reading) ⊎ (is_some f'.config ≡ true)
     go (AtReading at) = inl (ap (λ g. g.stage) is ∙ at)
     go (HasOne some) = inr (ap (λ g. is_some g.config) is ∙ some)
     go (AtEnd at) =
@@ -136,22 +148,25 @@ configured_then T line event call f f' s = go (keeps_config (world_at T) f s.mee
 
 -- ---- accounts come
 
-reply_event : (event : Event) (call place : ℕ) (raw : List ℕ) → Some event ≡ event_for call (inputs.Reply place kinds.Accounts raw) → place ≡ 0
+reply_event : (event : Event) (call place : ℕ) (raw : List ℕ) → Some event ≡ event_for call (inputs.Reply place kinds.Accounts raw)
+    → place ≡ 0
     → event ≡ Reply call 0 kinds.Accounts raw
 reply_event event call place raw is first =
     let came : event ≡ Reply call place kinds.Accounts raw = cc in came ∙ ap (λ p. Reply call p kinds.Accounts raw) first
 
 -- the reply that the call takes is its accepted one
-accepted_now : (T : Trace) (line : ℕ) (event : Event) (call : ℕ) (f f' : Facts) (accounts : List Account) → (s : Step T line event call f f')
+accepted_now : (T : Trace) (line : ℕ) (event : Event) (call : ℕ) (f f' : Facts) (accounts : List Account)
+    → (s : Step T line event call f f')
     → TakesAccounts f s.meets.takes.input (outcome_of T f s.meets.takes.input) accounts → Accepted (with_event T line event) call 0
 accepted_now T line event call f f' accounts s t =
     let o = outcome_of T f s.meets.takes.input in
     let begun = s.stood_then.begun in
     let first : t.place ≡ 0 = first_place f.options.providers t.place t.provider (one_provider T call f s.stood) t.has_provider in
-    let options_are : begun.options ≡ f.options = sym s.stood_then.of_options ∙ options_then T line event call f f' s in
-    let does : effects_of T event ≡ Login (origin_of t.provider.config) LoggedIn ∷ (flat_map (call_effects (world_at T) (cookies_with T) call f.page) (t.effect ∷ []) ++ moves call o.stage) =
+    let options_are : s.stood_then.get ≡ f.options = sym s.stood_then.of_options ∙ options_then T line event call f f' s in
+    let does : effects_of T event ≡ Login (origin_of t.provider.config) LoggedIn
+    ∷ (flat_map (call_effects (world_at T) (cookies_with T) GetCall call f.page) (t.effect ∷ []) ++ moves GetCall call o.stage) =
     does_at T event call f s.meets
-    ∙ ap (λ es. flat_map (call_effects (world_at T) (cookies_with T) call f.page) es ++ moves call o.stage) t.effects in
+    ∙ ap (λ es. flat_map (call_effects (world_at T) (cookies_with T) GetCall call f.page) es ++ moves GetCall call o.stage) t.effects in
     record {
       since = [];
       reply = row_of T line event;
@@ -159,18 +174,28 @@ accepted_now T line event call f f' accounts s t =
       rows = refl;
       begun = begun;
       began = s.stood_then.began;
+      get = s.stood_then.get;
+      is_get = s.stood_then.is_get;
       options = t.provider;
       has_provider = ap (λ x. provider_at 0 x) options_are ∙ ap (λ n. provider_at n f.options) (sym first) ∙ t.has_provider;
       raw = t.raw;
       event = reply_event event call t.place t.raw (s.meets.takes.is_event ∙ ap (event_for call) t.is_reply) first;
-      logged_in = record { before = []; after = flat_map (call_effects (world_at T) (cookies_with T) call f.page) (t.effect ∷ []) ++ moves call o.stage; all = does };
+      logged_in =
+          record {
+            before = [];
+            after =
+                flat_map (call_effects (world_at T) (cookies_with T) GetCall call f.page) (t.effect ∷ []) ++ moves GetCall call o.stage;
+            all =
+                does;
+          };
       listed = listed_of (world_at T) begun.origin t.provider accounts;
       offers = ap (with_ok (listed_of (world_at T) begun.origin t.provider)) t.reads;
       stands = ap (λ b. b || false) (calm_step T line event call f f' s begun.page);
     }
 
 -- what is told of the call by the accounts
-told_accounts : (T : Trace) (f : Facts) (input : Input) (accounts : List Account) → (t : TakesAccounts f input (outcome_of T f input) accounts)
+told_accounts : (T : Trace) (f : Facts) (input : Input) (accounts : List Account)
+    → (t : TakesAccounts f input (outcome_of T f input) accounts)
     → told_then T f input ≡ with_accounts (world_at T) t.provider accounts f
 told_accounts T f input accounts t =
     ap (λ b. with_input (world_at T) b input f) t.taken ∙ ap (λ i. with_input (world_at T) false i f) t.is_reply
@@ -182,7 +207,8 @@ many_listed world provider [] f two = absurd (omega (arith, two))
 many_listed world provider (only ∷ []) f two = absurd (omega (arith, two))
 many_listed world provider (one ∷ more ∷ rest) f two = refl
 
-pub opened_now : (T : Trace) (line : ℕ) (event : Event) (call : ℕ) (f f' : Facts) (accounts : List Account) → (s : Step T line event call f f') → 2 ≤ length accounts
+pub opened_now : (T : Trace) (line : ℕ) (event : Event) (call : ℕ) (f f' : Facts) (accounts : List Account)
+    → (s : Step T line event call f f') → 2 ≤ length accounts
     → TakesAccounts f s.meets.takes.input (outcome_of T f s.meets.takes.input) accounts → Opened (with_event T line event) call f'
 unfolding accepted_now
 opened_now T line event call f f' accounts s two t =
@@ -197,7 +223,8 @@ opened_now T line event call f f' accounts s two t =
     }
 
 -- a prompt that needs no metadata
-needs_none : (connected : Bool) (endpoint : Option Parts) → needs_metadata connected endpoint ≡ false → (connected ≡ true) ⊎ (endpoint ≡ None)
+needs_none : (connected : Bool) (endpoint : Option Parts) → needs_metadata connected endpoint ≡ false
+    → (connected ≡ true) ⊎ (endpoint ≡ None)
 needs_none true endpoint h = inl refl
 needs_none false None h = inr refl
 needs_none false (Some to) h = absurd (cc)
@@ -209,7 +236,8 @@ prompts_now T line event call f f' only s t =
     record {
       accepted = accepted_now T line event call f f' (only ∷ []) s t;
       candidate = candidate;
-      picks = ap (λ g. g.picked) told_is ∙ ap (λ o. Some (candidate_of (world_at T) o t.provider only)) (origin_same T line event call f f' s);
+      picks =
+          ap (λ g. g.picked) told_is ∙ ap (λ o. Some (candidate_of (world_at T) o t.provider only)) (origin_same T line event call f f' s);
       is_listed = only_chosen (world_at T) s.stood_then.begun.origin t.provider only;
       path = Alone refl (λ h. ready (needs_none candidate.connected (metadata_endpoint f.config) (sym waits_is ∙ h)));
     }
@@ -217,15 +245,20 @@ prompts_now T line event call f f' only s t =
     candidate : Candidate
     candidate = candidate_of (world_at T) s.stood_then.begun.origin t.provider only
 
-    told_is : f' ≡ record (with_candidate (candidate_of (world_at T) f.origin t.provider only) f) { stage = stage_then T f s.meets.takes.input }
+    told_is : f' ≡ record (with_candidate (candidate_of (world_at T) f.origin t.provider only) f) {
+      stage =
+          stage_then T f s.meets.takes.input;
+    }
     told_is =
         after_step T line event call f f' s
-        ∙ ap (λ w. let g : Facts = record w { stage = stage_then T f s.meets.takes.input } in g) (told_accounts T f s.meets.takes.input (only ∷ []) t)
+        ∙ ap (λ w. let g : Facts = record w { stage = stage_then T f s.meets.takes.input } in
+        g) (told_accounts T f s.meets.takes.input (only ∷ []) t)
 
     waits_is : f'.waits ≡ needs_metadata candidate.connected (metadata_endpoint f.config)
     waits_is =
         ap (λ g. g.waits) told_is
-        ∙ ap (λ o. needs_metadata (candidate_of (world_at T) o t.provider only).connected (metadata_endpoint f.config)) (origin_same T line event call f f' s)
+        ∙ ap (λ o. needs_metadata (candidate_of (world_at T) o t.provider only).connected (metadata_endpoint f.config))
+        (origin_same T line event call f f' s)
 
     ready : (candidate.connected ≡ true) ⊎ (metadata_endpoint f.config ≡ None) → (candidate.connected ≡ true) ⊎ IsReady call 0 f'.config []
     ready (inl connected) = inl connected
@@ -238,10 +271,14 @@ pub picks_now : (T : Trace) (line : ℕ) (event : Event) (call : ℕ) (f f' : Fa
 unfolding accepted_on
 picks_now T line event call f f' s at t =
     record {
-      accepted = accepted_on T line event call f s.stood opened.accepted (begins_no_more T line event call f f' s) (calm_step T line event call f f' s f.page);
+      accepted =
+          accepted_on T line event call f s.stood opened.accepted (begins_no_more T line event call f f' s)
+          (calm_step T line event call f f' s f.page);
       candidate = t.candidate;
       picks = ap (λ g. g.picked) told_is;
-      is_listed = subst (λ l. chosen t.candidate.account.id l ≡ Some t.candidate) listed_is (subst (λ i. chosen i t.listed ≡ Some t.candidate) (sym id_is) t.is);
+      is_listed =
+          subst (λ l. chosen t.candidate.account.id l ≡ Some t.candidate) listed_is (subst (λ i. chosen i t.listed
+          ≡ Some t.candidate) (sym id_is) t.is);
       path = AfterChoice
           (record {
             several = opened.several;
@@ -294,12 +331,17 @@ pub readied_now : (T : Trace) (line : ℕ) (event : Event) (call : ℕ) (f f' : 
 unfolding accepted_on
 readied_now T line event call f f' s at t =
     record {
-      accepted = accepted_on T line event call f s.stood prompts.accepted (begins_no_more T line event call f f' s) (calm_step T line event call f f' s f.page);
+      accepted =
+          accepted_on T line event call f s.stood prompts.accepted (begins_no_more T line event call f f' s)
+          (calm_step T line event call f f' s f.page);
       candidate = prompts.candidate;
       picks = ap (λ g. g.picked) told_is ∙ prompts.picks;
       is_listed = prompts.is_listed;
-      path = subst (λ g. Path g.waits g.config call prompts.candidate prompts.accepted.listed (row_of T line event ∷ prompts.accepted.since)) (sym told_is)
-          (path_ready f.waits f.config call prompts.candidate prompts.accepted.listed (row_of T line event) prompts.accepted.since came prompts.path);
+      path =
+          subst (λ g. Path g.waits g.config call prompts.candidate prompts.accepted.listed
+          (row_of T line event ∷ prompts.accepted.since)) (sym told_is)
+          (path_ready f.waits f.config call prompts.candidate prompts.accepted.listed (row_of T line event) prompts.accepted.since came
+          prompts.path);
     }
   where
     prompts : Prompts T call f
@@ -316,6 +358,7 @@ readied_now T line event call f f' s at t =
 
     came : is_metadata call 0 event ≡ true
     came =
-        let given_is : Some event ≡ Some (Reply call t.place kinds.Metadata t.raw) = s.meets.takes.is_event ∙ ap (event_for call) t.is_reply in
+        let given_is : Some event ≡ Some (Reply call t.place kinds.Metadata t.raw) =
+        s.meets.takes.is_event ∙ ap (event_for call) t.is_reply in
         let reply : event ≡ Reply call t.place kinds.Metadata t.raw = cc in
         ap (is_metadata call 0) reply ∙ ap (λ p. nat_eq call call && nat_eq 0 p) place_is ∙ ap (λ b. b && true) (own call)

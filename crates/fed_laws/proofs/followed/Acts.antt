@@ -5,7 +5,7 @@ use Rattle.fed_call.specs.DialogRows.{agreed_to, chose, choice, settles, goes_on
 use Rattle.fed_call.specs.Facts.{Facts, provider_at}
 use Rattle.fed_call.specs.ListingRows.{offers}
 use Rattle.fed_consent.specs.Outcomes.{moves, after}
-use Rattle.fed_call.specs.Row.{input_row, call_row}
+use Rattle.fed_call.specs.Row.{input_row}
 use Rattle.fed_consent.specs.Consent.{AssertionFields, Candidate, Listed, assertion_fields, chosen}
 use Rattle.fed_consent.specs.declared.table.input.Input.{Input}
 use Rattle.fed_consent.specs.declared.consent.manner.Manner.TheVariants.{Chosen, Prompted}
@@ -18,15 +18,19 @@ use Rattle.fed_provider.specs.declared.config.Config.{Config}
 use Rattle.fed_script.specs.declared.event.Event.{Event}
 use Rattle.fed_script.specs.declared.event.Event.TheVariants.{Choose, Reply}
 use Rattle.fed_script.specs.declared.event.Header.{Header}
-use Rattle.fed_trace.specs.Begun.{Begun}
-use Rattle.fed_laws.specs.Cause.{FirstChoice, IsReady, chooses, config_at, Agreed, ByChoice, BySinglePrompt, ByChosenPrompt, AssertionCause, offered}
+use Rattle.fed_origin.specs.declared.options.GetOptions.{GetOptions}
+use Rattle.fed_trace.specs.Begun.{Begun, GetCall, ToGet}
+use Rattle.fed_laws.specs.Cause.{FirstChoice, IsReady, chooses, config_at, Agreed, ByChoice, BySinglePrompt, ByChosenPrompt, AssertionCause}
+use Rattle.fed_laws.specs.Cause.{offered}
 use Rattle.fed_trace.specs.OfCall.{call_at, disturbs, Has, asked, assertions}
 use Rattle.fed_trace.specs.Effect.{Move, Sent, Login}
-use Rattle.fed_trace.specs.Known.{world_at, is_begun, facts_at}
+use Rattle.fed_trace.specs.Known.{world_at, is_begun, known_at, facts_at}
+use Rattle.fed_trace.proofs.happens.Taken.{is_get}
 use Rattle.fed_laws.specs.Laws.{OfRuns, at, IsAskedFor}
-use Rattle.fed_trace.specs.Row.{effects_of, IsRun, cookies_with, outcome_effects, page_of, input_effects}
+use Rattle.fed_trace.specs.Row.{effects_of, IsRun, cookies_with, outcome_effects, input_effects}
 use Rattle.fed_trace.specs.Trace.{Row, Trace}
-use Rattle.std.proofs.Common.{◌≡◌, ℕ, Bool, true, false, List, [], ◌∷◌, Option, Some, None, Ok, refl, ap, ◌∙◌, ◌||◌, ◌≤◌, ◌⊎◌, inl, inr, length, sym, arith, subst, nat_eq, ◌&&◌, ◌++◌}
+use Rattle.std.proofs.Common.{◌≡◌, ℕ, Bool, true, false, List, [], ◌∷◌, Option, Some, None, Ok, refl, ap, ◌∙◌, ◌||◌, ◌≤◌, ◌⊎◌, inl, inr}
+use Rattle.std.proofs.Common.{length, sym, arith, subst, nat_eq, ◌&&◌, ◌++◌}
 use Rattle.std.proofs.lemmas.List.Folds.{list_any-append}
 use Rattle.std.specs.List.{filter_map, list_any}
 use Rattle.std.specs.Prelude.{option_and_then, not, is_some}
@@ -55,22 +59,29 @@ nil_both : {A : Type 0} (xs ys : List A) → xs ++ ys ≡ [] → (xs ≡ []) × 
 nil_both [] ys h = (refl, h)
 nil_both (x ∷ xs) ys h = let none : x ∷ (xs ++ ys) ≡ [] = h in absurd (cc)
 
-tracks_since : (header : Header) (since before : List Row) (reply : Row) (call provider : ℕ) (b : Begun) (options : ProviderOptions) (raw id : List ℕ) (listed : Listed) (candidate : Candidate)
-    (o : Origin) → IsRun header (since ++ reply ∷ before) → call_at before call ≡ Some b → provider_at provider b.options ≡ Some options
+tracks_since : (header : Header) (since before : List Row) (reply : Row) (call provider : ℕ) (b : Begun) (get : GetOptions)
+    (options : ProviderOptions) (raw id : List ℕ) (listed : Listed) (candidate : Candidate)
+    (o : Origin) → IsRun header (since ++ reply ∷ before) → call_at before call ≡ Some b → b.options ≡ ToGet get
+    → provider_at provider get ≡ Some options
     → reply.event ≡ Reply call provider kinds.Accounts raw → Has reply.effects (Login o LoggedIn)
     → offered (record { header = header; rows = before }) b options raw ≡ Ok listed → chosen id listed ≡ Some candidate
     → list_any (disturbs call b.page) since ≡ false → assertions call (since ++ reply ∷ before) ≡ []
     → Tracks (record { header = header; rows = since ++ reply ∷ before }) call b.page listed since
-tracks_since header [] before reply call provider b options raw id listed candidate o run began has_b is has offers named calm first =
+tracks_since header [] before reply call provider b get options raw id listed candidate o run began is_get_b has_b is has offers named calm
+    first =
     let T : Trace = record { header = header; rows = before } in
     subst (λ r. Tracks (record { header = header; rows = r ∷ before }) call b.page listed []) (sym (row_is T reply run.0))
-    (tracks_first T reply.line reply.event call provider b options raw id listed candidate o (invariant header before call run.2) began has_b is
+    (tracks_first T reply.line reply.event call provider b get options raw id listed candidate o (invariant header before call run.2) began
+    is_get_b has_b is
     (subst (λ es. Has es (Login o LoggedIn)) run.0 has) offers named)
-tracks_since header (row ∷ since) before reply call provider b options raw id listed candidate o run began has_b is has offers named calm first =
+tracks_since header (row ∷ since) before reply call provider b get options raw id listed candidate o run began is_get_b has_b is has offers
+    named calm first =
     let T : Trace = record { header = header; rows = since ++ reply ∷ before } in
     let same = row_is T row run.0 in
     let parts = nil_both (assertions call (since ++ reply ∷ before)) (filter_map (asked call) row.effects) first in
-    let earlier = tracks_since header since before reply call provider b options raw id listed candidate o run.2 began has_b is has offers named
+    let earlier =
+    tracks_since header since before reply call provider b get options raw id listed candidate o run.2 began is_get_b has_b is has
+    offers named
     (or_right (disturbs call b.page row) (list_any (disturbs call b.page) since) calm) parts.0 in
     subst (λ r. Tracks (record { header = header; rows = r ∷ (since ++ reply ∷ before) }) call b.page listed (r ∷ since)) (sym same)
     (tracks_on T row.line row.event call b.page listed since run.1 (invariant header (since ++ reply ∷ before) call run.2)
@@ -80,16 +91,20 @@ tracks_since header (row ∷ since) before reply call provider b options raw id 
 
 -- ---- the first choice is one
 
-first_same : (p : Row → Bool) (c d : Row) (a b w v : List Row) → a ++ c ∷ w ≡ b ++ d ∷ v → p c ≡ true → p d ≡ true → list_any p w ≡ false → list_any p v ≡ false → (a ≡ b) × (c ≡ d)
+first_same : (p : Row → Bool) (c d : Row) (a b w v : List Row) → a ++ c ∷ w ≡ b ++ d ∷ v → p c ≡ true → p d ≡ true → list_any p w ≡ false
+    → list_any p v ≡ false → (a ≡ b) × (c ≡ d)
 first_same p c d [] [] w v is pc pd none other = (refl, cc)
 first_same p c d [] (x ∷ b) w v is pc pd none other =
     let rest : w ≡ b ++ d ∷ v = cc in
-    let hit : list_any p w ≡ true = ap (list_any p) rest ∙ list_any-append p b (d ∷ v) ∙ ap (λ t. list_any p b || (t || list_any p v)) pd ∙ or_true (list_any p b) in
+    let hit : list_any p w ≡ true =
+    ap (list_any p) rest ∙ list_any-append p b (d ∷ v) ∙ ap (λ t. list_any p b || (t || list_any p v)) pd ∙ or_true (list_any p b) in
     let never : true ≡ false = sym hit ∙ none in
     absurd (cc)
 first_same p c d (x ∷ a) [] w v is pc pd none other =
     let rest : a ++ c ∷ w ≡ v = cc in
-    let hit : list_any p v ≡ true = ap (list_any p) (sym rest) ∙ list_any-append p a (c ∷ w) ∙ ap (λ t. list_any p a || (t || list_any p w)) pc ∙ or_true (list_any p a) in
+    let hit : list_any p v ≡ true =
+    ap (list_any p) (sym rest) ∙ list_any-append p a (c ∷ w) ∙ ap (λ t. list_any p a || (t || list_any p w)) pc
+    ∙ or_true (list_any p a) in
     let never : true ≡ false = sym hit ∙ other in
     absurd (cc)
 first_same p c d (x ∷ a) (y ∷ b) w v is pc pd none other =
@@ -99,16 +114,20 @@ first_same p c d (x ∷ a) (y ∷ b) w v is pc pd none other =
     (ap (λ z. z ∷ a) heads ∙ ap (λ xs. y ∷ xs) both.0, both.1)
 
 -- a row that chooses the account is a choice
-is_choice : (call : ℕ) (id : List ℕ) (listed : Listed) (candidate : Candidate) (event : Event) → event ≡ Choose call 0 id → chosen id listed ≡ Some candidate
+is_choice : (call : ℕ) (id : List ℕ) (listed : Listed) (candidate : Candidate) (event : Event) → event ≡ Choose call 0 id
+    → chosen id listed ≡ Some candidate
     → chooses call 0 listed event ≡ true
 is_choice call id listed candidate event is named =
     ap (chooses call 0 listed) is ∙ ap (λ t. t && nat_eq 0 0 && is_some (chosen id listed)) (own call) ∙ ap (λ x. is_some x) named
 
-choice_among : (call : ℕ) (id : List ℕ) (listed : Listed) (candidate : Candidate) (since : List Row) → chosen id listed ≡ Some candidate → FirstChoice call 0 id listed since
+choice_among : (call : ℕ) (id : List ℕ) (listed : Listed) (candidate : Candidate) (since : List Row) → chosen id listed ≡ Some candidate
+    → FirstChoice call 0 id listed since
     → list_any (λ row. chooses call 0 listed row.event) since ≡ true
 choice_among call id listed candidate since named c =
-    ap (list_any (λ row. chooses call 0 listed row.event)) c.rows ∙ list_any-append (λ row. chooses call 0 listed row.event) c.after (c.choice ∷ c.waiting)
-    ∙ ap (λ t. list_any (λ row. chooses call 0 listed row.event) c.after || (t || list_any (λ row. chooses call 0 listed row.event) c.waiting))
+    ap (list_any (λ row. chooses call 0 listed row.event)) c.rows
+    ∙ list_any-append (λ row. chooses call 0 listed row.event) c.after (c.choice ∷ c.waiting)
+    ∙ ap (λ t. list_any (λ row. chooses call 0 listed row.event) c.after
+    || (t || list_any (λ row. chooses call 0 listed row.event) c.waiting))
     (is_choice call id listed candidate c.choice.event c.event named)
     ∙ or_true (list_any (λ row. chooses call 0 listed row.event) c.after)
 
@@ -116,17 +135,24 @@ choice_among call id listed candidate since named c =
 
 -- a request of the call in the row
 abbrev Sends : Trace → Event → ℕ → List ℕ → Type 0
-Sends T event call id = (ask : AssertionFields) × (cookies : List ℕ) × (ask.account ≡ id) × Has (effects_of T event) (Sent call 0 (asks.Assertion ask) cookies)
+Sends T event call id =
+    (ask : AssertionFields) × (cookies : List ℕ) × (ask.account ≡ id)
+    × Has (effects_of T event) (Sent GetCall call 0 (asks.Assertion ask) cookies)
 
 -- where the outcome of the input is a request for a token
 sends_by : (T : Trace) (event : Event) (call : ℕ) (f : Facts) (input : Input) (id : List ℕ) (ask : AssertionFields)
-    → effects_of T event ≡ outcome_effects (world_at T) (cookies_with T) call f.page (input_row (world_at T) f input)
+    → effects_of T event ≡ outcome_effects (world_at T) (cookies_with T) GetCall call f.page (input_row (world_at T) f input)
     → input_row (world_at T) f input ≡ moves Asserting (does.Send 0 (asks.Assertion ask)) → ask.account ≡ id → Sends T event call id
 sends_by T event call f input id ask does is named = (
   ask,
   cookies_with T (asks.Assertion ask),
   named,
-  record { before = []; after = Move call Asserting ∷ []; all = does ∙ ap (outcome_effects (world_at T) (cookies_with T) call f.page) is },
+  record {
+    before = [];
+    after = Move GetCall call Asserting ∷ [];
+    all =
+        does ∙ ap (outcome_effects (world_at T) (cookies_with T) GetCall call f.page) is;
+  },
 )
 
 some_config : (o : Option Config) → is_some o ≡ true → (c : Config) × (o ≡ Some c)
@@ -134,7 +160,8 @@ some_config None h = absurd (cc)
 some_config (Some c) h = (c, refl)
 
 -- what stands of the call of a cause
-record Standing (T : Trace) (event : Event) (call : ℕ) (id : List ℕ) (listed : Listed) (candidate : Candidate) (config : Option Config) (since : List Row) : Type 0 where
+record Standing (T : Trace) (event : Event) (call : ℕ) (id : List ℕ) (listed : Listed) (candidate : Candidate) (config : Option Config)
+    (since : List Row) : Type 0 where
   page : ℕ
   tracks : Tracks T call page listed since
   stood : Stood T call tracks.facts
@@ -144,28 +171,34 @@ record Standing (T : Trace) (event : Event) (call : ℕ) (id : List ℕ) (listed
   agreed : Agreed event call 0 id listed candidate config since
 
 does_for : (T : Trace) (event : Event) (call : ℕ) (f : Facts) (input : Input) → Stood T call f → facts_at T call ≡ Some f
-    → effects_of T event ≡ input_effects (world_at T) (cookies_with T) (is_begun T call) call (facts_at T call) input
-    → effects_of T event ≡ outcome_effects (world_at T) (cookies_with T) call f.page (input_row (world_at T) f input)
+    → effects_of T event ≡ input_effects (world_at T) (cookies_with T) (is_begun T call) call (known_at T call) input
+    → effects_of T event ≡ outcome_effects (world_at T) (cookies_with T) GetCall call f.page (input_row (world_at T) f input)
 does_for T event call f input s found is =
-    is ∙ ap (λ t. input_effects (world_at T) (cookies_with T) t call (facts_at T call) input) s.is_taken
-    ∙ ap (λ x. outcome_effects (world_at T) (cookies_with T) call (page_of x) (call_row (world_at T) x input)) found
+    is ∙ ap (λ t. input_effects (world_at T) (cookies_with T) t call (known_at T call) input) s.is_taken
+    ∙ ap (λ x. input_effects (world_at T) (cookies_with T) true call x input) (is_get (known_at T call) f found)
 
 -- the user chose a connected account
-sends_choice : (T : Trace) (event : Event) (call : ℕ) (id : List ℕ) (listed : Listed) (candidate : Candidate) (f : Facts) → Stood T call f → facts_at T call ≡ Some f
-    → is_some f.config ≡ true → f.stage ≡ Choosing → f.listed ≡ Some listed → chosen id listed ≡ Some candidate → candidate.connected ≡ true → event ≡ Choose call 0 id → Sends T event call id
+sends_choice : (T : Trace) (event : Event) (call : ℕ) (id : List ℕ) (listed : Listed) (candidate : Candidate) (f : Facts) → Stood T call f
+    → facts_at T call ≡ Some f
+    → is_some f.config ≡ true → f.stage ≡ Choosing → f.listed ≡ Some listed → chosen id listed ≡ Some candidate → candidate.connected ≡ true
+    → event ≡ Choose call 0 id → Sends T event call id
 sends_choice T event call id listed candidate f s found some at lists named connected is =
     let only = only_there f.options.providers (one_provider T call f s) in
     let cfg = some_config f.config some in
-    sends_by T event call f (inputs.Choose 0 id) id (assertion_fields (agreed_to f 0 candidate Chosen false) cfg.0.assertion f.origin only.0)
+    sends_by T event call f (inputs.Choose 0 id) id
+    (assertion_fields (agreed_to f 0 candidate Chosen false) cfg.0.assertion f.origin only.0)
     (does_for T event call f (inputs.Choose 0 id) s found (ap (effects_of T) is))
     (ap (λ st. chose (world_at T) f st 0 id) at ∙ ap (λ x. choice (world_at T) f 0 x (option_and_then (chosen id) f.listed)) only.1
-    ∙ ap (λ l. choice (world_at T) f 0 (Some only.0) (option_and_then (chosen id) l)) lists ∙ ap (choice (world_at T) f 0 (Some only.0)) named
-    ∙ ap (settles (world_at T) f 0 only.0 candidate) connected ∙ ap (λ x. asserts f 0 (Some only.0) x (agreed_to f 0 candidate Chosen false)) cfg.1)
+    ∙ ap (λ l. choice (world_at T) f 0 (Some only.0) (option_and_then (chosen id) l)) lists
+    ∙ ap (choice (world_at T) f 0 (Some only.0)) named
+    ∙ ap (settles (world_at T) f 0 only.0 candidate) connected
+    ∙ ap (λ x. asserts f 0 (Some only.0) x (agreed_to f 0 candidate Chosen false)) cfg.1)
     (chosen_id id listed candidate named)
 
 -- the user went on with the prompt
 sends_going : (T : Trace) (event : Event) (call : ℕ) (candidate : Candidate) (f : Facts) → Stood T call f → facts_at T call ≡ Some f
-    → is_some f.config ≡ true → f.stage ≡ Prompting → f.picked ≡ Some candidate → f.waits ≡ false → event ≡ events.GoOn call → Sends T event call candidate.account.id
+    → is_some f.config ≡ true → f.stage ≡ Prompting → f.picked ≡ Some candidate → f.waits ≡ false → event ≡ events.GoOn call
+    → Sends T event call candidate.account.id
 sends_going T event call candidate f s found some at picks ready is =
     let only = only_there f.options.providers (one_provider T call f s) in
     let cfg = some_config f.config some in
@@ -179,7 +212,8 @@ sends_going T event call candidate f s found some at picks ready is =
 too_few : {A : Type 0} (xs : List Account) (x : Account) → 2 ≤ length xs → xs ≡ x ∷ [] → A
 too_few xs x two one = let few : length xs ≡ 1 = ap length one in absurd (omega (arith, two, few))
 
-acts : (T : Trace) (event : Event) (call : ℕ) (id : List ℕ) (listed : Listed) (candidate : Candidate) (config : Option Config) (since : List Row)
+acts : (T : Trace) (event : Event) (call : ℕ) (id : List ℕ) (listed : Listed) (candidate : Candidate) (config : Option Config)
+    (since : List Row)
     → Standing T event call id listed candidate config since → Sends T event call id
 acts T event call id listed candidate config since st = go st.agreed st.tracks.offering
   where
@@ -189,14 +223,16 @@ acts T event call id listed candidate config since st = go st.agreed st.tracks.o
     id_is : candidate.account.id ≡ id
     id_is = chosen_id id listed candidate st.named
 
-    going : (c : Candidate) → f.stage ≡ Prompting → f.picked ≡ Some c → f.waits ≡ false → event ≡ events.GoOn call → c.account.id ≡ id → Sends T event call id
+    going : (c : Candidate) → f.stage ≡ Prompting → f.picked ≡ Some c → f.waits ≡ false → event ≡ events.GoOn call → c.account.id ≡ id
+        → Sends T event call id
     going c at picks ready is same =
         subst (Sends T event call) same (sends_going T event call c f st.stood st.tracks.found st.configured at picks ready is)
 
     ready_as : (rows : List Row) → IsReady call 0 config rows → IsReady call 0 f.config rows
     ready_as rows r = subst (λ x. IsReady call 0 x rows) st.config_is r
 
-    single : (c : Candidate) → f.stage ≡ Prompting → f.picked ≡ Some c → chosen c.account.id listed ≡ Some c → event ≡ events.GoOn call → listed.accounts ≡ candidate.account ∷ []
+    single : (c : Candidate) → f.stage ≡ Prompting → f.picked ≡ Some c → chosen c.account.id listed ≡ Some c → event ≡ events.GoOn call
+        → listed.accounts ≡ candidate.account ∷ []
         → (candidate.connected ≡ true) ⊎ IsReady call 0 config since → How f.waits f.config call c listed since → Sends T event call id
     single c at picks named is one ready (AsChosen choice when) = too_few listed.accounts candidate.account choice.several one
     single c at picks named is one ready (AsOnly other when) =
@@ -207,17 +243,22 @@ acts T event call id listed candidate config since st = go st.agreed st.tracks.o
         let same : c ≡ candidate = cc in
         going c at picks (when (for_it c same ready)) is own_id
       where
-        for_it : (c : Candidate) → c ≡ candidate → (candidate.connected ≡ true) ⊎ IsReady call 0 config since → (c.connected ≡ true) ⊎ IsReady call 0 f.config since
+        for_it : (c : Candidate) → c ≡ candidate → (candidate.connected ≡ true) ⊎ IsReady call 0 config since
+            → (c.connected ≡ true) ⊎ IsReady call 0 f.config since
         for_it c same (inl connected) = inl (ap (λ x. x.connected) same ∙ connected)
         for_it c same (inr r) = inr (ready_as since r)
 
-    after_choice : (c : Candidate) → f.stage ≡ Prompting → f.picked ≡ Some c → chosen c.account.id listed ≡ Some c → event ≡ events.GoOn call
-        → (first : FirstChoice call 0 id listed since) → IsReady call 0 config first.after → How f.waits f.config call c listed since → Sends T event call id
+    after_choice : (c : Candidate) → f.stage ≡ Prompting → f.picked ≡ Some c → chosen c.account.id listed ≡ Some c
+        → event ≡ events.GoOn call
+        → (first : FirstChoice call 0 id listed since) → IsReady call 0 config first.after → How f.waits f.config call c listed since
+        → Sends T event call id
     after_choice c at picks named is first ready (AsOnly one when) = too_few listed.accounts c.account first.several one
     after_choice c at picks named is first ready (AsChosen other when) =
         let test = λ (row : Row). chooses call 0 listed row.event in
-        let same = first_same test first.choice other.choice first.after other.after first.waiting other.waiting (sym first.rows ∙ other.rows)
-        (is_choice call id listed candidate first.choice.event first.event st.named) (is_choice call c.account.id listed c other.choice.event other.event named)
+        let same =
+        first_same test first.choice other.choice first.after other.after first.waiting other.waiting (sym first.rows ∙ other.rows)
+        (is_choice call id listed candidate first.choice.event first.event st.named)
+        (is_choice call c.account.id listed c other.choice.event other.event named)
         first.first other.first in
         let chose : Choose call 0 id ≡ Choose call 0 c.account.id = sym first.event ∙ ap (λ row. row.event) same.1 ∙ other.event in
         let id_same : id ≡ c.account.id = cc in
@@ -236,12 +277,16 @@ acts T event call id listed candidate config since st = go st.agreed st.tracks.o
     go (ByChosenPrompt is first ready) (ToGoOn c at picks named how) = after_choice c at picks named is first ready how
 
 -- a call that has not yet its configuration offers nothing
-past_reading : (f : Facts) (call : ℕ) (listed : Listed) (since : List Row) → Offering f call listed since → (f.stage ≡ Reading) ⊎ (is_some f.config ≡ true) → is_some f.config ≡ true
+past_reading : (f : Facts) (call : ℕ) (listed : Listed) (since : List Row) → Offering f call listed since
+    → (f.stage ≡ Reading) ⊎ (is_some f.config ≡ true) → is_some f.config ≡ true
 past_reading f call listed since offering (inr some) = some
-past_reading f call listed since (ToChoose at lists several none) (inl reading) = let never : Reading ≡ Choosing = sym reading ∙ at in absurd (cc)
-past_reading f call listed since (ToGoOn c at picks named how) (inl reading) = let never : Reading ≡ Prompting = sym reading ∙ at in absurd (cc)
+past_reading f call listed since (ToChoose at lists several none) (inl reading) = let never : Reading ≡ Choosing = sym reading ∙ at in
+    absurd (cc)
+past_reading f call listed since (ToGoOn c at picks named how) (inl reading) = let never : Reading ≡ Prompting = sym reading ∙ at in
+    absurd (cc)
 
-followed : (T : Trace) (event : Event) (call provider : ℕ) (id : List ℕ) → IsRun T.header T.rows → AssertionCause T event call provider id → (provider ≡ 0) × Sends T event call id
+followed : (T : Trace) (event : Event) (call provider : ℕ) (id : List ℕ) → IsRun T.header T.rows → AssertionCause T event call provider id
+    → (provider ≡ 0) × Sends T event call id
 followed T event call provider id run cause =
     let a = cause.accepted in
     let b = a.begun in
@@ -252,11 +297,15 @@ followed T event call provider id run cause =
     let begun_then = accepted_begun Tm a.reply.event call provider a.raw (origin_of a.options.config) a.event
     (subst (λ es. Has es (Login (origin_of a.options.config) LoggedIn)) r.effects a.logged_in) in
     let began_all : call_at (a.since ++ a.reply ∷ a.before) call ≡ Some b = subst (λ rs. call_at rs call ≡ Some b) a.rows a.began in
-    let began_reply = began_before T.header a.since (a.reply ∷ a.before) call (Some b) run_all (begun_on T.header (a.reply ∷ []) a.before call begun_then) began_all in
+    let began_reply =
+    began_before T.header a.since (a.reply ∷ a.before) call (Some b) run_all (begun_on T.header (a.reply
+    ∷ []) a.before call begun_then) began_all in
     let began = began_before T.header (a.reply ∷ []) a.before call (Some b) run_reply begun_then began_reply in
     let calm = or_left (list_any (disturbs call b.page) a.since) (list_any (disturbs call b.page) (a.reply ∷ []))
     (sym (list_any-append (disturbs call b.page) a.since (a.reply ∷ [])) ∙ a.stands) in
-    let tracked = tracks_since T.header a.since a.before a.reply call provider b a.options a.raw id a.listed cause.candidate (origin_of a.options.config) run_all began a.has_provider
+    let tracked =
+    tracks_since T.header a.since a.before a.reply call provider b a.get a.options a.raw id a.listed cause.candidate
+    (origin_of a.options.config) run_all began a.is_get a.has_provider
     a.event a.logged_in a.offers cause.is_listed calm (subst (λ rs. assertions call rs ≡ []) a.rows cause.first) in
     let k : Tracks T call b.page a.listed a.since =
     subst (λ rs. Tracks (record { header = T.header; rows = rs }) call b.page a.listed a.since) (sym a.rows) tracked in
@@ -264,17 +313,22 @@ followed T event call provider id run cause =
     let c = caused T.header T.rows call run k.facts k.found in
     let begun_same : Some s.begun ≡ Some b = sym s.began ∙ a.began in
     let begun_is : s.begun ≡ b = cc in
-    let first = first_place b.options.providers provider a.options (ap (λ x. length x.options.providers) (sym begun_is) ∙ s.one) a.has_provider in (
+    let asked_is : ToGet s.get ≡ ToGet a.get = sym s.is_get ∙ ap (λ x. x.options) begun_is ∙ a.is_get in
+    let get_is : s.get ≡ a.get = cc in
+    let first =
+    first_place a.get.providers provider a.options (ap (λ (x : GetOptions). length x.providers) (sym get_is)
+    ∙ s.one) a.has_provider in (
       first,
-      acts T event call id a.listed cause.candidate (config_at T.rows call 0 b.options) a.since
+      acts T event call id a.listed cause.candidate (config_at T.rows call 0 a.get) a.since
           (record {
             page = b.page;
             tracks = k;
             stood = s;
             configured = past_reading k.facts call a.listed a.since k.offering c.configured;
-            config_is = sym (c.config ∙ ap (config_at T.rows call 0) (s.of_options ∙ ap (λ x. x.options) begun_is));
+            config_is = sym (c.config ∙ ap (config_at T.rows call 0) (s.of_options ∙ get_is));
             named = cause.is_listed;
-            agreed = subst (λ p. Agreed event call p id a.listed cause.candidate (config_at T.rows call p b.options) a.since) first cause.agreed;
+            agreed =
+                subst (λ p. Agreed event call p id a.listed cause.candidate (config_at T.rows call p a.get) a.since) first cause.agreed;
           }),
     )
 
@@ -286,6 +340,7 @@ followed_lem T run after before row call provider id is cause =
       sends.0,
       sends.1,
       sends.2,
-      subst (λ es. Has es (Sent call provider (asks.Assertion sends.0) sends.1)) (sym r.effects)
-          (subst (λ p. Has (effects_of (at T before) row.event) (Sent call p (asks.Assertion sends.0) sends.1)) (sym found.0) sends.3),
+      subst (λ es. Has es (Sent GetCall call provider (asks.Assertion sends.0) sends.1)) (sym r.effects)
+          (subst (λ p. Has (effects_of (at T before) row.event) (Sent GetCall call p (asks.Assertion sends.0) sends.1)) (sym found.0)
+          sends.3),
     )

@@ -3,7 +3,6 @@ use Rattle.fed_call.specs.Accounts.{needs_metadata}
 use Rattle.fed_call.specs.DialogRows.{choice}
 use Rattle.fed_call.specs.Facts.{Facts, metadata_endpoint, with_input, with_choice, at_stage, with_candidate}
 use Rattle.fed_consent.specs.Outcomes.{Outcome, stays}
-use Rattle.fed_call.specs.Row.{call_row}
 use Rattle.fed_consent.specs.Consent.{Candidate, Listed, chosen}
 use Rattle.fed_consent.specs.declared.table.input.Input.{Input}
 use Rattle.fed_origin.specs.declared.stage.ReplyKind.{ReplyKind}
@@ -19,9 +18,10 @@ use Rattle.fed_trace.specs.OfCall.{call_at}
 use Rattle.fed_trace.specs.Effect.{begins, last_of, begun_by}
 use Rattle.fed_trace.specs.Known.{world_at, input_to, is_begun, facts_at}
 use Rattle.fed_laws.specs.Laws.{at}
-use Rattle.fed_trace.specs.Row.{effects_of, row_of, with_event, IsNew, IsRun, cookies_with, page_of}
+use Rattle.fed_trace.specs.Row.{effects_of, row_of, with_event, IsNew, IsRun}
 use Rattle.fed_trace.specs.Trace.{Row, Trace, begun}
-use Rattle.std.proofs.Common.{◌≡◌, ℕ, Bool, true, false, List, [], ◌∷◌, Option, Some, None, refl, ap, ◌∙◌, ◌||◌, ◌≤◌, ◌⊎◌, inl, inr, length, sym, arith, subst, nat_eq, ◌&&◌, ◌++◌, cond}
+use Rattle.std.proofs.Common.{◌≡◌, ℕ, Bool, true, false, List, [], ◌∷◌, Option, Some, None, refl, ap, ◌∙◌, ◌||◌, ◌≤◌, ◌⊎◌, inl, inr, length}
+use Rattle.std.proofs.Common.{sym, arith, subst, nat_eq, ◌&&◌, ◌++◌, cond}
 use Rattle.std.proofs.lemmas.Bool.Decides.{nat_tests}
 use Rattle.std.proofs.lemmas.List.Folds.{list_any-append}
 use Rattle.std.specs.List.{filter_map, list_any}
@@ -39,37 +39,44 @@ use Rattle.fed_laws.proofs.causes.Dialog.{one_provider}
 use Rattle.fed_trace.proofs.happens.Ends.{Happens, Left, Ends, Started, Took, event_for}
 use Rattle.fed_trace.proofs.happens.Happens.{happens}
 use Rattle.fed_laws.proofs.turns.Open.{metadata_ready}
-use Rattle.fed_trace.proofs.happens.Says.{outcome_begins}
+use Rattle.fed_trace.proofs.happens.First.{is_first}
+use Rattle.fed_trace.proofs.happens.Gets.{takes_begins}
 use Rattle.fed_laws.proofs.pending.Stood.{Stood}
 use Rattle.fed_trace.proofs.happens.Taken.{Meets, facts_taken, outcome_of}
-use Rattle.fed_laws.proofs.turns.Way.{ChoosesNone, Elsewhere, OffersMany, OffersOne, Picks, Readies, TakesChoice, TakesMetadata, Unmoved, Way, is_open}
+use Rattle.fed_laws.proofs.turns.Way.{ChoosesNone, Elsewhere, OffersMany, OffersOne, Picks, Readies, TakesChoice, TakesMetadata, Unmoved}
+use Rattle.fed_laws.proofs.turns.Way.{Way, is_open}
 use Rattle.fed_laws.proofs.turns.Only.{first_place, only_there}
 
 -- ---- how a call began does not change
 
-begins_once : (T : Trace) (event : Event) (call : ℕ) → IsNew T.rows event → is_begun T call ≡ true → last_of (begins call) (effects_of T event) ≡ None
+begins_once : (T : Trace) (event : Event) (call : ℕ) → IsNew T.rows event → is_begun T call ≡ true
+    → last_of (begins call) (effects_of T event) ≡ None
 begins_once T event call new begun = go (happens T event call)
   where
     go : Happens T event call → last_of (begins call) (effects_of T event) ≡ None
     go (Left l) = l.quiet.begins_none
     go (Ends e) = e.begins_none
     go (Started s) =
-        let fresh : is_begun T call ≡ false = subst (λ c. is_begun T c ≡ false) s.is_call (subst (IsNew T.rows) s.is_get new).0 in
+        let fresh : is_begun T call ≡ false =
+        subst (λ c. is_begun T c ≡ false) s.is_call (is_first T event s.begun.page s.begun.call s.begun.options new s.is_event).fresh in
         let no : true ≡ false = sym begun ∙ fresh in
         absurd (cc)
-    go (Took t) =
-        ap (last_of (begins call)) t.effects ∙ outcome_begins (world_at T) (cookies_with T) call (page_of (facts_at T call)) call (call_row (world_at T) (facts_at T call) t.input)
+    go (Took t) = takes_begins T event call call t
 
-begun_row : (header : Header) (row : Row) (rows : List Row) (call : ℕ) → list_any (nat_eq call) (begun rows) ≡ true → list_any (nat_eq call) (begun (row ∷ rows)) ≡ true
+begun_row : (header : Header) (row : Row) (rows : List Row) (call : ℕ) → list_any (nat_eq call) (begun rows) ≡ true
+    → list_any (nat_eq call) (begun (row ∷ rows)) ≡ true
 begun_row header row rows call is =
-    list_any-append (nat_eq call) (begun rows) (filter_map begun_by row.effects) ∙ ap (λ b. b || list_any (nat_eq call) (filter_map begun_by row.effects)) is
+    list_any-append (nat_eq call) (begun rows) (filter_map begun_by row.effects)
+    ∙ ap (λ b. b || list_any (nat_eq call) (filter_map begun_by row.effects)) is
 
-pub begun_on : (header : Header) (since rows : List Row) (call : ℕ) → list_any (nat_eq call) (begun rows) ≡ true → list_any (nat_eq call) (begun (since ++ rows)) ≡ true
+pub begun_on : (header : Header) (since rows : List Row) (call : ℕ) → list_any (nat_eq call) (begun rows) ≡ true
+    → list_any (nat_eq call) (begun (since ++ rows)) ≡ true
 begun_on header [] rows call is = is
 begun_on header (row ∷ since) rows call is = begun_row header row (since ++ rows) call (begun_on header since rows call is)
 
 -- how it began is what it was before the rows
-pub began_before : (header : Header) (since rows : List Row) (call : ℕ) (o : Option Begun) → IsRun header (since ++ rows) → list_any (nat_eq call) (begun rows) ≡ true
+pub began_before : (header : Header) (since rows : List Row) (call : ℕ) (o : Option Begun) → IsRun header (since ++ rows)
+    → list_any (nat_eq call) (begun rows) ≡ true
     → call_at (since ++ rows) call ≡ o → call_at rows call ≡ o
 began_before header [] rows call o run begun is = is
 began_before header (row ∷ since) rows call o run begun is =
@@ -82,12 +89,14 @@ began_before header (row ∷ since) rows call o run begun is =
 
 -- how the account of a prompt came to be the one, and when it waits for nothing
 pub data How (waits : Bool) (config : Option Config) (call : ℕ) (candidate : Candidate) (listed : Listed) (since : List Row) : Type 0 where
-  AsOnly : listed.accounts ≡ candidate.account ∷ [] → ((candidate.connected ≡ true) ⊎ IsReady call 0 config since → waits ≡ false) → How waits config call candidate listed since
+  AsOnly : listed.accounts ≡ candidate.account ∷ [] → ((candidate.connected ≡ true) ⊎ IsReady call 0 config since → waits ≡ false)
+      → How waits config call candidate listed since
   AsChosen : (choice : FirstChoice call 0 candidate.account.id listed since) → (IsReady call 0 config choice.after → waits ≡ false)
       → How waits config call candidate listed since
 
 pub data Offering (f : Facts) (call : ℕ) (listed : Listed) (since : List Row) : Type 0 where
-  ToChoose : f.stage ≡ Choosing → f.listed ≡ Some listed → 2 ≤ length listed.accounts → list_any (λ row. chooses call 0 listed row.event) since ≡ false
+  ToChoose : f.stage ≡ Choosing → f.listed ≡ Some listed → 2 ≤ length listed.accounts
+      → list_any (λ row. chooses call 0 listed row.event) since ≡ false
       → Offering f call listed since
   ToGoOn : (candidate : Candidate) → f.stage ≡ Prompting → f.picked ≡ Some candidate → chosen candidate.account.id listed ≡ Some candidate
       → How f.waits f.config call candidate listed since → Offering f call listed since
@@ -100,11 +109,13 @@ pub record Tracks (T : Trace) (call page : ℕ) (listed : Listed) (since : List 
 
 -- ---- one row more
 
-less_ready : (call : ℕ) (config : Option Config) (row : Row) (since : List Row) → is_metadata call 0 row.event ≡ false → IsReady call 0 config (row ∷ since) → IsReady call 0 config since
+less_ready : (call : ℕ) (config : Option Config) (row : Row) (since : List Row) → is_metadata call 0 row.event ≡ false
+    → IsReady call 0 config (row ∷ since) → IsReady call 0 config since
 less_ready call config row since none (inl without) = inl without
 less_ready call config row since none (inr came) = inr (sym (ap (λ b. b || list_any (λ r. is_metadata call 0 r.event) since) none) ∙ came)
 
-longer : (call : ℕ) (id : List ℕ) (listed : Listed) (row : Row) (since : List Row) → FirstChoice call 0 id listed since → FirstChoice call 0 id listed (row ∷ since)
+longer : (call : ℕ) (id : List ℕ) (listed : Listed) (row : Row) (since : List Row) → FirstChoice call 0 id listed since
+    → FirstChoice call 0 id listed (row ∷ since)
 longer call id listed row since c =
     record {
       several = c.several;
@@ -116,14 +127,16 @@ longer call id listed row since c =
       first = c.first;
     }
 
-how_ready : (waits : Bool) (config : Option Config) (call : ℕ) (candidate : Candidate) (listed : Listed) (row : Row) (since : List Row) (w : Bool) → waits ≡ false
+how_ready : (waits : Bool) (config : Option Config) (call : ℕ) (candidate : Candidate) (listed : Listed) (row : Row) (since : List Row)
+    (w : Bool) → waits ≡ false
     → How w config call candidate listed since → How waits config call candidate listed (row ∷ since)
 unfolding longer
 how_ready waits config call candidate listed row since w ready (AsOnly one when) = AsOnly one (λ r. ready)
 how_ready waits config call candidate listed row since w ready (AsChosen choice when) =
     AsChosen (longer call candidate.account.id listed row since choice) (λ r. ready)
 
-how_quiet : (waits : Bool) (config : Option Config) (call : ℕ) (candidate : Candidate) (listed : Listed) (row : Row) (since : List Row) → is_metadata call 0 row.event ≡ false
+how_quiet : (waits : Bool) (config : Option Config) (call : ℕ) (candidate : Candidate) (listed : Listed) (row : Row) (since : List Row)
+    → is_metadata call 0 row.event ≡ false
     → How waits config call candidate listed since → How waits config call candidate listed (row ∷ since)
 unfolding longer
 how_quiet waits config call candidate listed row since none (AsOnly one when) = AsOnly one (λ r. when (less r))
@@ -135,7 +148,8 @@ how_quiet waits config call candidate listed row since none (AsChosen choice whe
     AsChosen (longer call candidate.account.id listed row since choice) (λ r. when (less_ready call config row choice.after none r))
 
 how_on : (waits : Bool) (config : Option Config) (call : ℕ) (candidate : Candidate) (listed : Listed) (row : Row) (since : List Row)
-    → (is_metadata call 0 row.event ≡ true → waits ≡ false) → How waits config call candidate listed since → How waits config call candidate listed (row ∷ since)
+    → (is_metadata call 0 row.event ≡ true → waits ≡ false) → How waits config call candidate listed since
+    → How waits config call candidate listed (row ∷ since)
 how_on waits config call candidate listed row since ready how = go (is_metadata call 0 row.event) refl
   where
     go : (b : Bool) → is_metadata call 0 row.event ≡ b → How waits config call candidate listed (row ∷ since)
@@ -143,8 +157,10 @@ how_on waits config call candidate listed row since ready how = go (is_metadata 
     go false is = how_quiet waits config call candidate listed row since is how
 
 -- the call stays as it was
-pub offering_on : (f : Facts) (call : ℕ) (listed : Listed) (row : Row) (since : List Row) → (f.stage ≡ Choosing → f.listed ≡ Some listed → chooses call 0 listed row.event ≡ false)
-    → (f.stage ≡ Prompting → is_metadata call 0 row.event ≡ true → f.waits ≡ false) → Offering f call listed since → Offering f call listed (row ∷ since)
+pub offering_on : (f : Facts) (call : ℕ) (listed : Listed) (row : Row) (since : List Row)
+    → (f.stage ≡ Choosing → f.listed ≡ Some listed → chooses call 0 listed row.event ≡ false)
+    → (f.stage ≡ Prompting → is_metadata call 0 row.event ≡ true → f.waits ≡ false) → Offering f call listed since
+    → Offering f call listed (row ∷ since)
 offering_on f call listed row since none ready (ToChoose at lists two unchosen) =
     ToChoose at lists two (ap (λ b. b || list_any (λ r. chooses call 0 listed r.event) since) (none at lists) ∙ unchosen)
 offering_on f call listed row since none ready (ToGoOn candidate at picks is how) =
@@ -175,7 +191,8 @@ unsaid_metadata (events.Cancel c) call none = refl
 unsaid_metadata (events.SetStatus page status) call none = refl
 
 -- a metadata reply for the call leaves no prompt that waits
-ready_by_reply : (T : Trace) (event : Event) (call : ℕ) (f : Facts) (input : Input) → Some event ≡ event_for call input → length f.options.providers ≡ 1 → f.stage ≡ Prompting
+ready_by_reply : (T : Trace) (event : Event) (call : ℕ) (f : Facts) (input : Input) → Some event ≡ event_for call input
+    → length f.options.providers ≡ 1 → f.stage ≡ Prompting
     → told (world_at T) f input (outcome_of T f input) ≡ f → is_metadata call 0 event ≡ true → f.waits ≡ false
 ready_by_reply T event call f (inputs.Reply place kind raw) is one at same came = go kind refl
   where
@@ -184,12 +201,14 @@ ready_by_reply T event call f (inputs.Reply place kind raw) is one at same came 
 
     place_is : (kind ≡ kinds.Metadata) → place ≡ 0
     place_is k =
-        let both : nat_eq call call && nat_eq 0 place ≡ true = sym (ap (is_metadata call 0) reply ∙ ap (λ x. is_metadata call 0 (events.Reply call place x raw)) k) ∙ came in
+        let both : nat_eq call call && nat_eq 0 place ≡ true =
+        sym (ap (is_metadata call 0) reply ∙ ap (λ x. is_metadata call 0 (events.Reply call place x raw)) k) ∙ came in
         grind (arith, nat_tests, both)
 
     other : (x : ReplyKind) → kind ≡ x → is_metadata call 0 (events.Reply call place x raw) ≡ false → f.waits ≡ false
     other x k none =
-        let no : false ≡ true = sym none ∙ sym (ap (is_metadata call 0) reply ∙ ap (λ y. is_metadata call 0 (events.Reply call place y raw)) k) ∙ came in
+        let no : false ≡ true =
+        sym none ∙ sym (ap (is_metadata call 0) reply ∙ ap (λ y. is_metadata call 0 (events.Reply call place y raw)) k) ∙ came in
         absurd (cc)
 
     go : (x : ReplyKind) → kind ≡ x → f.waits ≡ false
@@ -197,7 +216,8 @@ ready_by_reply T event call f (inputs.Reply place kind raw) is one at same came 
         let only = only_there f.options.providers one in
         ap (λ g. g.waits) (sym same)
         ∙ ap (λ x. (told (world_at T) f (inputs.Reply place x raw) (outcome_of T f (inputs.Reply place x raw))).waits) k
-        ∙ ap (λ p. (told (world_at T) f (inputs.Reply p kinds.Metadata raw) (outcome_of T f (inputs.Reply p kinds.Metadata raw))).waits) (place_is k)
+        ∙ ap (λ p. (told (world_at T) f (inputs.Reply p kinds.Metadata raw) (outcome_of T f (inputs.Reply p kinds.Metadata raw))).waits)
+        (place_is k)
         ∙ metadata_ready (world_at T) f raw only.0 at only.1
     go kinds.WellKnown k = other kinds.WellKnown k refl
     go kinds.Config k = other kinds.Config k refl
@@ -238,9 +258,11 @@ same_at f opened = go f.stage refl
     go Ended at = let no : false ≡ true = ap is_open (sym at) ∙ opened in absurd (cc)
 
 -- after an input
-pub tracks_taken : (T : Trace) (line : ℕ) (event : Event) (call page : ℕ) (listed : Listed) (since : List Row) (k : Tracks T call page listed since)
+pub tracks_taken : (T : Trace) (line : ℕ) (event : Event) (call page : ℕ) (listed : Listed) (since : List Row)
+    (k : Tracks T call page listed since)
     → (m : Meets T event call k.facts) → Stood T call k.facts → Way k.facts m.takes.input (outcome_of T k.facts m.takes.input)
-    → is_open (unwrap_or (outcome_of T k.facts m.takes.input).stage k.facts.stage) ≡ true → Tracks (with_event T line event) call page listed (row_of T line event ∷ since)
+    → is_open (unwrap_or (outcome_of T k.facts m.takes.input).stage k.facts.stage) ≡ true
+    → Tracks (with_event T line event) call page listed (row_of T line event ∷ since)
 tracks_taken T line event call page listed since k m s way stays = go way k.offering
   where
     f : Facts
@@ -253,7 +275,8 @@ tracks_taken T line event call page listed since k m s way stays = go way k.offe
     listing at = let no : false ≡ true = ap is_open (sym at) ∙ is_open_at f call listed since k.offering in absurd (cc)
 
     picks_one : (t : TakesChoice f m.takes.input o) → o.stage ≡ Some Prompting → f.listed ≡ Some listed → 2 ≤ length listed.accounts
-        → list_any (λ row. chooses call 0 listed row.event) since ≡ false → Tracks (with_event T line event) call page listed (row_of T line event ∷ since)
+        → list_any (λ row. chooses call 0 listed row.event) since ≡ false
+        → Tracks (with_event T line event) call page listed (row_of T line event ∷ since)
     picks_one t to lists two unchosen =
         let both : Some t.listed ≡ Some listed = sym t.lists ∙ lists in
         let listed_is : t.listed ≡ listed = cc in
@@ -266,10 +289,13 @@ tracks_taken T line event call page listed since k m s way stays = go way k.offe
         ∙ ap (λ l. with_choice (option_and_then (chosen t.id) l) f) t.lists ∙ ap (λ x. with_choice x f) t.is in
         record {
           facts = record (with_candidate t.candidate f) { stage = Prompting };
-          found = facts_taken T line event call f m ∙ ap (λ st. at_stage (unwrap_or st f.stage) (told (world_at T) f m.takes.input o)) to ∙ ap (at_stage Prompting) told_is;
+          found =
+              facts_taken T line event call f m ∙ ap (λ st. at_stage (unwrap_or st f.stage) (told (world_at T) f m.takes.input o)) to
+              ∙ ap (at_stage Prompting) told_is;
           of_page = k.of_page;
           offering = ToGoOn t.candidate refl refl
-              (subst (λ l. chosen t.candidate.account.id l ≡ Some t.candidate) listed_is (subst (λ i. chosen i t.listed ≡ Some t.candidate) (sym id_is) t.is))
+              (subst (λ l. chosen t.candidate.account.id l ≡ Some t.candidate) listed_is (subst (λ i. chosen i t.listed
+              ≡ Some t.candidate) (sym id_is) t.is))
               (AsChosen
               (record {
                 several = two;
@@ -283,11 +309,13 @@ tracks_taken T line event call page listed since k m s way stays = go way k.offe
               (λ r. back t r));
         }
       where
-        back : (t : TakesChoice f m.takes.input o) → IsReady call 0 f.config [] → needs_metadata t.candidate.connected (metadata_endpoint f.config) ≡ false
+        back : (t : TakesChoice f m.takes.input o) → IsReady call 0 f.config []
+            → needs_metadata t.candidate.connected (metadata_endpoint f.config) ≡ false
         back t (inl none) = needs_back t.candidate.connected (metadata_endpoint f.config) none
         back t (inr came) = absurd (cc)
 
-    readied : (t : TakesMetadata f m.takes.input o) → unwrap_or o.stage f.stage ≡ Prompting → (candidate : Candidate) → f.picked ≡ Some candidate
+    readied : (t : TakesMetadata f m.takes.input o) → unwrap_or o.stage f.stage ≡ Prompting → (candidate : Candidate)
+        → f.picked ≡ Some candidate
         → chosen candidate.account.id listed ≡ Some candidate → How f.waits f.config call candidate listed since
         → Tracks (with_event T line event) call page listed (row_of T line event ∷ since)
     readied t to candidate picks is how =
@@ -295,9 +323,12 @@ tracks_taken T line event call page listed since k m s way stays = go way k.offe
         ap (λ b. with_input (world_at T) b m.takes.input f) t.taken ∙ ap (λ i. with_input (world_at T) false i f) t.is_reply in
         record {
           facts = record f { waits = false; stage = Prompting };
-          found = facts_taken T line event call f m ∙ ap (λ st. at_stage st (told (world_at T) f m.takes.input o)) to ∙ ap (at_stage Prompting) told_is;
+          found =
+              facts_taken T line event call f m ∙ ap (λ st. at_stage st (told (world_at T) f m.takes.input o)) to
+              ∙ ap (at_stage Prompting) told_is;
           of_page = k.of_page;
-          offering = ToGoOn candidate refl picks is (how_ready false f.config call candidate listed (row_of T line event) since f.waits refl how);
+          offering =
+              ToGoOn candidate refl picks is (how_ready false f.config call candidate listed (row_of T line event) since f.waits refl how);
         }
 
     unmoved : o.stage ≡ None → told (world_at T) f m.takes.input o ≡ f → (f.stage ≡ Choosing → ChoosesNone f m.takes.input)
@@ -314,7 +345,8 @@ tracks_taken T line event call page listed since k m s way stays = go way k.offe
               k.offering;
         }
 
-    go : Way f m.takes.input o → Offering f call listed since → Tracks (with_event T line event) call page listed (row_of T line event ∷ since)
+    go : Way f m.takes.input o → Offering f call listed since
+        → Tracks (with_event T line event) call page listed (row_of T line event ∷ since)
     go (Elsewhere closed) offering = let no : false ≡ true = sym closed ∙ stays in absurd (cc)
     go (OffersMany accounts two at to t) offering = listing at
     go (OffersOne only at to t) offering = listing at

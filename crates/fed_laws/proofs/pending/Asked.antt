@@ -1,5 +1,6 @@
 -- What stands of a call holds after every row: it asked for no token, or for one.
-use Rattle.std.proofs.Common.{◌≡◌, ℕ, true, false, nat_eq, ◌≤◌, ◌⊎◌, inl, inr, List, [], ◌∷◌, ◌++◌, length, Option, Some, None, map, refl, sym, ap, subst, ◌∙◌, arith}
+use Rattle.std.proofs.Common.{◌≡◌, ℕ, true, false, nat_eq, ◌≤◌, ◌⊎◌, inl, inr, List, [], ◌∷◌, ◌++◌, length, Option, Some, None, map, refl}
+use Rattle.std.proofs.Common.{sym, ap, subst, ◌∙◌, arith}
 use Rattle.std.specs.Prelude.{unwrap_or}
 use Rattle.std.specs.List.{filter_map, list_any}
 use Rattle.fed_origin.specs.declared.stage.Stage.TheVariants.{Choosing, Prompting, Asserting, Ended}
@@ -10,57 +11,65 @@ use Rattle.fed_consent.specs.Outcomes.{Outcome}
 use Rattle.fed_script.specs.declared.event.Event.{Event}
 use Rattle.fed_script.specs.declared.event.Header.{Header}
 use Rattle.fed_consent.specs.declared.table.ask.Ask.TheVariants as asks
-use Rattle.fed_call.specs.Facts as call_facts
+use Rattle.fed_consent.specs.Outcomes as outcomes
 use Rattle.fed_laws.specs.Cause.{Asked}
 use Rattle.fed_trace.specs.OfCall.{asked, assertions}
+use Rattle.fed_trace.specs.Begun.{GetCall}
 use Rattle.fed_trace.specs.Effect.{Move, Sent, last_of, call_change, begins}
 use Rattle.fed_trace.specs.Keyed.{last_said}
 use Rattle.fed_trace.specs.Known.{world_at, facts_at}
 use Rattle.fed_laws.specs.Laws.{AsksOnce, OfRuns}
 use Rattle.fed_trace.specs.Row.{effects_of, row_of, with_event, cookies_with, outcome_effects, IsNew, IsRun}
 use Rattle.fed_trace.specs.Trace.{Row, Trace}
-use Rattle.fed_trace.proofs.known.Facts.{same_page, same_origin_of, same_options}
+use Rattle.fed_trace.proofs.known.Facts.{get_page, same_origin_of, same_options}
 use Rattle.fed_trace.proofs.happens.Ends.{Happens, Left, Ends, Started, Took, Takes}
 use Rattle.fed_trace.proofs.happens.Happens.{happens}
 use Rattle.fed_trace.proofs.happens.Says.{outcome_begins, outcome_pending, asks_token, finish_of}
 use Rattle.fed_laws.proofs.turns.Turn.{AsksToken, Turn, Asks, Gives, Goes as GoesOn, Word, Chose, WentOn, turn_at}
-use Rattle.fed_laws.proofs.pending.Stood.{Stood, Invariant, asked_on, left_page, stood_on, asks_same, unbegun_before, invariant_by, when_same, no_facts, when_ended}
+use Rattle.fed_laws.proofs.pending.Stood.{Stood, Invariant, asked_on, left_page, stood_on, asks_same, unbegun_before, invariant_by}
+use Rattle.fed_laws.proofs.pending.Stood.{when_same, no_facts, when_ended}
 use Rattle.fed_laws.proofs.pending.Begun.{when_started}
 use Rattle.fed_trace.proofs.happens.Taken.{Meets, outcome_of, does_at, facts_taken}
 use Rattle.fed_laws.proofs.pending.Taken.{input_keeps_pages, asks_at, gives_at, after_by, still_pending, StaysOrEnds, stays_asserting}
-use Rattle.fed_trace.proofs.happens.Over.{over_same, over_quiet}
+use Rattle.fed_trace.proofs.happens.Gets.{others_ask, others_after}
 use Rattle.fed_laws.proofs.turns.Only.{first_place}
 
 -- what stands of a call that goes on after an input
 stood_after : (T : Trace) (line : ℕ) (event : Event) (call : ℕ) (f f' : Facts) → (m : Meets T event call f) → Stood T call f
-    → facts_after (world_at T) f m.takes.input (outcome_of T f m.takes.input) ≡ Some f' → filter_map finish_of (outcome_of T f m.takes.input).effects ≡ []
-    → (f'.stage ≡ unwrap_or (outcome_of T f m.takes.input).stage f.stage → (assertions call (with_event T line event).rows ≡ []) ⊎ (f'.stage ≡ Asserting))
-    → (f'.stage ≡ unwrap_or (outcome_of T f m.takes.input).stage f.stage → f'.stage ≡ Asserting → Asked (with_event T line event).rows call 0)
+    → facts_after (world_at T) f m.takes.input (outcome_of T f m.takes.input) ≡ Some f'
+    → filter_map finish_of (outcome_of T f m.takes.input).effects ≡ []
+    → (f'.stage ≡ unwrap_or (outcome_of T f m.takes.input).stage f.stage
+    → (assertions call (with_event T line event).rows ≡ []) ⊎ (f'.stage ≡ Asserting))
+    → (f'.stage ≡ unwrap_or (outcome_of T f m.takes.input).stage f.stage → f'.stage ≡ Asserting
+    → Asked (with_event T line event).rows call 0)
     → Stood (with_event T line event) call f'
 stood_after T line event call f f' m s is gives asks asked_for =
     let input = m.takes.input in
     let o = outcome_of T f input in
-    let ignored = list_any call_facts.is_ignored o.effects in
+    let ignored = list_any outcomes.is_ignored o.effects in
     let w = with_input (world_at T) ignored input f in
     let after = after_by (unwrap_or o.stage f.stage) w f' is in
     let at : f'.stage ≡ unwrap_or o.stage f.stage = ap (λ g. g.stage) after.is in
     let effects = does_at T event call f m in
     stood_on T line event call f f' s (input_keeps_pages event call input f.page m.takes.is_event)
-    (ap (last_said nat_eq call_change call) effects ∙ outcome_pending (world_at T) (cookies_with T) call f.page call o ∙ still_pending call w f.stage o.stage after.going)
-    (ap (last_of (begins call)) effects ∙ outcome_begins (world_at T) (cookies_with T) call f.page call o)
+    (ap (last_said nat_eq call_change call) effects ∙ outcome_pending (world_at T) (cookies_with T) GetCall call f.page call o
+    ∙ still_pending call w f.stage o.stage after.going)
+    (ap (last_of (begins call)) effects ∙ outcome_begins (world_at T) (cookies_with T) GetCall call f.page call o)
     (gives_at T event call f m ∙ ap (map (λ finish. (f.page, finish))) gives)
-    (ap (λ g. g.page) after.is ∙ same_page (world_at T) ignored input f)
+    (ap (λ g. g.page) after.is ∙ get_page (world_at T) ignored input f)
     (ap (λ g. g.origin) after.is ∙ same_origin_of (world_at T) ignored input f)
     (ap (λ g. g.options) after.is ∙ same_options (world_at T) ignored input f)
     (asks at) (asked_for at)
 
 -- a call that asks for a token did not ask before
-pub asks_first : (T : Trace) (call : ℕ) (f : Facts) (input : Input) (o : Outcome) → Stood T call f → AsksToken f input o → assertions call T.rows ≡ []
+pub asks_first : (T : Trace) (call : ℕ) (f : Facts) (input : Input) (o : Outcome) → Stood T call f → AsksToken f input o
+    → assertions call T.rows ≡ []
 asks_first T call f input o s a = go s.asks a.word
   where
     go : (assertions call T.rows ≡ []) ⊎ (f.stage ≡ Asserting) → Word f input a.candidate a.provider → assertions call T.rows ≡ []
     go (inl none) word = none
-    go (inr at) (Chose place id listed choosing is has lists chosen connected) = let no : Choosing ≡ Asserting = sym choosing ∙ at in absurd (cc)
+    go (inr at) (Chose place id listed choosing is has lists chosen connected) = let no : Choosing ≡ Asserting = sym choosing ∙ at in
+        absurd (cc)
     go (inr at) (WentOn prompting is has ready picks) = let no : Prompting ≡ Asserting = sym prompting ∙ at in absurd (cc)
 
 when_asks : (T : Trace) (line : ℕ) (event : Event) (call : ℕ) (f : Facts) → (m : Meets T event call f) → Invariant T call
@@ -71,11 +80,14 @@ when_asks T line event call f m h a =
     let first = asks_first T call f m.takes.input (outcome_of T f m.takes.input) s a in
     let place_is : a.place ≡ 0 =
     first_place f.options.providers a.place a.provider (ap (λ o. length o.providers) s.of_options ∙ s.one) a.has_provider in
-    let effects : effects_of T event ≡ Sent call 0 (asks.Assertion ask) (cookies_with T (asks.Assertion ask)) ∷ Move call Asserting ∷ [] =
-    does_at T event call f m ∙ ap (outcome_effects (world_at T) (cookies_with T) call f.page) a.is
-    ∙ ap (λ p. Sent call p (asks.Assertion ask) (cookies_with T (asks.Assertion ask)) ∷ Move call Asserting ∷ []) place_is in
+    let effects : effects_of T event ≡ Sent GetCall call 0 (asks.Assertion ask) (cookies_with T (asks.Assertion ask))
+    ∷ Move GetCall call Asserting ∷ [] =
+    does_at T event call f m ∙ ap (outcome_effects (world_at T) (cookies_with T) GetCall call f.page) a.is
+    ∙ ap (λ p. Sent GetCall call p (asks.Assertion ask) (cookies_with T (asks.Assertion ask)) ∷ Move GetCall call Asserting
+    ∷ []) place_is in
     let all : assertions call (with_event T line event).rows ≡ (0, ask) ∷ [] =
-    ap (λ xs. xs ++ filter_map (asked call) (effects_of T event)) first ∙ asks_at T event call f m ∙ ap (λ o. filter_map asks_token o.effects) a.is
+    ap (λ xs. xs ++ filter_map (asked call) (effects_of T event)) first ∙ asks_at T event call f m
+    ∙ ap (λ o. filter_map asks_token o.effects) a.is
     ∙ ap (λ p. (p, ask) ∷ []) place_is in
     let asked_now : Asked (with_event T line event).rows call 0 =
     record {
@@ -85,23 +97,26 @@ when_asks T line event call f m h a =
       rows_are = refl;
       ask = ask;
       cookies = cookies_with T (asks.Assertion ask);
-      sends = record { before = []; after = Move call Asserting ∷ []; all = effects };
+      sends = record { before = []; after = Move GetCall call Asserting ∷ []; all = effects };
     } in
     record {
       few = subst (λ xs. length xs ≤ 1) (sym all) (omega arith);
       unbegun = λ new. let no : true ≡ false = sym m.takes.begun ∙ unbegun_before T line event call new in absurd (cc);
       stood = λ f' is.
-          stood_after T line event call f f' m s (sym (facts_taken T line event call f m) ∙ is) (ap (λ o. filter_map finish_of o.effects) a.is)
+          stood_after T line event call f f' m s (sym (facts_taken T line event call f m)
+          ∙ is) (ap (λ o. filter_map finish_of o.effects) a.is)
           (λ at. inr (at ∙ ap (λ o. unwrap_or o.stage f.stage) a.is)) (λ at asserting. asked_now);
     }
 
 when_gives : (T : Trace) (line : ℕ) (event : Event) (call : ℕ) (f : Facts) → (m : Meets T event call f) → Invariant T call
-    → (outcome_of T f m.takes.input).stage ≡ Some Ended → filter_map asks_token (outcome_of T f m.takes.input).effects ≡ [] → Invariant (with_event T line event) call
+    → (outcome_of T f m.takes.input).stage ≡ Some Ended → filter_map asks_token (outcome_of T f m.takes.input).effects ≡ []
+    → Invariant (with_event T line event) call
 when_gives T line event call f m h ended asks =
     invariant_by T line event call h (asks_at T event call f m ∙ asks)
     (λ f' is. no_facts (facts_at (with_event T line event) call) f'
     (facts_taken T line event call f m
-    ∙ ap (λ st. at_stage (unwrap_or st f.stage) (with_input (world_at T) (list_any call_facts.is_ignored (outcome_of T f m.takes.input).effects) m.takes.input f)) ended) is)
+    ∙ ap (λ st. at_stage (unwrap_or st f.stage) (with_input (world_at T)
+    (list_any outcomes.is_ignored (outcome_of T f m.takes.input).effects) m.takes.input f)) ended) is)
 
 when_goes_on : (T : Trace) (line : ℕ) (event : Event) (call : ℕ) (f : Facts) → (m : Meets T event call f) → Invariant T call
     → filter_map asks_token (outcome_of T f m.takes.input).effects ≡ [] → filter_map finish_of (outcome_of T f m.takes.input).effects ≡ []
@@ -121,23 +136,29 @@ when_goes_on T line event call f m h asks gives back =
     none : filter_map (asked call) (effects_of T event) ≡ []
     none = asks_at T event call f m ∙ asks
 
-    by : (f' : Facts) → facts_after (world_at T) f m.takes.input o ≡ Some f' → f'.stage ≡ unwrap_or o.stage f.stage → f.stage ≡ Asserting → StaysOrEnds o → f'.stage ≡ Asserting
+    by : (f' : Facts) → facts_after (world_at T) f m.takes.input o ≡ Some f' → f'.stage ≡ unwrap_or o.stage f.stage → f.stage ≡ Asserting
+        → StaysOrEnds o → f'.stage ≡ Asserting
     by f' now at was (inl stays) = at ∙ ap (λ st. unwrap_or st f.stage) stays ∙ was
     by f' now at was (inr ended) =
         no_facts (facts_after (world_at T) f m.takes.input o) f'
-        (ap (λ st. at_stage (unwrap_or st f.stage) (with_input (world_at T) (list_any call_facts.is_ignored o.effects) m.takes.input f)) ended) now
+        (ap (λ st. at_stage (unwrap_or st f.stage) (with_input (world_at T) (list_any outcomes.is_ignored o.effects) m.takes.input f))
+        ended) now
 
     stays : (f' : Facts) → facts_after (world_at T) f m.takes.input o ≡ Some f' → f'.stage ≡ unwrap_or o.stage f.stage
-        → (assertions call T.rows ≡ []) ⊎ (f.stage ≡ Asserting) → (assertions call (with_event T line event).rows ≡ []) ⊎ (f'.stage ≡ Asserting)
+        → (assertions call T.rows ≡ []) ⊎ (f.stage ≡ Asserting)
+        → (assertions call (with_event T line event).rows ≡ []) ⊎ (f'.stage ≡ Asserting)
     stays f' now at (inl first) = inl (asks_same T line event call none ∙ first)
     stays f' now at (inr was) = inr (by f' now at was (stays_asserting (world_at T) f m.takes.input was))
 
-when_over : (T : Trace) (line : ℕ) (event : Event) (call : ℕ) → Invariant T call → Takes T event call → facts_at T call ≡ None → Invariant (with_event T line event) call
+-- the call is no get, or is over
+when_over : (T : Trace) (line : ℕ) (event : Event) (call : ℕ) → Invariant T call → Takes T event call → facts_at T call ≡ None
+    → Invariant (with_event T line event) call
 when_over T line event call h t none =
-    when_same T line event call h (over_quiet T event call t none) (over_same T event call t none)
-    (λ f s. input_keeps_pages event call t.input f.page t.is_event)
+    invariant_by T line event call h (others_ask T event call t none)
+    (λ f is. no_facts (facts_at (with_event T line event) call) f (others_after T line event call t none) is)
 
-when_took : (T : Trace) (line : ℕ) (event : Event) (call : ℕ) → Invariant T call → (t : Takes T event call) → (o : Option Facts) → facts_at T call ≡ o
+when_took : (T : Trace) (line : ℕ) (event : Event) (call : ℕ) → Invariant T call → (t : Takes T event call) → (o : Option Facts)
+    → facts_at T call ≡ o
     → Invariant (with_event T line event) call
 when_took T line event call h t None found = when_over T line event call h t found
 when_took T line event call h t (Some f) found = go (turn_at (world_at T) f t.input)
@@ -152,7 +173,8 @@ when_took T line event call h t (Some f) found = go (turn_at (world_at T) f t.in
 
 -- ---- every row
 
-kept_by_row : (T : Trace) (line : ℕ) (event : Event) (call : ℕ) → IsNew T.rows event → Invariant T call → Invariant (with_event T line event) call
+kept_by_row : (T : Trace) (line : ℕ) (event : Event) (call : ℕ) → IsNew T.rows event → Invariant T call
+    → Invariant (with_event T line event) call
 kept_by_row T line event call new h = go (happens T event call)
   where
     go : Happens T event call → Invariant (with_event T line event) call
@@ -165,7 +187,8 @@ kept_by_row T line event call new h = go (happens T event call)
 pub row_is : (T : Trace) (row : Row) → row.effects ≡ effects_of T row.event → row ≡ row_of T row.line row.event
 row_is T row h = ap (λ es. let r : Row = record { line = row.line; event = row.event; effects = es } in r) h
 
-pub invariant : (header : Header) (rows : List Row) (call : ℕ) → IsRun header rows → Invariant (record { header = header; rows = rows }) call
+pub invariant : (header : Header) (rows : List Row) (call : ℕ) → IsRun header rows
+    → Invariant (record { header = header; rows = rows }) call
 invariant header [] call run = record { few = omega arith; unbegun = λ new. refl; stood = λ f is. absurd (cc) }
 invariant header (row ∷ rows) call run =
     let T : Trace = record { header = header; rows = rows } in

@@ -1,10 +1,10 @@
 -- A token that a reply holds reaches the page that awaits it.
 use Rattle.fed_call.specs.AssertingRows.{asserting_reply, assertion_reply, token_given}
 use Rattle.fed_call.specs.DialogRows.{chose, went_on, cancelled}
-use Rattle.fed_call.specs.Facts as call_facts
+use Rattle.fed_consent.specs.Outcomes as outcomes
 use Rattle.fed_call.specs.Facts.{Facts, at_stage, provider_at, with_input}
 use Rattle.fed_consent.specs.Outcomes.{Outcome, finishes}
-use Rattle.fed_call.specs.Row.{call_row, input_row, stage_reply}
+use Rattle.fed_call.specs.Row.{input_row, stage_reply}
 use Rattle.fed_consent.specs.Consent.{AssertionFields, assertion_fields}
 use Rattle.fed_consent.specs.declared.table.ask.Ask.TheVariants as asks
 use Rattle.fed_consent.specs.declared.table.finish.Finish.TheVariants.{Token}
@@ -21,30 +21,32 @@ use Rattle.fed_script.specs.declared.event.Event.TheVariants.{Reply}
 use Rattle.fed_script.specs.declared.event.Event.{Event}
 use Rattle.fed_script.specs.declared.event.Header.{Header}
 use Rattle.fed_laws.proofs.pending.Asked.{invariant, row_is}
-use Rattle.fed_trace.proofs.happens.Over.{over_quiet}
 use Rattle.fed_laws.proofs.pending.Begun.{first_asks_none}
-use Rattle.fed_trace.proofs.happens.First.{first_turn}
+use Rattle.fed_trace.proofs.happens.First.{first_turn, is_first}
 use Rattle.fed_trace.proofs.happens.Ends.{Happens, Left, Ends, Started, Took, EndsWithPage, Starts, Takes}
-use Rattle.fed_trace.proofs.known.Facts.{same_page, same_origin_of}
+use Rattle.fed_trace.proofs.known.Facts.{get_page, same_origin_of}
 use Rattle.fed_trace.proofs.happens.Happens.{happens}
 use Rattle.fed_trace.proofs.keyed.Keyed.{IsAbsent, AreDistinct, distinct_standing, lookup-standing}
 use Rattle.fed_trace.proofs.happens.Says.{own, outcome_asks, asks_token, finish_of}
-use Rattle.fed_trace.proofs.known.Known.{facts_same}
-use Rattle.fed_laws.proofs.pending.Stood.{Invariant, Stood}
-use Rattle.fed_trace.proofs.happens.Taken.{Meets, facts_taken, outcome_of}
+use Rattle.fed_trace.proofs.happens.Gets.{facts_same, others_ask}
+use Rattle.fed_trace.proofs.calls.Pending.{is_among}
+use Rattle.fed_laws.proofs.pending.Stood.{Invariant, Stood, get_at}
+use Rattle.fed_trace.proofs.happens.Taken.{Meets, is_get, facts_taken, outcome_of}
 use Rattle.fed_laws.proofs.pending.Taken.{asks_at, gives_at}
 use Rattle.fed_laws.proofs.tokens.Token.{row_of_trace, says_none, says_one}
 use Rattle.fed_laws.proofs.turns.Turn.{Turn, Asks, Gives, Goes, turn_at}
-use Rattle.fed_trace.specs.Begun.{Begun}
+use Rattle.fed_trace.specs.Begun.{Begun, CallKind, GetCall, kind_asked}
+use Rattle.fed_trace.specs.Call.{OfGet, first_row}
 use Rattle.fed_trace.specs.OfCall.{Has, asked, call_at, disturbs, given, is_result, replaces}
-use Rattle.fed_trace.specs.Effect.{Effect, Move, Result, Sent, call_change}
-use Rattle.fed_trace.specs.Known.{world_at, is_begun, facts_at}
+use Rattle.fed_trace.specs.Effect.{Effect, PendingCall, Move, Result, Sent, call_change}
+use Rattle.fed_trace.specs.Known.{world_at, is_begun, known_at, facts_at}
 use Rattle.fed_laws.specs.Laws.{IsAnswered, OfRuns, at}
-use Rattle.fed_trace.specs.Row.{effects_of, row_of, with_event, cookies_with, get_outcome, outcome_effects, input_effects, page_of, IsNew, IsRun}
-use Rattle.fed_trace.specs.Trace.{Row, Trace, calls_of, pending}
+use Rattle.fed_trace.specs.Row.{effects_of, row_of, with_event, cookies_with, outcome_effects, input_effects, IsNew, IsRun}
+use Rattle.fed_trace.specs.Trace.{Row, Trace, by_kind, calls_of, pending}
 use Rattle.fed_status.specs.Shared.{World}
 use Rattle.fed_token.specs.Read.{AssertionOf}
-use Rattle.std.proofs.Common.{◌≡◌, ℕ, Bool, true, false, nat_eq, ◌==◌, ◌||◌, ◌⊎◌, inl, inr, List, [], ◌∷◌, ◌++◌, length, Option, Some, None, Ok, map, refl, sym, ap, subst, ◌∙◌, arith, cond}
+use Rattle.std.proofs.Common.{◌≡◌, ℕ, Bool, true, false, nat_eq, ◌==◌, ◌||◌, ◌⊎◌, inl, inr, List, [], ◌∷◌, ◌++◌, length, Option, Some, None}
+use Rattle.std.proofs.Common.{Ok, map, refl, sym, ap, subst, ◌∙◌, arith, cond}
 use Rattle.std.proofs.lemmas.Bool.Decides.{nat_tests}
 use Rattle.std.specs.List.{filter_map, cons_option, list_any}
 use Rattle.std.specs.Map.{lookup}
@@ -53,36 +55,39 @@ use Rattle.fed_laws.proofs.turns.Only.{first_place, only_there}
 
 -- ---- a call that ends with its page is of that page
 
-absent_unlisted : (call page : ℕ) (es : List (ℕ × ℕ)) → IsAbsent call es → list_any (nat_eq call) (calls_of page es) ≡ false
+absent_unlisted : (call page : ℕ) (es : List (ℕ × PendingCall)) → IsAbsent call es → is_among call (calls_of page es) ≡ false
 absent_unlisted call page [] h = refl
 absent_unlisted call page (e ∷ es) h =
     let here : nat_eq call e.0 ≡ false = grind (arith, nat_tests, h) in
     let tail : IsAbsent call es = grind (arith, nat_tests, h) in
-    go here (absent_unlisted call page es tail) (e.1 == page)
+    go here (absent_unlisted call page es tail) (e.1.page == page)
   where
-    go : nat_eq call e.0 ≡ false → list_any (nat_eq call) (calls_of page es) ≡ false → (b : Bool)
-        → list_any (nat_eq call) (map (λ c. c.0) (cond b (e ∷ filter (λ c. c.1 == page) es) (filter (λ c. c.1 == page) es))) ≡ false
-    go here rest true = ap (λ b. b || list_any (nat_eq call) (calls_of page es)) here ∙ rest
+    go : nat_eq call e.0 ≡ false → is_among call (calls_of page es) ≡ false → (b : Bool)
+        → is_among call (map by_kind (cond b (e ∷ filter (λ c. c.1.page == page) es) (filter (λ c. c.1.page == page) es))) ≡ false
+    go here rest true = ap (λ b. b || is_among call (calls_of page es)) here ∙ rest
     go here rest false = rest
 
-pub listed_page : (call page at : ℕ) (es : List (ℕ × ℕ)) → AreDistinct es → lookup (nat_eq call) es ≡ Some at → list_any (nat_eq call) (calls_of page es) ≡ true → at ≡ page
+pub listed_page : (call page : ℕ) (at : PendingCall) (es : List (ℕ × PendingCall)) → AreDistinct es → lookup (nat_eq call) es ≡ Some at
+    → is_among call (calls_of page es) ≡ true → at.page ≡ page
 listed_page call page at [] distinct found listed = absurd (cc)
-listed_page call page at (e ∷ es) distinct found listed = go (nat_eq call e.0) refl (e.1 == page) refl (listed_page call page at es distinct.1) found listed
+listed_page call page at (e ∷ es) distinct found listed =
+    go (nat_eq call e.0) refl (e.1.page == page) refl (listed_page call page at es distinct.1) found listed
   where
-    go : (own_key : Bool) → nat_eq call e.0 ≡ own_key → (b : Bool) → (e.1 == page) ≡ b
-        → (lookup (nat_eq call) es ≡ Some at → list_any (nat_eq call) (calls_of page es) ≡ true → at ≡ page)
+    go : (own_key : Bool) → nat_eq call e.0 ≡ own_key → (b : Bool) → (e.1.page == page) ≡ b
+        → (lookup (nat_eq call) es ≡ Some at → is_among call (calls_of page es) ≡ true → at.page ≡ page)
         → cond own_key (Some e.1) (lookup (nat_eq call) es) ≡ Some at
-        → list_any (nat_eq call) (map (λ c. c.0) (cond b (e ∷ filter (λ c. c.1 == page) es) (filter (λ c. c.1 == page) es))) ≡ true → at ≡ page
+        → is_among call (map by_kind (cond b (e ∷ filter (λ c. c.1.page == page) es) (filter (λ c. c.1.page == page) es))) ≡ true
+        → at.page ≡ page
     go true key true is rest found listed =
         let at_is : e.1 ≡ at = cc in
-        let page_is : e.1 ≡ page = grind (arith, nat_tests, is) in
-        sym at_is ∙ page_is
+        let page_is : e.1.page ≡ page = grind (arith, nat_tests, is) in
+        ap (λ (v : PendingCall). v.page) (sym at_is) ∙ page_is
     go true key false is rest found listed =
         let same : e.0 ≡ call = grind (arith, nat_tests, key) in
         let no : false ≡ true = sym (absent_unlisted call page es (subst (λ k. IsAbsent k es) same distinct.0)) ∙ listed in
         absurd (cc)
     go false key true is rest found listed =
-        rest found (sym (ap (λ t. t || list_any (nat_eq call) (calls_of page es)) key) ∙ listed)
+        rest found (sym (ap (λ t. t || is_among call (calls_of page es)) key) ∙ listed)
     go false key false is rest found listed = rest found listed
 
 -- ---- a call that awaits its token
@@ -99,11 +104,13 @@ record Awaits (T : Trace) (call page : ℕ) (origin : Origin) : Type 0 where
 abbrev StaysOrGives : Outcome → Type 0
 StaysOrGives o = (o.stage ≡ None) ⊎ ((finish : Finish) × (filter_map finish_of o.effects ≡ finish ∷ []))
 
-assertion_gives : (f : Facts) (place : ℕ) (provider : Option ProviderOptions) (raw : List ℕ) → StaysOrGives (assertion_reply f place provider raw)
+assertion_gives : (f : Facts) (place : ℕ) (provider : Option ProviderOptions) (raw : List ℕ)
+    → StaysOrGives (assertion_reply f place provider raw)
 assertion_gives f place None raw = inl refl
 assertion_gives f place (Some provider) raw = inr (token_given f.auto place (AssertionOf raw (origin_text f.origin)), refl)
 
-asserting_gives : (f : Facts) (place : ℕ) (provider : Option ProviderOptions) (kind : ReplyKind) (raw : List ℕ) → StaysOrGives (asserting_reply f place provider kind raw)
+asserting_gives : (f : Facts) (place : ℕ) (provider : Option ProviderOptions) (kind : ReplyKind) (raw : List ℕ)
+    → StaysOrGives (asserting_reply f place provider kind raw)
 asserting_gives f place provider kinds.Assertion raw = assertion_gives f place provider raw
 asserting_gives f place provider kinds.WellKnown raw = inl refl
 asserting_gives f place provider kinds.Config raw = inl refl
@@ -113,7 +120,8 @@ asserting_gives f place provider kinds.Disconnect raw = inl refl
 
 stays_or_gives : (world : World) (f : Facts) (input : Input) → f.stage ≡ Asserting → StaysOrGives (input_row world f input)
 stays_or_gives world f (inputs.Reply place kind raw) at =
-    subst (λ st. StaysOrGives (stage_reply world f st place kind raw)) (sym at) (asserting_gives f place (provider_at place f.options) kind raw)
+    subst (λ st. StaysOrGives (stage_reply world f st place kind raw)) (sym at)
+    (asserting_gives f place (provider_at place f.options) kind raw)
 stays_or_gives world f (inputs.Choose place id) at = subst (λ st. StaysOrGives (chose world f st place id)) (sym at) (inl refl)
 stays_or_gives world f inputs.GoOn at = subst (λ st. StaysOrGives (went_on f st)) (sym at) (inl refl)
 stays_or_gives world f inputs.Cancel at = subst (λ st. StaysOrGives (cancelled st)) (sym at) (inl refl)
@@ -123,11 +131,13 @@ stays_or_gives world f inputs.Shut at = inl refl
 stays_or_gives world f inputs.Resume at = inl refl
 
 -- a row that gives the call a result disturbs it
-pub result_disturbs : (call : ℕ) (effects : List Effect) (x : ℕ × Finish) (xs : List (ℕ × Finish)) → filter_map (given call) effects ≡ x ∷ xs → list_any (is_result call) effects ≡ true
+pub result_disturbs : (call : ℕ) (effects : List Effect) (x : ℕ × Finish) (xs : List (ℕ × Finish))
+    → filter_map (given call) effects ≡ x ∷ xs → list_any (is_result call) effects ≡ true
 result_disturbs call [] x xs h = absurd (cc)
 result_disturbs call (e ∷ effects) x xs h = go (given call e) refl (result_disturbs call effects x xs)
   where
-    go : (o : Option (ℕ × Finish)) → given call e ≡ o → (filter_map (given call) effects ≡ x ∷ xs → list_any (is_result call) effects ≡ true)
+    go : (o : Option (ℕ × Finish)) → given call e ≡ o
+        → (filter_map (given call) effects ≡ x ∷ xs → list_any (is_result call) effects ≡ true)
         → list_any (is_result call) (e ∷ effects) ≡ true
     go (Some y) is rest = ap (λ o. is_some o || list_any (is_result call) effects) is
     go None is rest =
@@ -142,16 +152,17 @@ not_both false false h (inr e) = absurd (cc)
 
 -- the facts of a call that moves to Asserting, or stays there
 awaits_by : (T : Trace) (line : ℕ) (event : Event) (call page : ℕ) (origin : Origin) (f : Facts) → (m : Meets T event call f)
-    → unwrap_or (outcome_of T f m.takes.input).stage f.stage ≡ Asserting → f.page ≡ page → f.origin ≡ origin → Awaits (with_event T line event) call page origin
+    → unwrap_or (outcome_of T f m.takes.input).stage f.stage ≡ Asserting → f.page ≡ page → f.origin ≡ origin
+    → Awaits (with_event T line event) call page origin
 awaits_by T line event call page origin f m to of_page of_origin =
     let input = m.takes.input in
-    let ignored = list_any call_facts.is_ignored (outcome_of T f input).effects in
+    let ignored = list_any outcomes.is_ignored (outcome_of T f input).effects in
     let w = with_input (world_at T) ignored input f in
     record {
       facts = record w { stage = Asserting };
       found = facts_taken T line event call f m ∙ ap (λ st. at_stage st w) to;
       at = refl;
-      of_page = same_page (world_at T) ignored input f ∙ of_page;
+      of_page = get_page (world_at T) ignored input f ∙ of_page;
       of_origin = same_origin_of (world_at T) ignored input f ∙ of_origin;
     }
 
@@ -164,7 +175,8 @@ or_right true b h = absurd (cc)
 or_right false b h = h
 
 -- it awaits its token after a row that does not disturb it
-awaits_on : (T : Trace) (line : ℕ) (event : Event) (call page : ℕ) (origin : Origin) → IsNew T.rows event → Invariant T call → (a : Awaits T call page origin)
+awaits_on : (T : Trace) (line : ℕ) (event : Event) (call page : ℕ) (origin : Origin) → IsNew T.rows event → Invariant T call
+    → (a : Awaits T call page origin)
     → disturbs call page (row_of T line event) ≡ false → Awaits (with_event T line event) call page origin
 awaits_on T line event call page origin new h a calm = go (happens T event call)
   where
@@ -174,14 +186,18 @@ awaits_on T line event call page origin new h a calm = go (happens T event call)
     replaced : (e : EndsWithPage T event call) → replaces page event ≡ true
     replaced e =
         let at_page : a.facts.page ≡ e.page =
-        listed_page call e.page a.facts.page (pending T) (distinct_standing call_change T.rows) (lookup-standing call_change call T.rows ∙ s.pending) e.there in
+        listed_page call e.page (get_at a.facts.page) (pending T) (distinct_standing call_change T.rows)
+        (lookup-standing call_change call T.rows ∙ s.pending) e.there in
         ap (λ p. replaces p event) (sym a.of_page ∙ at_page) ∙ e.replaced
 
-    taken : (m : Meets T event call a.facts) → StaysOrGives (outcome_of T a.facts m.takes.input) → Awaits (with_event T line event) call page origin
+    taken : (m : Meets T event call a.facts) → StaysOrGives (outcome_of T a.facts m.takes.input)
+        → Awaits (with_event T line event) call page origin
     taken m (inl stays) =
         awaits_by T line event call page origin a.facts m (ap (λ st. unwrap_or st a.facts.stage) stays ∙ a.at) a.of_page a.of_origin
     taken m (inr gives) =
-        let result = result_disturbs call (effects_of T event) (a.facts.page, gives.0) [] (gives_at T event call a.facts m ∙ ap (map {B = ℕ × Finish} (λ x. (a.facts.page, x))) gives.1) in
+        let result =
+        result_disturbs call (effects_of T event) (a.facts.page, gives.0) [] (gives_at T event call a.facts m
+        ∙ ap (map {B = ℕ × Finish} (λ x. (a.facts.page, x))) gives.1) in
         not_both (replaces page event) (list_any (is_result call) (effects_of T event)) calm (inr result)
 
     go : Happens T event call → Awaits (with_event T line event) call page origin
@@ -195,7 +211,8 @@ awaits_on T line event call page origin new h a calm = go (happens T event call)
         }
     go (Ends e) = not_both (replaces page event) (list_any (is_result call) (effects_of T event)) calm (inl (replaced e))
     go (Started b) =
-        let fresh : is_begun T call ≡ false = subst (λ c. is_begun T c ≡ false) b.is_call (subst (IsNew T.rows) b.is_get new).0 in
+        let fresh : is_begun T call ≡ false =
+        subst (λ c. is_begun T c ≡ false) b.is_call (is_first T event b.begun.page b.begun.call b.begun.options new b.is_event).fresh in
         let no : true ≡ false = sym s.is_taken ∙ fresh in
         absurd (cc)
     go (Took t) =
@@ -203,13 +220,14 @@ awaits_on T line event call page origin new h a calm = go (happens T event call)
         taken m (stays_or_gives (world_at T) a.facts t.input a.at)
 
 -- it awaits its token after the row that asks for it
-awaits_first : (T : Trace) (line : ℕ) (event : Event) (call provider : ℕ) (ask : AssertionFields) (cookies : List ℕ) (b : Begun) → IsNew T.rows event → Invariant T call
-    → call_at T.rows call ≡ Some b → Has (effects_of T event) (Sent call provider (asks.Assertion ask) cookies)
+awaits_first : (T : Trace) (line : ℕ) (event : Event) (kind : CallKind) (call provider : ℕ) (ask : AssertionFields) (cookies : List ℕ)
+    (b : Begun) → IsNew T.rows event → Invariant T call
+    → call_at T.rows call ≡ Some b → Has (effects_of T event) (Sent kind call provider (asks.Assertion ask) cookies)
     → (provider ≡ 0) × Awaits (with_event T line event) call b.page b.origin
-awaits_first T line event call provider ask cookies b new h began has = go (happens T event call)
+awaits_first T line event kind call provider ask cookies b new h began has = go (happens T event call)
   where
     sent : Effect
-    sent = Sent call provider (asks.Assertion ask) cookies
+    sent = Sent kind call provider (asks.Assertion ask) cookies
 
     is : asked call sent ≡ Some (provider, ask)
     is = ap (λ t. cond t (Some (provider, ask)) None) (own call)
@@ -232,20 +250,24 @@ awaits_first T line event call provider ask cookies b new h began has = go (happ
         says_one (asked call) (effects_of T event) sent (provider, ask) (a.place, made) has is
         (asks_at T event call f m ∙ ap (λ o. filter_map asks_token o.effects) a.is) in (
           ap (λ x. x.0) both ∙ place_is,
-          awaits_by T line event call b.page b.origin f m (ap (λ o. unwrap_or o.stage f.stage) a.is) (s.of_page ∙ ap (λ x. x.page) begun_is) (s.of_origin ∙ ap (λ x. x.origin) begun_is),
+          awaits_by T line event call b.page b.origin f m (ap (λ o. unwrap_or o.stage f.stage) a.is) (s.of_page
+              ∙ ap (λ x. x.page) begun_is) (s.of_origin ∙ ap (λ x. x.origin) begun_is),
         )
 
-    taken : (t : Takes T event call) → (o : Option Facts) → facts_at T call ≡ o → (provider ≡ 0) × Awaits (with_event T line event) call b.page b.origin
-    taken t None found = never (over_quiet T event call t found).asks
+    taken : (t : Takes T event call) → (o : Option Facts) → facts_at T call ≡ o
+        → (provider ≡ 0) × Awaits (with_event T line event) call b.page b.origin
+    taken t None found = never (others_ask T event call t found)
     taken t (Some f) found = turned f (record { takes = t; found = found }) (turn_at (world_at T) f t.input)
 
     begins_with : (s : Starts T event call) → (provider ≡ 0) × Awaits (with_event T line event) call b.page b.origin
     begins_with s =
-        let o = get_outcome (world_at T) s.busy s.begun.origin s.begun.options in
+        let o = first_row (world_at T) s.busy s.begun.origin s.begun.options in
         never (ap (filter_map (asked call)) s.effects
-        ∙ ap (λ c. filter_map (asked c) (outcome_effects (world_at T) (cookies_with T) s.begun.call s.begun.page o)) (sym s.is_call)
-        ∙ outcome_asks (world_at T) (cookies_with T) s.begun.call s.begun.page o
-        ∙ first_asks_none o (first_turn (world_at T) s.busy s.begun.origin s.begun.options (subst (IsNew T.rows) s.is_get new).1))
+        ∙ ap (λ c. filter_map (asked c) (outcome_effects (world_at T) (cookies_with T) (kind_asked s.begun.options) s.begun.call
+        s.begun.page o)) (sym s.is_call)
+        ∙ outcome_asks (world_at T) (cookies_with T) (kind_asked s.begun.options) s.begun.call s.begun.page o
+        ∙ first_asks_none o (first_turn (world_at T) s.busy s.begun.origin s.begun.options
+        (is_first T event s.begun.page s.begun.call s.begun.options new s.is_event).one))
 
     go : Happens T event call → (provider ≡ 0) × Awaits (with_event T line event) call b.page b.origin
     go (Left l) = never l.quiet.asks
@@ -254,21 +276,23 @@ awaits_first T line event call provider ask cookies b new h began has = go (happ
     go (Took t) = taken t (facts_at T call) refl
 
 -- it awaits its token after the rows since
-awaits_since : (header : Header) (since before : List Row) (asking : Row) (call provider : ℕ) (ask : AssertionFields) (cookies : List ℕ) (b : Begun)
-    → IsRun header (since ++ asking ∷ before) → call_at before call ≡ Some b → Has asking.effects (Sent call provider (asks.Assertion ask) cookies)
+awaits_since : (header : Header) (since before : List Row) (asking : Row) (kind : CallKind) (call provider : ℕ) (ask : AssertionFields)
+    (cookies : List ℕ) (b : Begun)
+    → IsRun header (since ++ asking ∷ before) → call_at before call ≡ Some b
+    → Has asking.effects (Sent kind call provider (asks.Assertion ask) cookies)
     → list_any (disturbs call b.page) since ≡ false
     → (provider ≡ 0) × Awaits (record { header = header; rows = since ++ asking ∷ before }) call b.page b.origin
-awaits_since header [] before asking call provider ask cookies b run began has calm =
+awaits_since header [] before asking kind call provider ask cookies b run began has calm =
     let T : Trace = record { header = header; rows = before } in
     let same = row_is T asking run.0 in
     subst (λ r. (provider ≡ 0) × Awaits (record { header = header; rows = r ∷ before }) call b.page b.origin) (sym same)
-    (awaits_first T asking.line asking.event call provider ask cookies b run.1 (invariant header before call run.2) began
-    (subst (λ es. Has es (Sent call provider (asks.Assertion ask) cookies)) run.0 has))
-awaits_since header (row ∷ since) before asking call provider ask cookies b run began has calm =
+    (awaits_first T asking.line asking.event kind call provider ask cookies b run.1 (invariant header before call run.2) began
+    (subst (λ es. Has es (Sent kind call provider (asks.Assertion ask) cookies)) run.0 has))
+awaits_since header (row ∷ since) before asking kind call provider ask cookies b run began has calm =
     let T : Trace = record { header = header; rows = since ++ asking ∷ before } in
     let same = row_is T row run.0 in
     let here : disturbs call b.page row ≡ false = or_left (disturbs call b.page row) (list_any (disturbs call b.page) since) calm in
-    let earlier = awaits_since header since before asking call provider ask cookies b run.2 began has
+    let earlier = awaits_since header since before asking kind call provider ask cookies b run.2 began has
     (or_right (disturbs call b.page row) (list_any (disturbs call b.page) since) calm) in (
       earlier.0,
       subst (λ r. Awaits (record { header = header; rows = r ∷ (since ++ asking ∷ before) }) call b.page b.origin) (sym same)
@@ -280,11 +304,14 @@ awaits_since header (row ∷ since) before asking call provider ask cookies b ru
 
 -- what a call does that awaits the token of this reply
 answer_row : (world : World) (f : Facts) (raw token : List ℕ) (p : ProviderOptions) → f.stage ≡ Asserting → provider_at 0 f.options ≡ Some p
-    → AssertionOf raw (origin_text f.origin) ≡ Ok token → input_row world f (inputs.Reply 0 kinds.Assertion raw) ≡ finishes (Token f.auto 0 token)
+    → AssertionOf raw (origin_text f.origin) ≡ Ok token
+    → input_row world f (inputs.Reply 0 kinds.Assertion raw) ≡ finishes (Token f.auto 0 token)
 answer_row world f raw token p at has reads =
-    ap (λ st. stage_reply world f st 0 kinds.Assertion raw) at ∙ ap (λ o. assertion_reply f 0 o raw) has ∙ ap (λ r. finishes (token_given f.auto 0 r)) reads
+    ap (λ st. stage_reply world f st 0 kinds.Assertion raw) at ∙ ap (λ o. assertion_reply f 0 o raw) has
+    ∙ ap (λ r. finishes (token_given f.auto 0 r)) reads
 
-answered : (T : Trace) (event : Event) (call provider page : ℕ) (origin : Origin) (raw token : List ℕ) → Invariant T call → Awaits T call page origin → provider ≡ 0
+answered : (T : Trace) (event : Event) (call provider page : ℕ) (origin : Origin) (raw token : List ℕ) → Invariant T call
+    → Awaits T call page origin → provider ≡ 0
     → event ≡ Reply call provider kinds.Assertion raw → AssertionOf raw (origin_text origin) ≡ Ok token
     → (auto : Bool) × Has (effects_of T event) (Result call page (Token auto provider token))
 answered T event call provider page origin raw token h a first is reads =
@@ -292,24 +319,28 @@ answered T event call provider page origin raw token h a first is reads =
     let s = h.stood f a.found in
     let only = only_there f.options.providers (ap (λ o. length o.providers) s.of_options ∙ s.one) in
     let comes : event ≡ Reply call 0 kinds.Assertion raw = is ∙ ap (λ p. Reply call p kinds.Assertion raw) first in
-    let does : effects_of T event ≡ Result call f.page (Token f.auto 0 token) ∷ Move call Ended ∷ [] =
+    let known : known_at T call ≡ Some (OfGet f) = is_get (known_at T call) f a.found in
+    let does : effects_of T event ≡ Result call f.page (Token f.auto 0 token) ∷ Move GetCall call Ended ∷ [] =
     ap (effects_of T) comes
-    ∙ ap (λ t. input_effects (world_at T) (cookies_with T) t call (facts_at T call) (inputs.Reply 0 kinds.Assertion raw)) s.is_taken
-    ∙ ap (λ o. outcome_effects (world_at T) (cookies_with T) call (page_of o) (call_row (world_at T) o (inputs.Reply 0 kinds.Assertion raw))) a.found
-    ∙ ap (outcome_effects (world_at T) (cookies_with T) call f.page) (answer_row (world_at T) f raw token only.0 a.at only.1 (ap (λ o. AssertionOf raw (origin_text o)) a.of_origin ∙ reads)) in (
+    ∙ ap (λ t. input_effects (world_at T) (cookies_with T) t call (known_at T call) (inputs.Reply 0 kinds.Assertion raw)) s.is_taken
+    ∙ ap (λ o. input_effects (world_at T) (cookies_with T) true call o (inputs.Reply 0 kinds.Assertion raw)) known
+    ∙ ap (outcome_effects (world_at T) (cookies_with T) GetCall call f.page)
+    (answer_row (world_at T) f raw token only.0 a.at only.1 (ap (λ o. AssertionOf raw (origin_text o)) a.of_origin ∙ reads)) in (
       f.auto,
       record {
         before = [];
-        after = Move call Ended ∷ [];
-        all = does ∙ ap (λ p. Result call p (Token f.auto 0 token) ∷ Move call Ended ∷ []) a.of_page
-            ∙ ap (λ p. Result call page (Token f.auto p token) ∷ Move call Ended ∷ []) (sym first);
+        after = Move GetCall call Ended ∷ [];
+        all = does ∙ ap (λ p. Result call p (Token f.auto 0 token) ∷ Move GetCall call Ended ∷ []) a.of_page
+            ∙ ap (λ p. Result call page (Token f.auto p token) ∷ Move GetCall call Ended ∷ []) (sym first);
       },
     )
 
 pub answered_lem : OfRuns IsAnswered
-answered_lem T run after since before row asking call provider ask cookies b raw token is has began calm is_reply reads =
+answered_lem T run after since before row asking kind call provider ask cookies b raw token is has began calm is_reply reads =
     let r = row_of_trace T after (since ++ asking ∷ before) row run is in
-    let awaits = awaits_since T.header since before asking call provider ask cookies b r.run began has calm in
-    let gives = answered (at T (since ++ asking ∷ before)) row.event call provider b.page b.origin raw token (invariant T.header (since ++ asking ∷ before) call r.run)
+    let awaits = awaits_since T.header since before asking kind call provider ask cookies b r.run began has calm in
+    let gives =
+    answered (at T (since ++ asking ∷ before)) row.event call provider b.page b.origin raw token (invariant T.header
+    (since ++ asking ∷ before) call r.run)
     awaits.1 awaits.0 is_reply reads in
     (gives.0, subst (λ es. Has es (Result call b.page (Token gives.0 provider token))) (sym r.effects) gives.1)

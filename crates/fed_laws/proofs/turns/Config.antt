@@ -1,5 +1,6 @@
 -- The configuration of a call is that of the reply that it took, and past Reading it has one.
-use Rattle.std.proofs.Common.{◌≡◌, ℕ, Bool, true, false, ◌⊎◌, inl, inr, List, [], ◌∷◌, length, Option, Some, None, Result as Answer, Ok, Err, refl, sym, ap, subst, ◌∙◌}
+use Rattle.std.proofs.Common.{◌≡◌, ℕ, Bool, true, false, ◌⊎◌, inl, inr, List, [], ◌∷◌, length, Option, Some, None, Result as Answer, Ok}
+use Rattle.std.proofs.Common.{Err, refl, sym, ap, subst, ◌∙◌}
 use Rattle.std.specs.Prelude.{option_and_then, unwrap_or, is_some, ⊤}
 use Rattle.std.specs.Option.{option_or}
 use Rattle.std.specs.List.{list_any}
@@ -19,9 +20,9 @@ use Rattle.fed_consent.specs.declared.table.input.Input.TheVariants as inputs
 use Rattle.fed_consent.specs.Consent.{Candidate, chosen}
 use Rattle.fed_call.specs.Accounts.{accounts_of}
 use Rattle.fed_call.specs.DialogRows.{chose, went_on, cancelled}
-use Rattle.fed_call.specs.Facts.{Facts, is_ignored, provider_at, with_accounts, with_choice, with_input, with_list, with_listing}
+use Rattle.fed_call.specs.Facts.{Facts, provider_at, with_accounts, with_choice, with_input, with_list, with_listing}
 use Rattle.fed_provider.specs.FirstReplies.{config_read, wellknown_of}
-use Rattle.fed_consent.specs.Outcomes.{Outcome}
+use Rattle.fed_consent.specs.Outcomes.{Outcome, is_ignored}
 use Rattle.fed_call.specs.ReadingRows.{config_reply, wellknown_reply}
 use Rattle.fed_call.specs.Row.{input_row, stage_reply}
 use Rattle.fed_laws.specs.Cause.{config_given, config_in}
@@ -29,16 +30,19 @@ use Rattle.fed_laws.proofs.turns.Only.{first_place}
 
 -- ---- what an input says of the configuration
 
-accounts_config : (world : World) (provider : ProviderOptions) (accounts : List Account) (f : Facts) → (with_accounts world provider accounts f).config ≡ f.config
+accounts_config : (world : World) (provider : ProviderOptions) (accounts : List Account) (f : Facts)
+    → (with_accounts world provider accounts f).config ≡ f.config
 accounts_config world provider [] f = refl
 accounts_config world provider (only ∷ []) f = refl
 accounts_config world provider (first ∷ second ∷ more) f = refl
 
-list_config : (world : World) (provider : ProviderOptions) (read : Answer (List Account) AccountsStep) (f : Facts) → (with_list world provider read f).config ≡ f.config
+list_config : (world : World) (provider : ProviderOptions) (read : Answer (List Account) AccountsStep) (f : Facts)
+    → (with_list world provider read f).config ≡ f.config
 list_config world provider (Err step) f = refl
 list_config world provider (Ok accounts) f = accounts_config world provider accounts f
 
-listing_config : (world : World) (raw : List ℕ) (provider : Option ProviderOptions) (f : Facts) → (with_listing world raw provider f).config ≡ f.config
+listing_config : (world : World) (raw : List ℕ) (provider : Option ProviderOptions) (f : Facts)
+    → (with_listing world raw provider f).config ≡ f.config
 listing_config world raw None f = refl
 listing_config world raw (Some provider) f = list_config world provider (accounts_of raw provider) f
 
@@ -52,7 +56,8 @@ brings_config (inputs.Reply place kinds.Config raw) = true
 brings_config _ = false
 
 -- an input that brings no configuration leaves it
-config_kept : (world : World) (ignored : Bool) (input : Input) (f : Facts) → brings_config input ≡ false → (with_input world ignored input f).config ≡ f.config
+config_kept : (world : World) (ignored : Bool) (input : Input) (f : Facts) → brings_config input ≡ false
+    → (with_input world ignored input f).config ≡ f.config
 config_kept world true input f none = refl
 config_kept world false (inputs.Reply place kinds.WellKnown raw) f none = refl
 config_kept world false (inputs.Reply place kinds.Config raw) f none = absurd (cc)
@@ -79,13 +84,15 @@ no_provider place heard (Some config) taken = absurd (cc)
 no_provider place heard None taken = absurd (cc)
 
 has_by : (f : Facts) (place : ℕ) (raw : List ℕ) (heard : Bool) (config : Option Configuration) (provider : Option ProviderOptions)
-    → provider_at place f.options ≡ provider → list_any is_ignored (config_reply place heard config (config_read raw provider)).effects ≡ false
+    → provider_at place f.options ≡ provider → list_any is_ignored (config_reply place heard config (config_read raw provider)).effects
+    ≡ false
     → HasItsProvider false (inputs.Reply place kinds.Config raw) f
 has_by f place raw heard config None is taken = no_provider place heard config taken
 has_by f place raw heard config (Some provider) is taken = (provider, is)
 
 has_at : (world : World) (f : Facts) (stage : Stage) (place : ℕ) (raw : List ℕ)
-    → list_any is_ignored (stage_reply world f stage place kinds.Config raw).effects ≡ false → HasItsProvider false (inputs.Reply place kinds.Config raw) f
+    → list_any is_ignored (stage_reply world f stage place kinds.Config raw).effects ≡ false
+    → HasItsProvider false (inputs.Reply place kinds.Config raw) f
 has_at world f Reading place raw taken = has_by f place raw f.heard f.config (provider_at place f.options) refl taken
 has_at world f Listing place raw taken = absurd (cc)
 has_at world f Mismatch place raw taken = absurd (cc)
@@ -94,33 +101,41 @@ has_at world f Prompting place raw taken = absurd (cc)
 has_at world f Asserting place raw taken = absurd (cc)
 has_at world f Ended place raw taken = absurd (cc)
 
-pub has_its_provider : (world : World) (f : Facts) (input : Input) → HasItsProvider (list_any is_ignored (input_row world f input).effects) input f
-has_its_provider world f (inputs.Reply place kinds.Config raw) = go (list_any is_ignored (stage_reply world f f.stage place kinds.Config raw).effects) refl
+pub has_its_provider : (world : World) (f : Facts) (input : Input)
+    → HasItsProvider (list_any is_ignored (input_row world f input).effects) input f
+has_its_provider world f (inputs.Reply place kinds.Config raw) =
+    go (list_any is_ignored (stage_reply world f f.stage place kinds.Config raw).effects) refl
   where
-    go : (b : Bool) → list_any is_ignored (stage_reply world f f.stage place kinds.Config raw).effects ≡ b → HasItsProvider b (inputs.Reply place kinds.Config raw) f
+    go : (b : Bool) → list_any is_ignored (stage_reply world f f.stage place kinds.Config raw).effects ≡ b
+        → HasItsProvider b (inputs.Reply place kinds.Config raw) f
     go true is = tt
     go false is = has_at world f f.stage place raw is
-has_its_provider world f (inputs.Reply place kinds.WellKnown raw) = none (list_any is_ignored (stage_reply world f f.stage place kinds.WellKnown raw).effects)
+has_its_provider world f (inputs.Reply place kinds.WellKnown raw) =
+    none (list_any is_ignored (stage_reply world f f.stage place kinds.WellKnown raw).effects)
   where
     none : (b : Bool) → HasItsProvider b (inputs.Reply place kinds.WellKnown raw) f
     none true = tt
     none false = tt
-has_its_provider world f (inputs.Reply place kinds.Accounts raw) = none (list_any is_ignored (stage_reply world f f.stage place kinds.Accounts raw).effects)
+has_its_provider world f (inputs.Reply place kinds.Accounts raw) =
+    none (list_any is_ignored (stage_reply world f f.stage place kinds.Accounts raw).effects)
   where
     none : (b : Bool) → HasItsProvider b (inputs.Reply place kinds.Accounts raw) f
     none true = tt
     none false = tt
-has_its_provider world f (inputs.Reply place kinds.Metadata raw) = none (list_any is_ignored (stage_reply world f f.stage place kinds.Metadata raw).effects)
+has_its_provider world f (inputs.Reply place kinds.Metadata raw) =
+    none (list_any is_ignored (stage_reply world f f.stage place kinds.Metadata raw).effects)
   where
     none : (b : Bool) → HasItsProvider b (inputs.Reply place kinds.Metadata raw) f
     none true = tt
     none false = tt
-has_its_provider world f (inputs.Reply place kinds.Assertion raw) = none (list_any is_ignored (stage_reply world f f.stage place kinds.Assertion raw).effects)
+has_its_provider world f (inputs.Reply place kinds.Assertion raw) =
+    none (list_any is_ignored (stage_reply world f f.stage place kinds.Assertion raw).effects)
   where
     none : (b : Bool) → HasItsProvider b (inputs.Reply place kinds.Assertion raw) f
     none true = tt
     none false = tt
-has_its_provider world f (inputs.Reply place kinds.Disconnect raw) = none (list_any is_ignored (stage_reply world f f.stage place kinds.Disconnect raw).effects)
+has_its_provider world f (inputs.Reply place kinds.Disconnect raw) =
+    none (list_any is_ignored (stage_reply world f f.stage place kinds.Disconnect raw).effects)
   where
     none : (b : Bool) → HasItsProvider b (inputs.Reply place kinds.Disconnect raw) f
     none true = tt
@@ -148,14 +163,16 @@ has_its_provider world f inputs.Resume = tt
 -- the configuration after an input of a call with one provider is that of the reply that was taken last
 pub config_told : (world : World) (ignored : Bool) (input : Input) (f : Facts) (taken : Option (List ℕ)) → length f.options.providers ≡ 1
     → HasItsProvider ignored input f → f.config ≡ option_and_then (config_in f.options 0) taken
-    → (with_input world ignored input f).config ≡ option_and_then (config_in f.options 0) (option_or (config_given 0 ignored (Some input)) taken)
+    → (with_input world ignored input f).config ≡ option_and_then (config_in f.options 0) (option_or (config_given 0 ignored (Some input))
+    taken)
 config_told world true input f taken one has is = is
 config_told world false (inputs.Reply place kinds.Config raw) f taken one has is =
     subst (λ n. option_and_then result_ok (config_read raw (provider_at n f.options))
     ≡ option_and_then (config_in f.options 0) (option_or (config_given 0 false (Some (inputs.Reply n kinds.Config raw))) taken))
     (sym (first_place f.options.providers place has.0 one has.1)) refl
 config_told world false (inputs.Reply place kinds.WellKnown raw) f taken one has is = is
-config_told world false (inputs.Reply place kinds.Accounts raw) f taken one has is = listing_config world raw (provider_at place f.options) f ∙ is
+config_told world false (inputs.Reply place kinds.Accounts raw) f taken one has is =
+    listing_config world raw (provider_at place f.options) f ∙ is
 config_told world false (inputs.Reply place kinds.Metadata raw) f taken one has is = is
 config_told world false (inputs.Reply place kinds.Assertion raw) f taken one has is = is
 config_told world false (inputs.Reply place kinds.Disconnect raw) f taken one has is = is
@@ -181,8 +198,10 @@ told world f input o = with_input world (list_any is_ignored o.effects) input f
 abbrev Keeps : World → Facts → Input → Outcome → Type 0
 Keeps world f input o = Configured (unwrap_or o.stage f.stage) (told world f input o).config
 
-wellknown_keeps : (world : World) (f : Facts) (place : ℕ) (raw : List ℕ) (heard : Bool) (config : Option Configuration) (read : Option (Answer (Unit {0}) ProviderStep))
-    → f.stage ≡ Reading → f.config ≡ config → Keeps world f (inputs.Reply place kinds.WellKnown raw) (wellknown_reply place heard config read)
+wellknown_keeps : (world : World) (f : Facts) (place : ℕ) (raw : List ℕ) (heard : Bool) (config : Option Configuration)
+    (read : Option (Answer (Unit {0}) ProviderStep))
+    → f.stage ≡ Reading → f.config ≡ config → Keeps world f (inputs.Reply place kinds.WellKnown raw) (wellknown_reply place heard config
+    read)
 wellknown_keeps world f place raw true config read at is = AtReading at
 wellknown_keeps world f place raw false config None at is = AtReading at
 wellknown_keeps world f place raw false None (Some (Err step)) at is = AtEnd refl
@@ -190,8 +209,10 @@ wellknown_keeps world f place raw false (Some config) (Some (Err step)) at is = 
 wellknown_keeps world f place raw false None (Some (Ok u)) at is = AtReading at
 wellknown_keeps world f place raw false (Some config) (Some (Ok u)) at is = HasOne (ap is_some is)
 
-config_keeps : (world : World) (f : Facts) (place : ℕ) (raw : List ℕ) (heard : Bool) (config : Option Configuration) (read : Option (Answer Configuration ProviderStep))
-    → f.stage ≡ Reading → config_read raw (provider_at place f.options) ≡ read → Keeps world f (inputs.Reply place kinds.Config raw) (config_reply place heard config read)
+config_keeps : (world : World) (f : Facts) (place : ℕ) (raw : List ℕ) (heard : Bool) (config : Option Configuration)
+    (read : Option (Answer Configuration ProviderStep))
+    → f.stage ≡ Reading → config_read raw (provider_at place f.options) ≡ read
+    → Keeps world f (inputs.Reply place kinds.Config raw) (config_reply place heard config read)
 config_keeps world f place raw heard (Some config) read at is = AtReading at
 config_keeps world f place raw heard None None at is = AtReading at
 config_keeps world f place raw false None (Some (Err step)) at is = AtEnd refl
@@ -203,7 +224,8 @@ reading_keeps : (world : World) (f : Facts) (place : ℕ) (kind : ReplyKind) (ra
     → Keeps world f (inputs.Reply place kind raw) (stage_reply world f Reading place kind raw)
 reading_keeps world f place kinds.WellKnown raw at =
     wellknown_keeps world f place raw f.heard f.config (wellknown_of world.rules raw (provider_at place f.options)) at refl
-reading_keeps world f place kinds.Config raw at = config_keeps world f place raw f.heard f.config (config_read raw (provider_at place f.options)) at refl
+reading_keeps world f place kinds.Config raw at =
+    config_keeps world f place raw f.heard f.config (config_read raw (provider_at place f.options)) at refl
 reading_keeps world f place kinds.Accounts raw at = AtReading at
 reading_keeps world f place kinds.Metadata raw at = AtReading at
 reading_keeps world f place kinds.Assertion raw at = AtReading at
@@ -220,7 +242,8 @@ later_config world f Prompting place raw later = refl
 later_config world f Asserting place raw later = refl
 later_config world f Ended place raw later = refl
 
-later_keeps : (world : World) (f : Facts) (stage : Stage) (place : ℕ) (kind : ReplyKind) (raw : List ℕ) → (stage ≡ Reading → ⊥) → is_some f.config ≡ true
+later_keeps : (world : World) (f : Facts) (stage : Stage) (place : ℕ) (kind : ReplyKind) (raw : List ℕ) → (stage ≡ Reading → ⊥)
+    → is_some f.config ≡ true
     → Keeps world f (inputs.Reply place kind raw) (stage_reply world f stage place kind raw)
 later_keeps world f stage place kinds.Config raw later some = HasOne (ap is_some (later_config world f stage place raw later) ∙ some)
 later_keeps world f stage place kinds.WellKnown raw later some = HasOne (ap is_some (config_kept world _ _ f refl) ∙ some)
@@ -243,7 +266,9 @@ reply_keeps : (world : World) (f : Facts) (place : ℕ) (kind : ReplyKind) (raw 
 reply_keeps world f place kind raw h = go (is_reading f.stage) h
   where
     early : f.stage ≡ Reading → Keeps world f (inputs.Reply place kind raw) (stage_reply world f f.stage place kind raw)
-    early at = subst (λ st. Keeps world f (inputs.Reply place kind raw) (stage_reply world f st place kind raw)) (sym at) (reading_keeps world f place kind raw at)
+    early at =
+        subst (λ st. Keeps world f (inputs.Reply place kind raw) (stage_reply world f st place kind raw)) (sym at)
+        (reading_keeps world f place kind raw at)
 
     go : (f.stage ≡ Reading) ⊎ (f.stage ≡ Reading → ⊥) → (f.stage ≡ Reading) ⊎ (is_some f.config ≡ true)
         → Keeps world f (inputs.Reply place kind raw) (stage_reply world f f.stage place kind raw)
@@ -254,10 +279,12 @@ reply_keeps world f place kind raw h = go (is_reading f.stage) h
 -- another input brings no configuration
 other_keeps : (world : World) (f : Facts) (input : Input) (o : Stage → Outcome) → brings_config input ≡ false → (o Reading).stage ≡ None
     → (f.stage ≡ Reading) ⊎ (is_some f.config ≡ true) → Keeps world f input (o f.stage)
-other_keeps world f input o none still (inl at) = AtReading (ap (λ st. unwrap_or (o st).stage f.stage) at ∙ ap (λ s. unwrap_or s f.stage) still ∙ at)
+other_keeps world f input o none still (inl at) =
+    AtReading (ap (λ st. unwrap_or (o st).stage f.stage) at ∙ ap (λ s. unwrap_or s f.stage) still ∙ at)
 other_keeps world f input o none still (inr some) = HasOne (ap is_some (config_kept world _ input f none) ∙ some)
 
-pub keeps_config : (world : World) (f : Facts) (input : Input) → (f.stage ≡ Reading) ⊎ (is_some f.config ≡ true) → Keeps world f input (input_row world f input)
+pub keeps_config : (world : World) (f : Facts) (input : Input) → (f.stage ≡ Reading) ⊎ (is_some f.config ≡ true)
+    → Keeps world f input (input_row world f input)
 keeps_config world f (inputs.Reply place kind raw) h = reply_keeps world f place kind raw h
 keeps_config world f (inputs.Choose place id) h = other_keeps world f (inputs.Choose place id) (λ st. chose world f st place id) refl refl h
 keeps_config world f inputs.GoOn h = other_keeps world f inputs.GoOn (λ st. went_on f st) refl refl h

@@ -4,7 +4,8 @@ use Rattle.std.specs.Prelude.{slice_get}
 use Rattle.fed_origin.specs.declared.options.ProviderOptions.{ProviderOptions}
 
 -- it stands at the first place
-pub first_place : (providers : List ProviderOptions) (place : ℕ) (provider : ProviderOptions) → length providers ≡ 1 → slice_get providers place ≡ Some provider → place ≡ 0
+pub first_place : (providers : List ProviderOptions) (place : ℕ) (provider : ProviderOptions) → length providers ≡ 1
+    → slice_get providers place ≡ Some provider → place ≡ 0
 first_place [] place provider one h = absurd (omega (arith, one))
 first_place (p ∷ q ∷ more) place provider one h = absurd (omega (arith, one))
 first_place (p ∷ []) zero provider one h = refl

@@ -1,6 +1,7 @@
 -- A call at a dialog stays at one, asks for a token, or gives its page a result.
 use Rattle.fed_call.specs.AssertingRows.{asserts}
-use Rattle.fed_call.specs.DialogRows.{agreed_to, chose, choice, settles, goes_on, went_on, cancelled, prompting_reply, metadata_reply, links_shown}
+use Rattle.fed_call.specs.DialogRows.{agreed_to, chose, choice, settles, goes_on, went_on, cancelled, prompting_reply, metadata_reply}
+use Rattle.fed_call.specs.DialogRows.{links_shown}
 use Rattle.fed_call.specs.Facts.{Facts, provider_at}
 use Rattle.fed_consent.specs.Outcomes.{Outcome, only_place}
 use Rattle.fed_call.specs.Row.{stage_reply, input_row}
@@ -35,17 +36,20 @@ pub data StaysOpen (f : Facts) (o : Outcome) : Type 0 where
 not_open : {A : Type 0} (f : Facts) (stage : Stage) → f.stage ≡ stage → is_open stage ≡ false → is_open f.stage ≡ true → A
 not_open f stage at closed opened = let no : false ≡ true = sym closed ∙ sym (ap is_open at) ∙ opened in absurd (cc)
 
-open_links : (world : World) (f : Facts) (place : ℕ) (picked : Option Candidate) (links : PolicyLinks) → is_open f.stage ≡ true → StaysOpen f (links_shown world f place picked links)
+open_links : (world : World) (f : Facts) (place : ℕ) (picked : Option Candidate) (links : PolicyLinks) → is_open f.stage ≡ true
+    → StaysOpen f (links_shown world f place picked links)
 open_links world f place None links opened = Open opened
 open_links world f place (Some candidate) links opened = Open opened
 
-open_metadata : (world : World) (f : Facts) (waits : Bool) (place : ℕ) (provider : Option ProviderOptions) (raw : List ℕ) → is_open f.stage ≡ true
+open_metadata : (world : World) (f : Facts) (waits : Bool) (place : ℕ) (provider : Option ProviderOptions) (raw : List ℕ)
+    → is_open f.stage ≡ true
     → StaysOpen f (metadata_reply world f waits place provider raw)
 open_metadata world f false place provider raw opened = Open opened
 open_metadata world f true place None raw opened = Open opened
 open_metadata world f true place (Some provider) raw opened = open_links world f place f.picked (MetadataOf raw) opened
 
-open_prompting : (world : World) (f : Facts) (place : ℕ) (provider : Option ProviderOptions) (kind : ReplyKind) (raw : List ℕ) → is_open f.stage ≡ true
+open_prompting : (world : World) (f : Facts) (place : ℕ) (provider : Option ProviderOptions) (kind : ReplyKind) (raw : List ℕ)
+    → is_open f.stage ≡ true
     → StaysOpen f (prompting_reply world f place provider kind raw)
 open_prompting world f place provider kinds.Metadata raw opened = open_metadata world f f.waits place provider raw opened
 open_prompting world f place provider kinds.WellKnown raw opened = Open opened
@@ -54,7 +58,8 @@ open_prompting world f place provider kinds.Accounts raw opened = Open opened
 open_prompting world f place provider kinds.Assertion raw opened = Open opened
 open_prompting world f place provider kinds.Disconnect raw opened = Open opened
 
-open_reply : (world : World) (f : Facts) (stage : Stage) → f.stage ≡ stage → (place : ℕ) (kind : ReplyKind) (raw : List ℕ) → is_open f.stage ≡ true
+open_reply : (world : World) (f : Facts) (stage : Stage) → f.stage ≡ stage → (place : ℕ) (kind : ReplyKind) (raw : List ℕ)
+    → is_open f.stage ≡ true
     → StaysOpen f (stage_reply world f stage place kind raw)
 open_reply world f Choosing at place kind raw opened = Open opened
 open_reply world f Prompting at place kind raw opened = open_prompting world f place (provider_at place f.options) kind raw opened
@@ -64,12 +69,14 @@ open_reply world f Mismatch at place kind raw opened = not_open f Mismatch at re
 open_reply world f Asserting at place kind raw opened = not_open f Asserting at refl opened
 open_reply world f Ended at place kind raw opened = not_open f Ended at refl opened
 
-open_asserts : (f : Facts) (place : ℕ) (provider : ProviderOptions) (config : Option Configuration) (agreed : Agreement) → is_some config ≡ true
+open_asserts : (f : Facts) (place : ℕ) (provider : ProviderOptions) (config : Option Configuration) (agreed : Agreement)
+    → is_some config ≡ true
     → StaysOpen f (asserts f place (Some provider) config agreed)
 open_asserts f place provider None agreed some = absurd (cc)
 open_asserts f place provider (Some config) agreed some = AsksNow _ [] refl
 
-open_choice : (world : World) (f : Facts) (place : ℕ) (provider : Option ProviderOptions) (candidate : Option Candidate) → is_open f.stage ≡ true → is_some f.config ≡ true
+open_choice : (world : World) (f : Facts) (place : ℕ) (provider : Option ProviderOptions) (candidate : Option Candidate)
+    → is_open f.stage ≡ true → is_some f.config ≡ true
     → StaysOpen f (choice world f place provider candidate)
 open_choice world f place None candidate opened some = Open opened
 open_choice world f place (Some provider) None opened some = Open opened
@@ -79,9 +86,11 @@ open_choice world f place (Some provider) (Some candidate) opened some = go cand
     go true = open_asserts f place provider f.config (agreed_to f place candidate Chosen false) some
     go false = Open refl
 
-open_chose : (world : World) (f : Facts) (stage : Stage) → f.stage ≡ stage → (place : ℕ) (id : List ℕ) → is_open f.stage ≡ true → (stage ≡ Choosing → is_some f.config ≡ true)
+open_chose : (world : World) (f : Facts) (stage : Stage) → f.stage ≡ stage → (place : ℕ) (id : List ℕ) → is_open f.stage ≡ true
+    → (stage ≡ Choosing → is_some f.config ≡ true)
     → StaysOpen f (chose world f stage place id)
-open_chose world f Choosing at place id opened some = open_choice world f place (provider_at place f.options) (option_and_then (chosen id) f.listed) opened (some refl)
+open_chose world f Choosing at place id opened some =
+    open_choice world f place (provider_at place f.options) (option_and_then (chosen id) f.listed) opened (some refl)
 open_chose world f Prompting at place id opened some = Open opened
 open_chose world f Reading at place id opened some = not_open f Reading at refl opened
 open_chose world f Listing at place id opened some = not_open f Listing at refl opened
@@ -89,7 +98,8 @@ open_chose world f Mismatch at place id opened some = not_open f Mismatch at ref
 open_chose world f Asserting at place id opened some = not_open f Asserting at refl opened
 open_chose world f Ended at place id opened some = not_open f Ended at refl opened
 
-open_goes_asserts : (f : Facts) (place : ℕ) (provider : Option ProviderOptions) (config : Option Configuration) (agreed : Agreement) → is_open f.stage ≡ true
+open_goes_asserts : (f : Facts) (place : ℕ) (provider : Option ProviderOptions) (config : Option Configuration) (agreed : Agreement)
+    → is_open f.stage ≡ true
     → StaysOpen f (asserts f place provider config agreed)
 open_goes_asserts f place None config agreed opened = Open opened
 open_goes_asserts f place (Some provider) None agreed opened = Open opened
@@ -98,7 +108,9 @@ open_goes_asserts f place (Some provider) (Some config) agreed opened = AsksNow 
 open_goes_on : (f : Facts) (waits : Bool) (picked : Option Candidate) → is_open f.stage ≡ true → StaysOpen f (goes_on f waits picked)
 open_goes_on f true picked opened = Open opened
 open_goes_on f false None opened = Open opened
-open_goes_on f false (Some candidate) opened = open_goes_asserts f only_place (provider_at only_place f.options) f.config (agreed_to f only_place candidate Prompted (not candidate.connected)) opened
+open_goes_on f false (Some candidate) opened =
+    open_goes_asserts f only_place (provider_at only_place f.options) f.config
+    (agreed_to f only_place candidate Prompted (not candidate.connected)) opened
 
 open_went_on : (f : Facts) (stage : Stage) → f.stage ≡ stage → is_open f.stage ≡ true → StaysOpen f (went_on f stage)
 open_went_on f Prompting at opened = open_goes_on f f.waits f.picked opened
@@ -118,7 +130,8 @@ open_cancelled f Mismatch at opened = not_open f Mismatch at refl opened
 open_cancelled f Asserting at opened = not_open f Asserting at refl opened
 open_cancelled f Ended at opened = not_open f Ended at refl opened
 
-pub open_at : (world : World) (f : Facts) (input : Input) → is_open f.stage ≡ true → (f.stage ≡ Choosing → is_some f.config ≡ true) → StaysOpen f (input_row world f input)
+pub open_at : (world : World) (f : Facts) (input : Input) → is_open f.stage ≡ true → (f.stage ≡ Choosing → is_some f.config ≡ true)
+    → StaysOpen f (input_row world f input)
 open_at world f (inputs.Reply place kind raw) opened some = open_reply world f f.stage refl place kind raw opened
 open_at world f (inputs.Choose place id) opened some = open_chose world f f.stage refl place id opened some
 open_at world f inputs.GoOn opened some = open_went_on f f.stage refl opened
@@ -135,13 +148,15 @@ links_ready : (world : World) (f : Facts) (raw : List ℕ) (picked : Option Cand
 links_ready world f raw None links = refl
 links_ready world f raw (Some candidate) links = refl
 
-pub metadata_ready : (world : World) (f : Facts) (raw : List ℕ) (provider : ProviderOptions) → f.stage ≡ Prompting → provider_at 0 f.options ≡ Some provider
+pub metadata_ready : (world : World) (f : Facts) (raw : List ℕ) (provider : ProviderOptions) → f.stage ≡ Prompting
+    → provider_at 0 f.options ≡ Some provider
     → (told world f (inputs.Reply 0 kinds.Metadata raw) (input_row world f (inputs.Reply 0 kinds.Metadata raw))).waits ≡ false
 metadata_ready world f raw provider at has =
     ap (λ st. (told world f (inputs.Reply 0 kinds.Metadata raw) (stage_reply world f st 0 kinds.Metadata raw)).waits) at
     ∙ ap (λ p. (told world f (inputs.Reply 0 kinds.Metadata raw) (metadata_reply world f f.waits 0 p raw)).waits) has
     ∙ go f.waits refl
   where
-    go : (waits : Bool) → f.waits ≡ waits → (told world f (inputs.Reply 0 kinds.Metadata raw) (metadata_reply world f waits 0 (Some provider) raw)).waits ≡ false
+    go : (waits : Bool) → f.waits ≡ waits → (told world f (inputs.Reply 0 kinds.Metadata raw)
+        (metadata_reply world f waits 0 (Some provider) raw)).waits ≡ false
     go false is = is
     go true is = links_ready world f raw f.picked (MetadataOf raw)

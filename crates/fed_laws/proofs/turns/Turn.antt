@@ -31,12 +31,14 @@ use Rattle.fed_consent.specs.declared.table.why.Why.TheVariants.{NotWaited, NotO
 use Rattle.fed_consent.specs.Consent.{Agreement, Candidate, Listed, assertion_fields, chosen, is_auto}
 use Rattle.fed_call.specs.Accounts.{accounts_of, candidate_of, listed_of}
 use Rattle.fed_call.specs.AssertingRows.{asserts, token_given, assertion_reply, asserting_reply}
-use Rattle.fed_call.specs.DialogRows.{agreed_to, chose, choice, settles, goes_on, went_on, cancelled, prompting_reply, metadata_reply, links_shown}
+use Rattle.fed_call.specs.DialogRows.{agreed_to, chose, choice, settles, goes_on, went_on, cancelled, prompting_reply, metadata_reply}
+use Rattle.fed_call.specs.DialogRows.{links_shown}
 use Rattle.fed_call.specs.Facts.{Facts, provider_at, metadata_endpoint}
 use Rattle.fed_provider.specs.FirstReplies.{config_read, wellknown_of}
 use Rattle.fed_consent.specs.Outcomes.{Outcome, finishes, fails, ignored, stays, moves, after, only_place}
 use Rattle.fed_consent.specs.Failures.{plain, provider_failure, accounts_failure}
-use Rattle.fed_call.specs.ListingRows.{listing_reply, by_accounts, offers, prompt_effect, prompt_dialog, choice_dialog, by_mismatch, is_mismatch, site_of}
+use Rattle.fed_call.specs.ListingRows.{listing_reply, by_accounts, offers, prompt_effect, prompt_dialog, choice_dialog, by_mismatch}
+use Rattle.fed_call.specs.ListingRows.{is_mismatch, site_of}
 use Rattle.fed_call.specs.ReadingRows.{reading_reply, wellknown_reply, config_reply, asks_accounts}
 use Rattle.fed_call.specs.Row.{stage_reply, input_row}
 use Rattle.fed_origin.specs.declared.stage.ReplyKind.TheVariants as kinds
@@ -54,9 +56,11 @@ disclosed _ candidate = false
 
 -- the user's word by which a call asks for a token
 pub data Word (f : Facts) (input : Input) (candidate : Candidate) (provider : ProviderOptions) : Type 0 where
-  Chose : (place : ℕ) (id : List ℕ) (listed : Listed) → f.stage ≡ Choosing → input ≡ inputs.Choose place id → provider_at place f.options ≡ Some provider
+  Chose : (place : ℕ) (id : List ℕ) (listed : Listed) → f.stage ≡ Choosing → input ≡ inputs.Choose place id
+      → provider_at place f.options ≡ Some provider
       → f.listed ≡ Some listed → chosen id listed ≡ Some candidate → candidate.connected ≡ true → Word f input candidate provider
-  WentOn : f.stage ≡ Prompting → input ≡ inputs.GoOn → provider_at only_place f.options ≡ Some provider → f.waits ≡ false → f.picked ≡ Some candidate
+  WentOn : f.stage ≡ Prompting → input ≡ inputs.GoOn → provider_at only_place f.options ≡ Some provider → f.waits ≡ false
+      → f.picked ≡ Some candidate
       → Word f input candidate provider
 
 pub record AsksToken (f : Facts) (input : Input) (o : Outcome) : Type 0 where
@@ -92,9 +96,11 @@ IfToken f input (ProviderError code url) = ⊤
 
 pub data Turn (f : Facts) (input : Input) (o : Outcome) : Type 0 where
   Asks : AsksToken f input o → Turn f input o
-  Gives : (finish : Finish) → o.stage ≡ Some Ended → filter_map asks_token o.effects ≡ [] → filter_map finish_of o.effects ≡ finish ∷ [] → IfToken f input finish
+  Gives : (finish : Finish) → o.stage ≡ Some Ended → filter_map asks_token o.effects ≡ [] → filter_map finish_of o.effects ≡ finish ∷ []
+      → IfToken f input finish
       → Turn f input o
-  Goes : filter_map asks_token o.effects ≡ [] → filter_map finish_of o.effects ≡ [] → (unwrap_or o.stage f.stage ≡ Asserting → f.stage ≡ Asserting) → Turn f input o
+  Goes : filter_map asks_token o.effects ≡ [] → filter_map finish_of o.effects ≡ []
+      → (unwrap_or o.stage f.stage ≡ Asserting → f.stage ≡ Asserting) → Turn f input o
 
 -- ---- by the kind of outcome
 
@@ -108,22 +114,26 @@ turn_fails : (f : Facts) (input : Input) (failure : Failure) → Turn f input (f
 turn_fails f input failure = Gives (Failed failure) refl refl refl tt
 
 -- an effect in front that neither asks nor gives
-turn_after : (f : Facts) (input : Input) (effect : CallEffect) (failure : Failure) → asks_token effect ≡ None → finish_of effect ≡ None → Turn f input (after effect (fails failure))
+turn_after : (f : Facts) (input : Input) (effect : CallEffect) (failure : Failure) → asks_token effect ≡ None → finish_of effect ≡ None
+    → Turn f input (after effect (fails failure))
 turn_after f input effect failure asks gives =
     Gives (Failed failure) refl (ap (λ o. cons_option o []) asks) (ap (λ o. cons_option o (Failed failure ∷ [])) gives) tt
 
-turn_moves : (f : Facts) (input : Input) (stage : Stage) (effect : CallEffect) → asks_token effect ≡ None → finish_of effect ≡ None → (stage ≡ Asserting → ⊥)
+turn_moves : (f : Facts) (input : Input) (stage : Stage) (effect : CallEffect) → asks_token effect ≡ None → finish_of effect ≡ None
+    → (stage ≡ Asserting → ⊥)
     → Turn f input (moves stage effect)
 turn_moves f input stage effect asks gives other =
     Goes (ap (λ o. cons_option o []) asks) (ap (λ o. cons_option o []) gives) (λ h. absurd (other h))
 
-turn_moves_after : (f : Facts) (input : Input) (first effect : CallEffect) (stage : Stage) → asks_token first ≡ None → finish_of first ≡ None
+turn_moves_after : (f : Facts) (input : Input) (first effect : CallEffect) (stage : Stage) → asks_token first ≡ None
+    → finish_of first ≡ None
     → asks_token effect ≡ None → finish_of effect ≡ None → (stage ≡ Asserting → ⊥) → Turn f input (after first (moves stage effect))
 turn_moves_after f input first effect stage a g asks gives other =
     Goes (ap (λ o. cons_option o (filter_map asks_token (effect ∷ []))) a ∙ ap (λ o. cons_option o []) asks)
     (ap (λ o. cons_option o (filter_map finish_of (effect ∷ []))) g ∙ ap (λ o. cons_option o []) gives) (λ h. absurd (other h))
 
-turn_stays_after : (f : Facts) (input : Input) (first : CallEffect) → asks_token first ≡ None → finish_of first ≡ None → Turn f input (after first stays)
+turn_stays_after : (f : Facts) (input : Input) (first : CallEffect) → asks_token first ≡ None → finish_of first ≡ None
+    → Turn f input (after first stays)
 turn_stays_after f input first a g = Goes (ap (λ o. cons_option o []) a) (ap (λ o. cons_option o []) g) (λ h. h)
 
 not_listing : Listing ≡ Asserting → ⊥
@@ -143,7 +153,8 @@ not_prompting h = cc
 turn_asks_accounts : (f : Facts) (input : Input) (place : ℕ) (config : Configuration) → Turn f input (asks_accounts place config)
 turn_asks_accounts f input place config = turn_moves f input Listing (does.Send place (asks.Accounts config.accounts)) refl refl not_listing
 
-turn_wellknown : (f : Facts) (input : Input) (place : ℕ) (heard : Bool) (config : Option Configuration) (read : Option (Answer (Unit {0}) ProviderStep))
+turn_wellknown : (f : Facts) (input : Input) (place : ℕ) (heard : Bool) (config : Option Configuration)
+    (read : Option (Answer (Unit {0}) ProviderStep))
     → Turn f input (wellknown_reply place heard config read)
 turn_wellknown f input place true config read = turn_ignored f input NotWaited
 turn_wellknown f input place false config None = turn_ignored f input NotWaited
@@ -152,7 +163,8 @@ turn_wellknown f input place false (Some config) (Some (Err step)) = turn_fails 
 turn_wellknown f input place false None (Some (Ok u)) = turn_stays f input
 turn_wellknown f input place false (Some config) (Some (Ok u)) = turn_asks_accounts f input place config
 
-turn_config : (f : Facts) (input : Input) (place : ℕ) (heard : Bool) (config : Option Configuration) (read : Option (Answer Configuration ProviderStep))
+turn_config : (f : Facts) (input : Input) (place : ℕ) (heard : Bool) (config : Option Configuration)
+    (read : Option (Answer Configuration ProviderStep))
     → Turn f input (config_reply place heard config read)
 turn_config f input place heard (Some config) read = turn_ignored f input NotWaited
 turn_config f input place heard None None = turn_ignored f input NotWaited
@@ -163,7 +175,8 @@ turn_config f input place true None (Some (Ok config)) = turn_asks_accounts f in
 
 turn_reading : (world : World) (f : Facts) (input : Input) (place : ℕ) (provider : Option ProviderOptions) (kind : ReplyKind) (raw : List ℕ)
     → Turn f input (reading_reply world.rules f.heard f.config place provider kind raw)
-turn_reading world f input place provider kinds.WellKnown raw = turn_wellknown f input place f.heard f.config (wellknown_of world.rules raw provider)
+turn_reading world f input place provider kinds.WellKnown raw =
+    turn_wellknown f input place f.heard f.config (wellknown_of world.rules raw provider)
 turn_reading world f input place provider kinds.Config raw = turn_config f input place f.heard f.config (config_read raw provider)
 turn_reading world f input place provider kinds.Accounts raw = turn_ignored f input NotWaited
 turn_reading world f input place provider kinds.Metadata raw = turn_ignored f input NotWaited
@@ -172,36 +185,43 @@ turn_reading world f input place provider kinds.Disconnect raw = turn_ignored f 
 
 -- ---- in Listing
 
-turn_refused : (f : Facts) (input : Input) (first : CallEffect) (place : ℕ) (site : List ℕ) (failure : Failure) (mismatch : Bool) → asks_token first ≡ None → finish_of first ≡ None
+turn_refused : (f : Facts) (input : Input) (first : CallEffect) (place : ℕ) (site : List ℕ) (failure : Failure) (mismatch : Bool)
+    → asks_token first ≡ None → finish_of first ≡ None
     → Turn f input (after first (by_mismatch place site failure mismatch))
 turn_refused f input first place site failure true a g = turn_moves_after f input first _ Mismatch a g refl refl not_mismatch
 turn_refused f input first place site failure false a g = turn_after f input first failure a g
 
 -- what comes first of a prompt asks for no token, and gives nothing
-pub prompt_asks_none : (world : World) (f : Facts) (place : ℕ) (provider : ProviderOptions) (candidate : Candidate) (connected : Bool) (endpoint : Option Parts)
+pub prompt_asks_none : (world : World) (f : Facts) (place : ℕ) (provider : ProviderOptions) (candidate : Candidate) (connected : Bool)
+    (endpoint : Option Parts)
     → asks_token (prompt_effect world f place provider candidate connected endpoint) ≡ None
 prompt_asks_none world f place provider candidate true endpoint = refl
 prompt_asks_none world f place provider candidate false None = refl
 prompt_asks_none world f place provider candidate false (Some to) = refl
 
-pub prompt_gives_none : (world : World) (f : Facts) (place : ℕ) (provider : ProviderOptions) (candidate : Candidate) (connected : Bool) (endpoint : Option Parts)
+pub prompt_gives_none : (world : World) (f : Facts) (place : ℕ) (provider : ProviderOptions) (candidate : Candidate) (connected : Bool)
+    (endpoint : Option Parts)
     → finish_of (prompt_effect world f place provider candidate connected endpoint) ≡ None
 prompt_gives_none world f place provider candidate true endpoint = refl
 prompt_gives_none world f place provider candidate false None = refl
 prompt_gives_none world f place provider candidate false (Some to) = refl
 
-turn_offers : (world : World) (f : Facts) (input : Input) (place : ℕ) (provider : ProviderOptions) (first : CallEffect) (accounts : List Account) → asks_token first ≡ None → finish_of first ≡ None
+turn_offers : (world : World) (f : Facts) (input : Input) (place : ℕ) (provider : ProviderOptions) (first : CallEffect)
+    (accounts : List Account) → asks_token first ≡ None → finish_of first ≡ None
     → Turn f input (after first (offers world f place provider accounts))
 turn_offers world f input place provider first [] a g = turn_stays_after f input first a g
 turn_offers world f input place provider first (only ∷ []) a g =
     let candidate = candidate_of world f.origin provider only in
-    turn_moves_after f input first (prompt_effect world f place provider candidate candidate.connected (metadata_endpoint f.config)) Prompting a g
+    turn_moves_after f input first (prompt_effect world f place provider candidate candidate.connected (metadata_endpoint f.config))
+    Prompting a g
     (prompt_asks_none world f place provider candidate candidate.connected (metadata_endpoint f.config))
     (prompt_gives_none world f place provider candidate candidate.connected (metadata_endpoint f.config)) not_prompting
 turn_offers world f input place provider first (one ∷ two ∷ more) a g =
-    turn_moves_after f input first (choice_dialog world f place (listed_of world f.origin provider (one ∷ two ∷ more))) Choosing a g refl refl not_choosing
+    turn_moves_after f input first (choice_dialog world f place (listed_of world f.origin provider (one ∷ two ∷ more))) Choosing a g refl
+    refl not_choosing
 
-turn_accounts : (world : World) (f : Facts) (input : Input) (place : ℕ) (provider : ProviderOptions) (read : Answer (List Account) AccountsStep)
+turn_accounts : (world : World) (f : Facts) (input : Input) (place : ℕ) (provider : ProviderOptions)
+    (read : Answer (List Account) AccountsStep)
     → Turn f input (by_accounts world f place provider read)
 turn_accounts world f input place provider (Err step) =
     turn_refused f input _ place (site_of world f.origin) (accounts_failure step)
@@ -220,7 +240,8 @@ turn_listing world f input place provider kinds.Disconnect raw = turn_ignored f 
 
 -- ---- in Prompting
 
-turn_links : (world : World) (f : Facts) (input : Input) (place : ℕ) (picked : Option Candidate) (links : PolicyLinks) → Turn f input (links_shown world f place picked links)
+turn_links : (world : World) (f : Facts) (input : Input) (place : ℕ) (picked : Option Candidate) (links : PolicyLinks)
+    → Turn f input (links_shown world f place picked links)
 turn_links world f input place None links = turn_stays f input
 turn_links world f input place (Some candidate) links = Goes refl refl (λ h. h)
 
@@ -230,7 +251,8 @@ turn_metadata world f input false place provider raw = turn_ignored f input NotW
 turn_metadata world f input true place None raw = turn_ignored f input NotWaited
 turn_metadata world f input true place (Some provider) raw = turn_links world f input place f.picked (MetadataOf raw)
 
-turn_prompting : (world : World) (f : Facts) (input : Input) (place : ℕ) (provider : Option ProviderOptions) (kind : ReplyKind) (raw : List ℕ)
+turn_prompting : (world : World) (f : Facts) (input : Input) (place : ℕ) (provider : Option ProviderOptions) (kind : ReplyKind)
+    (raw : List ℕ)
     → Turn f input (prompting_reply world f place provider kind raw)
 turn_prompting world f input place provider kinds.Metadata raw = turn_metadata world f input f.waits place provider raw
 turn_prompting world f input place provider kinds.WellKnown raw = turn_ignored f input NotWaited
@@ -241,18 +263,30 @@ turn_prompting world f input place provider kinds.Disconnect raw = turn_ignored 
 
 -- ---- in Asserting
 
-turn_token : (f : Facts) (place : ℕ) (raw : List ℕ) (provider : ProviderOptions) → f.stage ≡ Asserting → provider_at place f.options ≡ Some provider
+turn_token : (f : Facts) (place : ℕ) (raw : List ℕ) (provider : ProviderOptions) → f.stage ≡ Asserting
+    → provider_at place f.options ≡ Some provider
     → (read : Answer (List ℕ) TokenStep) → AssertionOf raw (origin_text f.origin) ≡ read
     → Turn f (inputs.Reply place kinds.Assertion raw) (finishes (token_given f.auto place read))
 turn_token f place raw provider at has (Ok token) reads =
     Gives (Token f.auto place token) refl refl refl
-    (record { asserting = at; place = place; is_from = refl; raw = raw; is_reply = refl; provider = provider; has_provider = has; reads = reads })
+    (record {
+      asserting = at;
+      place = place;
+      is_from = refl;
+      raw = raw;
+      is_reply = refl;
+      provider = provider;
+      has_provider = has;
+      reads =
+          reads;
+    })
 turn_token f place raw provider at has (Err (token_steps.Reply s)) reads = Gives _ refl refl refl tt
 turn_token f place raw provider at has (Err token_steps.Cors) reads = Gives _ refl refl refl tt
 turn_token f place raw provider at has (Err token_steps.Shape) reads = Gives _ refl refl refl tt
 turn_token f place raw provider at has (Err (token_steps.ProviderError code url)) reads = Gives _ refl refl refl tt
 
-turn_assertion : (f : Facts) (place : ℕ) (raw : List ℕ) → f.stage ≡ Asserting → (provider : Option ProviderOptions) → provider_at place f.options ≡ provider
+turn_assertion : (f : Facts) (place : ℕ) (raw : List ℕ) → f.stage ≡ Asserting → (provider : Option ProviderOptions)
+    → provider_at place f.options ≡ provider
     → Turn f (inputs.Reply place kinds.Assertion raw) (assertion_reply f place provider raw)
 turn_assertion f place raw at None has = turn_ignored f _ NotWaited
 turn_assertion f place raw at (Some provider) has = turn_token f place raw provider at has (AssertionOf raw (origin_text f.origin)) refl
@@ -279,9 +313,11 @@ turn_reply world f Ended at place kind raw = turn_ignored f _ CallEnded
 -- ---- the user's words
 
 -- the token is asked for, where the call has its configuration
-turn_asserts : (f : Facts) (input : Input) (place : ℕ) (provider : ProviderOptions) (candidate : Candidate) (manner : Manner) (disclosure : Bool) → is_auto manner ≡ false → disclosure ≡ disclosed input candidate → Word f input candidate provider
+turn_asserts : (f : Facts) (input : Input) (place : ℕ) (provider : ProviderOptions) (candidate : Candidate) (manner : Manner)
+    (disclosure : Bool) → is_auto manner ≡ false → disclosure ≡ disclosed input candidate → Word f input candidate provider
     → provider_at place f.options ≡ Some provider
-    → (config : Option Configuration) → f.config ≡ config → Turn f input (asserts f place (Some provider) config (agreed_to f place candidate manner disclosure))
+    → (config : Option Configuration) → f.config ≡ config
+    → Turn f input (asserts f place (Some provider) config (agreed_to f place candidate manner disclosure))
 turn_asserts f input place provider candidate manner disclosure user told word has None configured = turn_stays f input
 turn_asserts f input place provider candidate manner disclosure user told word has (Some config) configured =
     Asks (record {
@@ -299,17 +335,21 @@ turn_asserts f input place provider candidate manner disclosure user told word h
       is = refl;
     })
 
-turn_settles : (world : World) (f : Facts) (place : ℕ) (id : List ℕ) (listed : Listed) (provider : ProviderOptions) (candidate : Candidate) → f.stage ≡ Choosing
-    → provider_at place f.options ≡ Some provider → f.listed ≡ Some listed → chosen id listed ≡ Some candidate → (connected : Bool) → candidate.connected ≡ connected
+turn_settles : (world : World) (f : Facts) (place : ℕ) (id : List ℕ) (listed : Listed) (provider : ProviderOptions) (candidate : Candidate)
+    → f.stage ≡ Choosing
+    → provider_at place f.options ≡ Some provider → f.listed ≡ Some listed → chosen id listed ≡ Some candidate → (connected : Bool)
+    → candidate.connected ≡ connected
     → Turn f (inputs.Choose place id) (settles world f place provider candidate connected)
 turn_settles world f place id listed provider candidate at has lists is true connected =
-    turn_asserts f _ place provider candidate Chosen false refl refl (Chose place id listed at refl has lists is connected) has f.config refl
+    turn_asserts f _ place provider candidate Chosen false refl refl (Chose place id listed at refl has lists is connected) has f.config
+    refl
 turn_settles world f place id listed provider candidate at has lists is false connected =
     turn_moves f _ Prompting (prompt_effect world f place provider candidate candidate.connected (metadata_endpoint f.config))
     (prompt_asks_none world f place provider candidate candidate.connected (metadata_endpoint f.config))
     (prompt_gives_none world f place provider candidate candidate.connected (metadata_endpoint f.config)) not_prompting
 
-turn_choice : (world : World) (f : Facts) (place : ℕ) (id : List ℕ) → f.stage ≡ Choosing → (provider : Option ProviderOptions) → provider_at place f.options ≡ provider
+turn_choice : (world : World) (f : Facts) (place : ℕ) (id : List ℕ) → f.stage ≡ Choosing → (provider : Option ProviderOptions)
+    → provider_at place f.options ≡ provider
     → (listed : Option Listed) → f.listed ≡ listed → (candidate : Option Candidate) → option_and_then (chosen id) listed ≡ candidate
     → Turn f (inputs.Choose place id) (choice world f place provider candidate)
 turn_choice world f place id at None has listed lists candidate is = turn_ignored f _ NoAccount
@@ -318,7 +358,8 @@ turn_choice world f place id at (Some provider) has None lists (Some candidate) 
 turn_choice world f place id at (Some provider) has (Some listed) lists (Some candidate) is =
     turn_settles world f place id listed provider candidate at has lists is candidate.connected refl
 
-turn_chose : (world : World) (f : Facts) (stage : Stage) → f.stage ≡ stage → (place : ℕ) (id : List ℕ) → Turn f (inputs.Choose place id) (chose world f stage place id)
+turn_chose : (world : World) (f : Facts) (stage : Stage) → f.stage ≡ stage → (place : ℕ) (id : List ℕ)
+    → Turn f (inputs.Choose place id) (chose world f stage place id)
 turn_chose world f Choosing at place id =
     turn_choice world f place id at (provider_at place f.options) refl f.listed refl (option_and_then (chosen id) f.listed) refl
 turn_chose world f Reading at place id = turn_ignored f _ NotOffered
@@ -333,7 +374,8 @@ turn_asserts_by : (f : Facts) (candidate : Candidate) → f.stage ≡ Prompting 
     → Turn f inputs.GoOn (asserts f only_place provider f.config (agreed_to f only_place candidate Prompted (not candidate.connected)))
 turn_asserts_by f candidate at ready picks None has = turn_stays f _
 turn_asserts_by f candidate at ready picks (Some provider) has =
-    turn_asserts f _ only_place provider candidate Prompted (not candidate.connected) refl refl (WentOn at refl has ready picks) has f.config refl
+    turn_asserts f _ only_place provider candidate Prompted (not candidate.connected) refl refl (WentOn at refl has ready picks) has
+    f.config refl
 
 turn_goes_on : (f : Facts) → f.stage ≡ Prompting → (waits : Bool) → f.waits ≡ waits → (picked : Option Candidate) → f.picked ≡ picked
     → Turn f inputs.GoOn (goes_on f waits picked)

@@ -1,5 +1,6 @@
 -- How a call comes to a dialog at an input, and stays there.
-use Rattle.std.proofs.Common.{◌≡◌, ℕ, Bool, true, false, ◌||◌, ◌≤◌, ◌⊎◌, inl, inr, List, [], ◌∷◌, length, Option, Some, None, Result as Answer, Ok, Err, refl, sym, ap, ◌∙◌, arith}
+use Rattle.std.proofs.Common.{◌≡◌, ℕ, Bool, true, false, ◌||◌, ◌≤◌, ◌⊎◌, inl, inr, List, [], ◌∷◌, length, Option, Some, None}
+use Rattle.std.proofs.Common.{Result as Answer, Ok, Err, refl, sym, ap, ◌∙◌, arith}
 use Rattle.std.specs.Prelude.{option_and_then, unwrap_or, is_some, not}
 use Rattle.std.specs.List.{list_any}
 use Rattle.url.specs.Parts.{Parts}
@@ -28,12 +29,14 @@ use Rattle.fed_consent.specs.declared.table.why.Why.{Why}
 use Rattle.fed_consent.specs.Consent.{Agreement, Candidate, Listed, chosen}
 use Rattle.fed_call.specs.Accounts.{accounts_of, candidate_of, listed_of}
 use Rattle.fed_call.specs.AssertingRows.{asserts, asserting_reply, assertion_reply}
-use Rattle.fed_call.specs.DialogRows.{agreed_to, chose, choice, settles, goes_on, went_on, cancelled, prompting_reply, metadata_reply, links_shown}
-use Rattle.fed_call.specs.Facts.{Facts, is_ignored, metadata_endpoint, provider_at, with_input}
+use Rattle.fed_call.specs.DialogRows.{agreed_to, chose, choice, settles, goes_on, went_on, cancelled, prompting_reply, metadata_reply}
+use Rattle.fed_call.specs.DialogRows.{links_shown}
+use Rattle.fed_call.specs.Facts.{Facts, metadata_endpoint, provider_at, with_input}
 use Rattle.fed_provider.specs.FirstReplies.{config_read, wellknown_of}
-use Rattle.fed_consent.specs.Outcomes.{Outcome, ignored, after, only_place}
+use Rattle.fed_consent.specs.Outcomes.{Outcome, ignored, after, only_place, is_ignored}
 use Rattle.fed_consent.specs.Failures.{accounts_failure}
-use Rattle.fed_call.specs.ListingRows.{listing_reply, accounts_reply, by_accounts, offers, prompt_effect, choice_dialog, by_mismatch, is_mismatch, site_of}
+use Rattle.fed_call.specs.ListingRows.{listing_reply, accounts_reply, by_accounts, offers, prompt_effect, choice_dialog, by_mismatch}
+use Rattle.fed_call.specs.ListingRows.{is_mismatch, site_of}
 use Rattle.fed_call.specs.ReadingRows.{reading_reply, wellknown_reply, config_reply}
 use Rattle.fed_call.specs.Row.{stage_reply, input_row}
 
@@ -85,21 +88,25 @@ pub record TakesMetadata (f : Facts) (input : Input) (o : Outcome) : Type 0 wher
 -- the input chooses none of the accounts
 abbrev pub ChoosesNone : Facts → Input → Type 0
 ChoosesNone f input =
-    (place : ℕ) (id : List ℕ) → input ≡ inputs.Choose place id → (provider_at place f.options ≡ None) ⊎ (option_and_then (chosen id) f.listed ≡ None)
+    (place : ℕ) (id : List ℕ) → input ≡ inputs.Choose place id
+    → (provider_at place f.options ≡ None) ⊎ (option_and_then (chosen id) f.listed ≡ None)
 
 pub data Way (f : Facts) (input : Input) (o : Outcome) : Type 0 where
   Elsewhere : is_open (unwrap_or o.stage f.stage) ≡ false → Way f input o
-  OffersMany : (accounts : List Account) → 2 ≤ length accounts → f.stage ≡ Listing → o.stage ≡ Some Choosing → TakesAccounts f input o accounts → Way f input o
+  OffersMany : (accounts : List Account) → 2 ≤ length accounts → f.stage ≡ Listing → o.stage ≡ Some Choosing
+      → TakesAccounts f input o accounts → Way f input o
   OffersOne : (only : Account) → f.stage ≡ Listing → o.stage ≡ Some Prompting → TakesAccounts f input o (only ∷ []) → Way f input o
   Picks : f.stage ≡ Choosing → o.stage ≡ Some Prompting → TakesChoice f input o → Way f input o
   Readies : f.stage ≡ Prompting → unwrap_or o.stage f.stage ≡ Prompting → TakesMetadata f input o → Way f input o
-  Unmoved : is_open f.stage ≡ true → o.stage ≡ None → ((world : World) → with_input world (list_any is_ignored o.effects) input f ≡ f) → (f.stage ≡ Choosing → ChoosesNone f input)
+  Unmoved : is_open f.stage ≡ true → o.stage ≡ None → ((world : World) → with_input world (list_any is_ignored o.effects) input f ≡ f)
+      → (f.stage ≡ Choosing → ChoosesNone f input)
       → Way f input o
 
 -- ---- at one stage
 
 -- what is ignored at a dialog leaves it as it was
-open_ignored : (f : Facts) (input : Input) (why : Why) → is_open f.stage ≡ true → (f.stage ≡ Choosing → ChoosesNone f input) → Way f input (ignored why)
+open_ignored : (f : Facts) (input : Input) (why : Why) → is_open f.stage ≡ true → (f.stage ≡ Choosing → ChoosesNone f input)
+    → Way f input (ignored why)
 open_ignored f input why at none = Unmoved at refl (λ world. refl) none
 
 -- a reply chooses nothing
@@ -108,7 +115,8 @@ reply_chooses_none f place kind raw other id is = absurd (cc)
 
 -- ---- in Reading
 
-way_wellknown : (f : Facts) (input : Input) (place : ℕ) (heard : Bool) (config : Option Configuration) (read : Option (Answer (Unit {0}) ProviderStep)) → is_open f.stage ≡ false
+way_wellknown : (f : Facts) (input : Input) (place : ℕ) (heard : Bool) (config : Option Configuration)
+    (read : Option (Answer (Unit {0}) ProviderStep)) → is_open f.stage ≡ false
     → Way f input (wellknown_reply place heard config read)
 way_wellknown f input place true config read at = Elsewhere at
 way_wellknown f input place false config None at = Elsewhere at
@@ -117,7 +125,8 @@ way_wellknown f input place false (Some config) (Some (Err step)) at = Elsewhere
 way_wellknown f input place false None (Some (Ok u)) at = Elsewhere at
 way_wellknown f input place false (Some config) (Some (Ok u)) at = Elsewhere refl
 
-way_config : (f : Facts) (input : Input) (place : ℕ) (heard : Bool) (config : Option Configuration) (read : Option (Answer Configuration ProviderStep)) → is_open f.stage ≡ false
+way_config : (f : Facts) (input : Input) (place : ℕ) (heard : Bool) (config : Option Configuration)
+    (read : Option (Answer Configuration ProviderStep)) → is_open f.stage ≡ false
     → Way f input (config_reply place heard config read)
 way_config f input place heard (Some config) read at = Elsewhere at
 way_config f input place heard None None at = Elsewhere at
@@ -126,9 +135,11 @@ way_config f input place true None (Some (Err step)) at = Elsewhere refl
 way_config f input place false None (Some (Ok config)) at = Elsewhere at
 way_config f input place true None (Some (Ok config)) at = Elsewhere refl
 
-way_reading : (world : World) (f : Facts) (input : Input) (place : ℕ) (provider : Option ProviderOptions) (kind : ReplyKind) (raw : List ℕ) → is_open f.stage ≡ false
+way_reading : (world : World) (f : Facts) (input : Input) (place : ℕ) (provider : Option ProviderOptions) (kind : ReplyKind) (raw : List ℕ)
+    → is_open f.stage ≡ false
     → Way f input (reading_reply world.rules f.heard f.config place provider kind raw)
-way_reading world f input place provider kinds.WellKnown raw at = way_wellknown f input place f.heard f.config (wellknown_of world.rules raw provider) at
+way_reading world f input place provider kinds.WellKnown raw at =
+    way_wellknown f input place f.heard f.config (wellknown_of world.rules raw provider) at
 way_reading world f input place provider kinds.Config raw at = way_config f input place f.heard f.config (config_read raw provider) at
 way_reading world f input place provider kinds.Accounts raw at = Elsewhere at
 way_reading world f input place provider kinds.Metadata raw at = Elsewhere at
@@ -137,19 +148,23 @@ way_reading world f input place provider kinds.Disconnect raw at = Elsewhere at
 
 -- ---- in Listing
 
-way_refused : (f : Facts) (input : Input) (first : CallEffect) (place : ℕ) (site : List ℕ) (failure : Failure) (mismatch : Bool) → Way f input (after first (by_mismatch place site failure mismatch))
+way_refused : (f : Facts) (input : Input) (first : CallEffect) (place : ℕ) (site : List ℕ) (failure : Failure) (mismatch : Bool)
+    → Way f input (after first (by_mismatch place site failure mismatch))
 way_refused f input first place site failure true = Elsewhere refl
 way_refused f input first place site failure false = Elsewhere refl
 
-pub prompt_taken : (world : World) (f : Facts) (place : ℕ) (provider : ProviderOptions) (candidate : Candidate) (connected : Bool) (endpoint : Option Parts)
+pub prompt_taken : (world : World) (f : Facts) (place : ℕ) (provider : ProviderOptions) (candidate : Candidate) (connected : Bool)
+    (endpoint : Option Parts)
     → is_ignored (prompt_effect world f place provider candidate connected endpoint) ≡ false
 prompt_taken world f place provider candidate true endpoint = refl
 prompt_taken world f place provider candidate false None = refl
 prompt_taken world f place provider candidate false (Some to) = refl
 
-way_offers : (world : World) (f : Facts) (place : ℕ) (raw : List ℕ) (provider : ProviderOptions) (accounts : List Account) → f.stage ≡ Listing
+way_offers : (world : World) (f : Facts) (place : ℕ) (raw : List ℕ) (provider : ProviderOptions) (accounts : List Account)
+    → f.stage ≡ Listing
     → provider_at place f.options ≡ Some provider → accounts_of raw provider ≡ Ok accounts
-    → Way f (inputs.Reply place kinds.Accounts raw) (after (does.SetLogin (origin_of provider.config) LoggedIn) (offers world f place provider accounts))
+    → Way f (inputs.Reply place kinds.Accounts raw)
+    (after (does.SetLogin (origin_of provider.config) LoggedIn) (offers world f place provider accounts))
 way_offers world f place raw provider [] at has reads = Elsewhere (ap is_open at)
 way_offers world f place raw provider (only ∷ []) at has reads =
     let candidate = candidate_of world f.origin provider only in
@@ -180,7 +195,8 @@ way_offers world f place raw provider (one ∷ two ∷ more) at has reads =
       effects = refl;
     })
 
-way_accounts : (world : World) (f : Facts) (place : ℕ) (raw : List ℕ) (provider : ProviderOptions) (read : Answer (List Account) AccountsStep) → f.stage ≡ Listing
+way_accounts : (world : World) (f : Facts) (place : ℕ) (raw : List ℕ) (provider : ProviderOptions)
+    (read : Answer (List Account) AccountsStep) → f.stage ≡ Listing
     → provider_at place f.options ≡ Some provider → accounts_of raw provider ≡ read
     → Way f (inputs.Reply place kinds.Accounts raw) (by_accounts world f place provider read)
 way_accounts world f place raw provider (Err step) at has reads =
@@ -207,15 +223,18 @@ way_listing world f place kinds.Disconnect raw at = Elsewhere (ap is_open at)
 not_choosing : {A : Type 0} (f : Facts) → f.stage ≡ Prompting → f.stage ≡ Choosing → A
 not_choosing f at other = let no : Prompting ≡ Choosing = sym at ∙ other in absurd (cc)
 
-way_links : (world : World) (f : Facts) (place : ℕ) (raw : List ℕ) (provider : ProviderOptions) (picked : Option Candidate) (links : PolicyLinks) → f.stage ≡ Prompting
+way_links : (world : World) (f : Facts) (place : ℕ) (raw : List ℕ) (provider : ProviderOptions) (picked : Option Candidate)
+    (links : PolicyLinks) → f.stage ≡ Prompting
     → provider_at place f.options ≡ Some provider → Way f (inputs.Reply place kinds.Metadata raw) (links_shown world f place picked links)
 way_links world f place raw provider None links at has =
     Readies at at (record { place = place; raw = raw; is_reply = refl; provider = provider; has_provider = has; taken = refl })
 way_links world f place raw provider (Some candidate) links at has =
     Readies at at (record { place = place; raw = raw; is_reply = refl; provider = provider; has_provider = has; taken = refl })
 
-way_metadata : (world : World) (f : Facts) (place : ℕ) (raw : List ℕ) (waits : Bool) (provider : Option ProviderOptions) → f.stage ≡ Prompting
-    → provider_at place f.options ≡ provider → Way f (inputs.Reply place kinds.Metadata raw) (metadata_reply world f waits place provider raw)
+way_metadata : (world : World) (f : Facts) (place : ℕ) (raw : List ℕ) (waits : Bool) (provider : Option ProviderOptions)
+    → f.stage ≡ Prompting
+    → provider_at place f.options ≡ provider → Way f (inputs.Reply place kinds.Metadata raw) (metadata_reply world f waits place provider
+    raw)
 way_metadata world f place raw false provider at has = open_ignored f _ _ (ap is_open at) (λ other. not_choosing f at other)
 way_metadata world f place raw true None at has = open_ignored f _ _ (ap is_open at) (λ other. not_choosing f at other)
 way_metadata world f place raw true (Some provider) at has = way_links world f place raw provider f.picked (MetadataOf raw) at has
@@ -231,11 +250,13 @@ way_prompting world f place kinds.Disconnect raw at = open_ignored f _ _ (ap is_
 
 -- ---- in Asserting
 
-way_assertion : (f : Facts) (input : Input) (place : ℕ) (provider : Option ProviderOptions) (raw : List ℕ) → f.stage ≡ Asserting → Way f input (assertion_reply f place provider raw)
+way_assertion : (f : Facts) (input : Input) (place : ℕ) (provider : Option ProviderOptions) (raw : List ℕ) → f.stage ≡ Asserting
+    → Way f input (assertion_reply f place provider raw)
 way_assertion f input place None raw at = Elsewhere (ap is_open at)
 way_assertion f input place (Some provider) raw at = Elsewhere refl
 
-way_asserting : (f : Facts) (input : Input) (place : ℕ) (provider : Option ProviderOptions) (kind : ReplyKind) (raw : List ℕ) → f.stage ≡ Asserting
+way_asserting : (f : Facts) (input : Input) (place : ℕ) (provider : Option ProviderOptions) (kind : ReplyKind) (raw : List ℕ)
+    → f.stage ≡ Asserting
     → Way f input (asserting_reply f place provider kind raw)
 way_asserting f input place provider kinds.Assertion raw at = way_assertion f input place provider raw at
 way_asserting f input place provider kinds.WellKnown raw at = Elsewhere (ap is_open at)
@@ -256,14 +277,17 @@ way_reply world f Ended at place kind raw = Elsewhere (ap is_open at)
 
 -- ---- the user's words
 
-way_asserts : (f : Facts) (input : Input) (place : ℕ) (provider : ProviderOptions) (config : Option Configuration) (agreed : Agreement) → is_some config ≡ true
+way_asserts : (f : Facts) (input : Input) (place : ℕ) (provider : ProviderOptions) (config : Option Configuration) (agreed : Agreement)
+    → is_some config ≡ true
     → Way f input (asserts f place (Some provider) config agreed)
 way_asserts f input place provider None agreed some = absurd (cc)
 way_asserts f input place provider (Some config) agreed some = Elsewhere refl
 
-way_settles : (world : World) (f : Facts) (place : ℕ) (id : List ℕ) (listed : Listed) (provider : ProviderOptions) (candidate : Candidate) → f.stage ≡ Choosing
+way_settles : (world : World) (f : Facts) (place : ℕ) (id : List ℕ) (listed : Listed) (provider : ProviderOptions) (candidate : Candidate)
+    → f.stage ≡ Choosing
     → provider_at place f.options ≡ Some provider → f.listed ≡ Some listed → chosen id listed ≡ Some candidate → is_some f.config ≡ true
-    → (connected : Bool) → candidate.connected ≡ connected → Way f (inputs.Choose place id) (settles world f place provider candidate connected)
+    → (connected : Bool) → candidate.connected ≡ connected
+    → Way f (inputs.Choose place id) (settles world f place provider candidate connected)
 way_settles world f place id listed provider candidate at has lists is some true connected =
     way_asserts f _ place provider f.config (agreed_to f place candidate Chosen false) some
 way_settles world f place id listed provider candidate at has lists is some false connected =
@@ -282,19 +306,23 @@ way_settles world f place id listed provider candidate at has lists is some fals
       taken = ap (λ b. b || false) (prompt_taken world f place provider candidate candidate.connected (metadata_endpoint f.config));
     })
 
-way_choice : (world : World) (f : Facts) (place : ℕ) (id : List ℕ) → f.stage ≡ Choosing → is_some f.config ≡ true → (provider : Option ProviderOptions)
-    → provider_at place f.options ≡ provider → (listed : Option Listed) → f.listed ≡ listed → (candidate : Option Candidate) → option_and_then (chosen id) listed ≡ candidate
+way_choice : (world : World) (f : Facts) (place : ℕ) (id : List ℕ) → f.stage ≡ Choosing → is_some f.config ≡ true
+    → (provider : Option ProviderOptions)
+    → provider_at place f.options ≡ provider → (listed : Option Listed) → f.listed ≡ listed → (candidate : Option Candidate)
+    → option_and_then (chosen id) listed ≡ candidate
     → Way f (inputs.Choose place id) (choice world f place provider candidate)
 way_choice world f place id at some None has listed lists candidate is =
     open_ignored f _ _ (ap is_open at) (λ other p i same. inl (let k : place ≡ p = cc in ap (λ n. provider_at n f.options) (sym k) ∙ has))
 way_choice world f place id at some (Some provider) has listed lists None is =
     open_ignored f _ _ (ap is_open at)
-    (λ other p i same. inr (let k : id ≡ i = cc in ap (λ t. option_and_then (chosen t) f.listed) (sym k) ∙ ap (option_and_then (chosen id)) lists ∙ is))
+    (λ other p i same. inr (let k : id ≡ i =
+    cc in ap (λ t. option_and_then (chosen t) f.listed) (sym k) ∙ ap (option_and_then (chosen id)) lists ∙ is))
 way_choice world f place id at some (Some provider) has None lists (Some candidate) is = absurd (cc)
 way_choice world f place id at some (Some provider) has (Some listed) lists (Some candidate) is =
     way_settles world f place id listed provider candidate at has lists is some candidate.connected refl
 
-way_chose : (world : World) (f : Facts) (stage : Stage) → f.stage ≡ stage → (stage ≡ Choosing → is_some f.config ≡ true) → (place : ℕ) (id : List ℕ)
+way_chose : (world : World) (f : Facts) (stage : Stage) → f.stage ≡ stage → (stage ≡ Choosing → is_some f.config ≡ true)
+    → (place : ℕ) (id : List ℕ)
     → Way f (inputs.Choose place id) (chose world f stage place id)
 way_chose world f Choosing at some place id =
     way_choice world f place id at (some refl) (provider_at place f.options) refl f.listed refl (option_and_then (chosen id) f.listed) refl
@@ -309,7 +337,8 @@ way_chose world f Ended at some place id = Elsewhere (ap is_open at)
 going_chooses_none : (f : Facts) → ChoosesNone f inputs.GoOn
 going_chooses_none f place id is = absurd (cc)
 
-way_goes_asserts : (f : Facts) (place : ℕ) (provider : Option ProviderOptions) (config : Option Configuration) (agreed : Agreement) → f.stage ≡ Prompting
+way_goes_asserts : (f : Facts) (place : ℕ) (provider : Option ProviderOptions) (config : Option Configuration) (agreed : Agreement)
+    → f.stage ≡ Prompting
     → Way f inputs.GoOn (asserts f place provider config agreed)
 way_goes_asserts f place None config agreed at = Unmoved (ap is_open at) refl (λ world. refl) (λ other. going_chooses_none f)
 way_goes_asserts f place (Some provider) None agreed at = Unmoved (ap is_open at) refl (λ world. refl) (λ other. going_chooses_none f)
@@ -319,7 +348,8 @@ way_goes_on : (f : Facts) (waits : Bool) (picked : Option Candidate) → f.stage
 way_goes_on f true picked at = Unmoved (ap is_open at) refl (λ world. refl) (λ other. going_chooses_none f)
 way_goes_on f false None at = Unmoved (ap is_open at) refl (λ world. refl) (λ other. going_chooses_none f)
 way_goes_on f false (Some candidate) at =
-    way_goes_asserts f only_place (provider_at only_place f.options) f.config (agreed_to f only_place candidate Prompted (not candidate.connected)) at
+    way_goes_asserts f only_place (provider_at only_place f.options) f.config
+    (agreed_to f only_place candidate Prompted (not candidate.connected)) at
 
 way_went_on : (f : Facts) (stage : Stage) → f.stage ≡ stage → Way f inputs.GoOn (went_on f stage)
 way_went_on f Prompting at = way_goes_on f f.waits f.picked at
@@ -340,11 +370,13 @@ way_cancelled f Asserting at = Elsewhere (ap is_open at)
 way_cancelled f Ended at = Elsewhere (ap is_open at)
 
 -- an input that no event brings yet is ignored
-way_none : (f : Facts) (input : Input) (why : Why) → ChoosesNone f input → (open_now : Bool) → is_open f.stage ≡ open_now → Way f input (ignored why)
+way_none : (f : Facts) (input : Input) (why : Why) → ChoosesNone f input → (open_now : Bool) → is_open f.stage ≡ open_now
+    → Way f input (ignored why)
 way_none f input why none true at = open_ignored f input why at (λ other. none)
 way_none f input why none false at = Elsewhere at
 
-pub way_at : (world : World) (f : Facts) (input : Input) → (f.stage ≡ Choosing → is_some f.config ≡ true) → Way f input (input_row world f input)
+pub way_at : (world : World) (f : Facts) (input : Input) → (f.stage ≡ Choosing → is_some f.config ≡ true)
+    → Way f input (input_row world f input)
 way_at world f (inputs.Reply place kind raw) some = way_reply world f f.stage refl place kind raw
 way_at world f (inputs.Choose place id) some = way_chose world f f.stage refl some place id
 way_at world f inputs.GoOn some = way_went_on f f.stage refl

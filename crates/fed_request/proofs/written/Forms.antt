@@ -1,5 +1,6 @@
 -- A form as it is written, pair after pair, is the form of the definitions.
-use Rattle.std.proofs.Common.{◌≡◌, ℕ, ◌<◌, Bool, true, false, List, [], ◌∷◌, ◌++◌, length, codes, refl, sym, ap, ◌∙◌, append_assoc, append-nil, arith}
+use Rattle.std.proofs.Common.{◌≡◌, ℕ, ◌<◌, Bool, true, false, List, [], ◌∷◌, ◌++◌, length, codes, refl, sym, ap, ◌∙◌, append_assoc}
+use Rattle.std.proofs.Common.{append-nil, arith}
 use Rattle.std.proofs.lemmas.Bool.{cond-true, lt-ltb}
 use Rattle.std.specs.Prelude.{Option, Some, None}
 use Rattle.form_urlencoded.proofs.OnLiterals.{form_urlencoded_on_literals}
@@ -20,11 +21,13 @@ later_pair b form name value =
     let joined : separator (b ∷ form) ≡ 38 ∷ [] = cond-true _ _ _ (lt-ltb 0 (length (b ∷ form)) some) in
     ap (λ x. (b ∷ form) ++ x ++ serialize_pair (name, value)) joined ∙ append_assoc (b ∷ form) (38 ∷ []) (serialize_pair (name, value))
 
-later_optional : (b : ℕ) (form name : List ℕ) (value : Option (List ℕ)) → with_pair name value (b ∷ form) ≡ (b ∷ form) ++ optional_pair (lead_of name) value
+later_optional : (b : ℕ) (form name : List ℕ) (value : Option (List ℕ))
+    → with_pair name value (b ∷ form) ≡ (b ∷ form) ++ optional_pair (lead_of name) value
 later_optional b form name None = sym (append-nil (b ∷ form))
 later_optional b form name (Some value) = later_pair b form name value
 
-later_pairs : (b : ℕ) (form name value next next_value : List ℕ) → append_pair (append_pair (b ∷ form) name value) next next_value ≡ (b ∷ form) ++ (later name value ++ later next next_value)
+later_pairs : (b : ℕ) (form name value next next_value : List ℕ)
+    → append_pair (append_pair (b ∷ form) name value) next next_value ≡ (b ∷ form) ++ (later name value ++ later next next_value)
 later_pairs b form name value next next_value =
     ap (λ front. append_pair front next next_value) (later_pair b form name value)
     ∙ later_pair b (form ++ later name value) next next_value
@@ -32,19 +35,25 @@ later_pairs b form name value next next_value =
 
 abbrev with_manner : AssertionFields → List ℕ → List ℕ
 with_manner ask form =
-    append_pair (append_pair form (codes "disclosure_text_shown") (truth_text ask.disclosure)) (codes "is_auto_selected") (truth_text ask.auto)
+    append_pair (append_pair form (codes "disclosure_text_shown") (truth_text ask.disclosure)) (codes "is_auto_selected")
+    (truth_text ask.auto)
 
 abbrev manner_text : Bool → Bool → List ℕ
 manner_text disclosure auto =
     codes "&disclosure_text_shown=" ++ (truth_text disclosure ++ (codes "&is_auto_selected=" ++ truth_text auto))
 
 -- `true` and `false` need no escape
-later_manner : (b : ℕ) (form : List ℕ) (disclosure auto : Bool) → append_pair (append_pair (b ∷ form) (codes "disclosure_text_shown") (truth_text disclosure)) (codes "is_auto_selected") (truth_text auto) ≡ (b ∷ form) ++ manner_text disclosure auto
+later_manner : (b : ℕ) (form : List ℕ) (disclosure auto : Bool)
+    → append_pair (append_pair (b ∷ form) (codes "disclosure_text_shown") (truth_text disclosure)) (codes "is_auto_selected")
+    (truth_text auto) ≡ (b ∷ form) ++ manner_text disclosure auto
 unfolding form_urlencoded_on_literals
 later_manner b form true true = later_pairs b form (codes "disclosure_text_shown") (codes "true") (codes "is_auto_selected") (codes "true")
-later_manner b form true false = later_pairs b form (codes "disclosure_text_shown") (codes "true") (codes "is_auto_selected") (codes "false")
-later_manner b form false true = later_pairs b form (codes "disclosure_text_shown") (codes "false") (codes "is_auto_selected") (codes "true")
-later_manner b form false false = later_pairs b form (codes "disclosure_text_shown") (codes "false") (codes "is_auto_selected") (codes "false")
+later_manner b form true false =
+    later_pairs b form (codes "disclosure_text_shown") (codes "true") (codes "is_auto_selected") (codes "false")
+later_manner b form false true =
+    later_pairs b form (codes "disclosure_text_shown") (codes "false") (codes "is_auto_selected") (codes "true")
+later_manner b form false false =
+    later_pairs b form (codes "disclosure_text_shown") (codes "false") (codes "is_auto_selected") (codes "false")
 
 -- the form up to each pair, without its first letter
 abbrev to_client : AssertionFields → List ℕ
@@ -59,15 +68,19 @@ to_account ask = to_nonce ask ++ (codes "&account_id=" ++ byte_serialize ask.acc
 abbrev to_manner : AssertionFields → List ℕ
 to_manner ask = to_account ask ++ manner_pairs ask
 
-pub assertion_form_written : (ask : AssertionFields) → assertion_form ask ≡ (codes "c" ++ to_manner ask) ++ optional_pair (codes "&params=") ask.params
+pub assertion_form_written : (ask : AssertionFields)
+    → assertion_form ask ≡ (codes "c" ++ to_manner ask) ++ optional_pair (codes "&params=") ask.params
 unfolding form_urlencoded_on_literals account_form
 assertion_form_written ask =
-    ap (λ form. with_pair (codes "params") ask.params (with_manner ask (append_pair form (codes "account_id") ask.account))) (later_optional 99 (to_client ask) (codes "nonce") ask.nonce)
-    ∙ ap (λ form. with_pair (codes "params") ask.params (with_manner ask form)) (later_pair 99 (to_nonce ask) (codes "account_id") ask.account)
+    ap (λ form. with_pair (codes "params") ask.params (with_manner ask (append_pair form (codes "account_id") ask.account)))
+    (later_optional 99 (to_client ask) (codes "nonce") ask.nonce)
+    ∙ ap (λ form. with_pair (codes "params") ask.params (with_manner ask form))
+    (later_pair 99 (to_nonce ask) (codes "account_id") ask.account)
     ∙ ap (with_pair (codes "params") ask.params) (later_manner 99 (to_account ask) ask.disclosure ask.auto)
     ∙ later_optional 99 (to_manner ask) (codes "params") ask.params
 
-pub disconnect_form_written : (client hint : List ℕ) → disconnect_form client hint ≡ (codes "client_id=" ++ byte_serialize client) ++ (codes "&account_hint=" ++ byte_serialize hint)
+pub disconnect_form_written : (client hint : List ℕ)
+    → disconnect_form client hint ≡ (codes "client_id=" ++ byte_serialize client) ++ (codes "&account_hint=" ++ byte_serialize hint)
 unfolding form_urlencoded_on_literals
 disconnect_form_written client hint = later_pair 99 (codes "lient_id=" ++ byte_serialize client) (codes "account_hint") hint
 

@@ -1,5 +1,6 @@
 -- What is found in a value is found in its data.
-use Rattle.std.proofs.Common.{◌≡◌, ℕ, zero, suc, List, Option, Some, None, option_map, option_and_then, Bool, true, false, cond, bytes_eq, true≢false, refl, sym, ap, ◌∙◌}
+use Rattle.std.proofs.Common.{◌≡◌, ℕ, zero, suc, List, Option, Some, None, option_map, option_and_then, Bool, true, false, cond, bytes_eq}
+use Rattle.std.proofs.Common.{true≢false, refl, sym, ap, ◌∙◌}
 use Rattle.std.proofs.lemmas.Slice.Eq.{bytes_eq-Decides}
 use Rattle.std.specs.Prelude.{is_some, MatchOption}
 use Rattle.json.specs.Token.{Token}
@@ -25,7 +26,8 @@ one_member name k j found true is =
 one_member name k j found false is =
     get_member-put_other name k (data_of j) found (λ same. true≢false (sym ((bytes_eq-Decides k name).1 (sym same)) ∙ is))
 
-then_one : (o p : Option json.Json) (before after : Option Data) → after ≡ data_or p before → data_or o after ≡ data_or (later_or o p) before
+then_one : (o p : Option json.Json) (before after : Option Data) → after ≡ data_or p before
+    → data_or o after ≡ data_or (later_or o p) before
 then_one None p before after e = e
 then_one (Some j) p before after e = refl
 
@@ -34,7 +36,8 @@ members_after-get : (name : List ℕ) (ms : json.Members) (found : Members)
 members_after-get name json.no_members found = refl
 members_after-get name (json.member k j ms) found =
     members_after-get name ms (put k (data_of j) found)
-    ∙ then_one (find.get_member name ms) (cond (bytes_eq k name) (Some j) None) (get_member name found) _ (one_member name k j found (bytes_eq k name) refl)
+    ∙ then_one (find.get_member name ms) (cond (bytes_eq k name) (Some j) None) (get_member name found) _
+    (one_member name k j found (bytes_eq k name) refl)
 
 data_or-none : (o : Option json.Json) → data_or o None ≡ option_map data_of o
 data_or-none None = refl
@@ -72,7 +75,8 @@ at-data_of n (json.object ms) = refl
 -- ---- what a place in a tape shows of the data there
 
 -- what is seen of a value is seen of its data
-pub seen : {A : Type 0} (x : A) (of_value : json.Json → A) (of_data : Data → A) → ((j : json.Json) → of_data (data_of j) ≡ of_value j) → (ts : List Token)
+pub seen : {A : Type 0} (x : A) (of_value : json.Json → A) (of_data : Data → A) → ((j : json.Json) → of_data (data_of j) ≡ of_value j)
+    → (ts : List Token)
     → HasValue ts → ((j : json.Json) → BeginsWith ts j → x ≡ of_value j) → x ≡ of_data (data_at ts)
 seen x of_value of_data same ts here h = h here.0 here.1 ∙ sym (same here.0) ∙ ap of_data (sym (data_at-BeginsWith ts here.0 here.1))
 
@@ -80,14 +84,17 @@ pub found-value : (look : json.Json → Option json.Json) (ts us : List Token) �
     → ((j : json.Json) → BeginsWith ts j → (i : json.Json) × (look j ≡ Some i) × BeginsWith us i) → HasValue us
 found-value look ts us here h = let f = h here.0 here.1 in (f.0, f.2)
 
-pub found-data : (look : json.Json → Option json.Json) (see : Data → Option Data) → ((j : json.Json) → see (data_of j) ≡ option_map data_of (look j))
+pub found-data : (look : json.Json → Option json.Json) (see : Data → Option Data)
+    → ((j : json.Json) → see (data_of j) ≡ option_map data_of (look j))
     → (ts us : List Token) → HasValue ts → ((j : json.Json) → BeginsWith ts j → (i : json.Json) × (look j ≡ Some i) × BeginsWith us i)
     → Some (data_at us) ≡ see (data_at ts)
 found-data look see same ts us here h =
     let f = h here.0 here.1 in
-    sym (ap see (data_at-BeginsWith ts here.0 here.1) ∙ same here.0 ∙ ap (option_map data_of) f.1 ∙ ap (λ d. Some d) (sym (data_at-BeginsWith us f.0 f.2)))
+    sym (ap see (data_at-BeginsWith ts here.0 here.1) ∙ same here.0 ∙ ap (option_map data_of) f.1
+    ∙ ap (λ d. Some d) (sym (data_at-BeginsWith us f.0 f.2)))
 
-pub found-none : (look : json.Json → Option json.Json) (see : Data → Option Data) → ((j : json.Json) → see (data_of j) ≡ option_map data_of (look j))
+pub found-none : (look : json.Json → Option json.Json) (see : Data → Option Data)
+    → ((j : json.Json) → see (data_of j) ≡ option_map data_of (look j))
     → (ts : List Token) → HasValue ts → ((j : json.Json) → BeginsWith ts j → look j ≡ None) → None ≡ see (data_at ts)
 found-none look see same ts here h =
     sym (ap see (data_at-BeginsWith ts here.0 here.1) ∙ same here.0 ∙ ap (option_map data_of) (h here.0 here.1))
@@ -145,6 +152,7 @@ is_object-data_of (json.array js) = refl
 is_object-data_of (json.object ms) = refl
 
 pub opens : (o : Option (List Token)) (j : json.Json)
-    → MatchOption o (find.as_object j ≡ None) (λ rest. (ms : json.Members) × (j ≡ json.object ms) × InMembers rest ms) → is_some o ≡ is_some (find.as_object j)
+    → MatchOption o (find.as_object j ≡ None) (λ rest. (ms : json.Members) × (j ≡ json.object ms) × InMembers rest ms)
+    → is_some o ≡ is_some (find.as_object j)
 opens None j h = ap is_some (sym h)
 opens (Some rest) j h = ap (λ i. is_some (find.as_object i)) (sym h.1)

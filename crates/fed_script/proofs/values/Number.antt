@@ -1,5 +1,6 @@
 -- Whole numbers among the literals.
-use Rattle.std.proofs.Common.{◌≡◌, ℕ, ◌^◌, ◌<◌, ◌&&◌, ◌==◌, length, Bool, true, false, cond, not, nat_lt, nat_le, Option, Some, None, option_and_then, ℤ, Float, refl}
+use Rattle.std.proofs.Common.{◌≡◌, ℕ, ◌^◌, ◌<◌, ◌&&◌, ◌==◌, length, Bool, true, false, cond, not, nat_lt, nat_le, Option, Some, None}
+use Rattle.std.proofs.Common.{option_and_then, ℤ, Float, refl}
 use Rattle.std.specs.Float.{binary64, float_is_finite}
 use Rattle.fast_float.specs.Text.{Parts, digits_of, nearest, with_sign}
 use Rattle.serde_json.specs.Data.{Num, negative, float}
@@ -14,5 +15,6 @@ no_whole_by false false z x = refl
 -- a literal with a minus sign is none
 pub no_whole : (p : Parts) → option_and_then as_u64 (number_from true p) ≡ None
 no_whole p =
-    no_whole_by (is_integer p && nat_lt 0 (digits_of p) && nat_le (digits_of p) (2 ^ 63)) (float_is_finite (nearest binary64 true p)) (with_sign true (digits_of p))
+    no_whole_by (is_integer p && nat_lt 0 (digits_of p)
+    && nat_le (digits_of p) (2 ^ 63)) (float_is_finite (nearest binary64 true p)) (with_sign true (digits_of p))
     (nearest binary64 true p)

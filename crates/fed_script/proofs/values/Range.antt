@@ -1,5 +1,6 @@
 -- Where json reads a text, serde_json does so too where the tokens are in range, and reads the same.
-use Rattle.std.proofs.Common.{◌≡◌, ℕ, zero, suc, ◌+◌, ◌≤◌, List, [], ◌∷◌, ◌++◌, length, Option, Some, None, option_map, option_and_then, Bool, true, false, cond, refl, sym, ap, ◌∙◌, subst, arith, append_assoc, append-nil, length-append}
+use Rattle.std.proofs.Common.{◌≡◌, ℕ, zero, suc, ◌+◌, ◌≤◌, List, [], ◌∷◌, ◌++◌, length, Option, Some, None, option_map, option_and_then}
+use Rattle.std.proofs.Common.{Bool, true, false, cond, refl, sym, ap, ◌∙◌, subst, arith, append_assoc, append-nil, length-append}
 use Rattle.std.specs.Prelude.{is_some, IsSome}
 use Rattle.json.specs.Token.{Token}
 use Rattle.json.specs.Lex.{tokens}
@@ -42,7 +43,8 @@ one_then : (b c : Bool) (o : Option ℕ) → cond b (cond c o None) None ≡ con
 one_then true c o = refl
 one_then false c o = refl
 
-if_number : (s : List ℕ) (r : List Token) (n : ℕ) (b : Bool) → option_and_then (room_left r) (cond b (Some n) None) ≡ cond b (room_left r n) None
+if_number : (s : List ℕ) (r : List Token) (n : ℕ) (b : Bool)
+    → option_and_then (room_left r) (cond b (Some n) None) ≡ cond b (room_left r n) None
 if_number s r n true = refl
 if_number s r n false = refl
 
@@ -57,7 +59,8 @@ mutual
   walk (json.object ms) r zero = refl
   walk (json.object ms) r (suc n) = walk_members ms r n
 
-  walk_items : (js : json.Items) (r : List Token) (n : ℕ) → room_left (items_tokens js ++ r) n ≡ cond (items_fit js n) (room_left r (suc n)) None
+  walk_items : (js : json.Items) (r : List Token) (n : ℕ)
+      → room_left (items_tokens js ++ r) n ≡ cond (items_fit js n) (room_left r (suc n)) None
   walk_items json.no_items r n = refl
   walk_items (json.item j js) r n =
       ap (λ l. room_left l n) (append_assoc (json_tokens j) (items_tokens js) r)
@@ -65,7 +68,8 @@ mutual
       ∙ ap (λ o. cond (fits j n) o None) (walk_items js r n)
       ∙ one_then (fits j n) (items_fit js n) _
 
-  walk_members : (ms : json.Members) (r : List Token) (n : ℕ) → room_left (members_tokens ms ++ r) n ≡ cond (members_fit ms n) (room_left r (suc n)) None
+  walk_members : (ms : json.Members) (r : List Token) (n : ℕ)
+      → room_left (members_tokens ms ++ r) n ≡ cond (members_fit ms n) (room_left r (suc n)) None
   walk_members json.no_members r n = refl
   walk_members (json.member k j ms) r n =
       ap (λ l. room_left l n) (append_assoc (json_tokens j) (members_tokens ms) r)
@@ -106,12 +110,20 @@ mutual
   items_fit-depth : (js : json.Items) (n : ℕ) → items_fit js n ≡ true → tree.items_depth js ≤ n
   items_fit-depth json.no_items n e = omega arith
   items_fit-depth (json.item j js) n e =
-      omega (arith, fits-depth j n (both_left (fits j n) (items_fit js n) e), items_fit-depth js n (both_right (fits j n) (items_fit js n) e))
+      omega (
+        arith,
+        fits-depth j n (both_left (fits j n) (items_fit js n) e),
+        items_fit-depth js n (both_right (fits j n) (items_fit js n) e),
+      )
 
   members_fit-depth : (ms : json.Members) (n : ℕ) → members_fit ms n ≡ true → tree.members_depth ms ≤ n
   members_fit-depth json.no_members n e = omega arith
   members_fit-depth (json.member k j ms) n e =
-      omega (arith, fits-depth j n (both_left (fits j n) (members_fit ms n) e), members_fit-depth ms n (both_right (fits j n) (members_fit ms n) e))
+      omega (
+        arith,
+        fits-depth j n (both_left (fits j n) (members_fit ms n) e),
+        members_fit-depth ms n (both_right (fits j n) (members_fit ms n) e),
+      )
 
 mutual
   fits-read : (j : json.Json) (n : ℕ) → fits j n ≡ true → of_json j ≡ Some (data_of j)
@@ -130,7 +142,8 @@ mutual
       ap (option_and_then (λ d. option_map (item d) (of_items js))) (fits-read j n (both_left (fits j n) (items_fit js n) e))
       ∙ ap (option_map (item (data_of j))) (items_fit-read js n (both_right (fits j n) (items_fit js n) e))
 
-  members_fit-read : (ms : json.Members) (found : Members) (n : ℕ) → members_fit ms n ≡ true → of_members ms found ≡ Some (members_after ms found)
+  members_fit-read : (ms : json.Members) (found : Members) (n : ℕ) → members_fit ms n ≡ true
+      → of_members ms found ≡ Some (members_after ms found)
   members_fit-read json.no_members found n e = refl
   members_fit-read (json.member k j ms) found n e =
       ap (option_and_then (λ d. of_members ms (put k d found))) (fits-read j n (both_left (fits j n) (members_fit ms n) e))
@@ -166,10 +179,12 @@ mutual
   items_unfit (json.item j js) n h e =
       unfit_item j js n (fits j n) refl (unfit-unread j n (omega arith)) (items_unfit js n (omega arith)) e
 
-  members_unfit : (ms : json.Members) (found : Members) (n : ℕ) → tree.members_depth ms ≤ n → members_fit ms n ≡ false → of_members ms found ≡ None
+  members_unfit : (ms : json.Members) (found : Members) (n : ℕ) → tree.members_depth ms ≤ n → members_fit ms n ≡ false
+      → of_members ms found ≡ None
   members_unfit json.no_members found n h e = absurd (cc)
   members_unfit (json.member k j ms) found n h e =
-      unfit_member k j ms found n (fits j n) refl (unfit-unread j n (omega arith)) (members_unfit ms (put k (data_of j) found) n (omega arith)) e
+      unfit_member k j ms found n (fits j n) refl (unfit-unread j n (omega arith))
+      (members_unfit ms (put k (data_of j) found) n (omega arith)) e
 
 -- ---- whole texts
 
@@ -190,7 +205,8 @@ last (Some (i, [])) j e = ap (λ x. Some (x, [])) (Some_inj i j e)
 last (Some (i, t ∷ ts)) j e = not_found j e
 
 -- a value that does not fit is not read at all
-unread : (ts : List Token) (j : json.Json) → value 128 ts ≡ Some (j, []) → fits j 127 ≡ false → (o : Option (json.Json × List Token)) → value 127 ts ≡ o
+unread : (ts : List Token) (j : json.Json) → value 128 ts ≡ Some (j, []) → fits j 127 ≡ false → (o : Option (json.Json × List Token))
+    → value 127 ts ≡ o
     → whole o ≡ None
 unread ts j e bad None is = refl
 unread ts j e bad (Some x) is =
@@ -198,11 +214,13 @@ unread ts j e bad (Some x) is =
     let shallow = value-depth 127 ts [] j (is ∙ same) in
     ap whole same ∙ unfit-unread j 127 shallow bad
 
-by_fit : (ts : List Token) (j : json.Json) → value 128 ts ≡ Some (j, []) → (b : Bool) → fits j 127 ≡ b → whole (value 127 ts) ≡ cond b (Some (data_at ts)) None
+by_fit : (ts : List Token) (j : json.Json) → value 128 ts ≡ Some (j, []) → (b : Bool) → fits j 127 ≡ b
+    → whole (value 127 ts) ≡ cond b (Some (data_at ts)) None
 by_fit ts j e true good =
     let split = value-split 128 ts [] j e in
     let here = data_at-BeginsWith ts j (128, [], e) in
-    ap whole (ap (value 127) split ∙ value-json_tokens j 127 [] (fits-depth j 127 good)) ∙ fits-read j 127 good ∙ ap (λ d. Some d) (sym here)
+    ap whole (ap (value 127) split ∙ value-json_tokens j 127 [] (fits-depth j 127 good)) ∙ fits-read j 127 good
+    ∙ ap (λ d. Some d) (sym here)
 by_fit ts j e false bad = unread ts j e bad (value 127 ts) refl
 
 is_fit : (b : Bool) (n : ℕ) → is_some (cond b (Some n) None) ≡ b
@@ -214,10 +232,12 @@ pub read-document : (text : List ℕ) (j : json.Json) → document text ≡ Some
 read-document text j e =
     let ts = tokens text in
     let found = last (value 128 ts) j e in
-    let walked : room_left ts 127 ≡ cond (fits j 127) (Some 127) None = ap (λ l. room_left l 127) (value-split 128 ts [] j found) ∙ walk j [] 127 in
+    let walked : room_left ts 127 ≡ cond (fits j 127) (Some 127) None =
+    ap (λ l. room_left l 127) (value-split 128 ts [] j found) ∙ walk j [] 127 in
     by_fit ts j found (fits j 127) refl ∙ ap (λ b. cond b (Some (data_at ts)) None) (sym (ap is_some walked ∙ is_fit (fits j 127) 127))
 
-deeper : (ts : List Token) (o : Option (json.Json × List Token)) → value 127 ts ≡ o → option_and_then (λ p. if_last p.0 p.1) (value 128 ts) ≡ None → whole o ≡ None
+deeper : (ts : List Token) (o : Option (json.Json × List Token)) → value 127 ts ≡ o
+    → option_and_then (λ p. if_last p.0 p.1) (value 128 ts) ≡ None → whole o ≡ None
 deeper ts None is e = refl
 deeper ts (Some (j, t ∷ r)) is e = refl
 deeper ts (Some (j, [])) is e =
@@ -230,7 +250,8 @@ pub no_document : (text : List ℕ) → document text ≡ None → read text ≡
 no_document text e = deeper (tokens text) (value 127 (tokens text)) refl e
 
 -- what is read of a text whose tape is in range, or not
-pub read-tape : (text : List ℕ) (tape nodes : List Token) → tape ≡ tokens text → IsSome (document text) → nodes ≡ tape → (b : Bool) → b ≡ is_some (room_left nodes 127)
+pub read-tape : (text : List ℕ) (tape nodes : List Token) → tape ≡ tokens text → IsSome (document text) → nodes ≡ tape → (b : Bool)
+    → b ≡ is_some (room_left nodes 127)
     → read text ≡ cond b (Some (data_at tape)) None
 read-tape text tape nodes all good same b h = at (document text) refl good
   where
@@ -238,4 +259,5 @@ read-tape text tape nodes all good same b h = at (document text) refl good
     at None is some = absurd (cc)
     at (Some j) is some =
         read-document text j is ∙ ap (λ ts. cond (is_some (room_left ts 127)) (Some (data_at ts)) None) (sym all)
-        ∙ ap (λ ts. cond (is_some (room_left ts 127)) (Some (data_at tape)) None) (sym same) ∙ ap (λ c. cond c (Some (data_at tape)) None) (sym h)
+        ∙ ap (λ ts. cond (is_some (room_left ts 127)) (Some (data_at tape)) None) (sym same)
+        ∙ ap (λ c. cond c (Some (data_at tape)) None) (sym h)

@@ -1,8 +1,10 @@
 -- The tokens of a value that was read, and what follows them.
-use Rattle.std.proofs.Common.{◌≡◌, ℕ, zero, suc, ◌≤◌, List, [], ◌∷◌, ◌++◌, length, Option, Some, None, option_and_then, refl, sym, ap, ◌∙◌, subst, arith, append_assoc, length-append}
+use Rattle.std.proofs.Common.{◌≡◌, ℕ, zero, suc, ◌≤◌, List, [], ◌∷◌, ◌++◌, length, Option, Some, None, option_and_then, refl, sym, ap, ◌∙◌}
+use Rattle.std.proofs.Common.{subst, arith, append_assoc, length-append}
 use Rattle.std.specs.Prelude.{⊤}
 use Rattle.json.specs.Token.{Token}
-use Rattle.json.specs.Json.{Json, null, boolean, number, string, array, object, Items, no_items, item, Members, no_members, member, Parse, parse_map, after_end_array, read_key, items_step, members_step, items, members, value_with, value}
+use Rattle.json.specs.Json.{Json, null, boolean, number, string, array, object, Items, no_items, item, Members, no_members, member, Parse}
+use Rattle.json.specs.Json.{parse_map, after_end_array, read_key, items_step, members_step, items, members, value_with, value}
 use Rattle.json.specs.Tree.{json_tokens, items_tokens, members_tokens, depth, items_depth, members_depth}
 use Rattle.json.proofs.Grammar.{closed_array, read_key_is}
 
@@ -14,11 +16,13 @@ IsSplit f ts (Some p) = ts ≡ f p.0 ++ p.1
 abbrev Splits : {A : Type 0} → (A → List Token) → Parse A → Type 0
 Splits f p = (ts : List Token) → IsSplit f ts (p ts)
 
-in_array : (ts : List Token) (o : Option (Items × List Token)) → IsSplit items_tokens ts o → IsSplit json_tokens (Token.begin_array ∷ ts) (parse_map array o)
+in_array : (ts : List Token) (o : Option (Items × List Token)) → IsSplit items_tokens ts o
+    → IsSplit json_tokens (Token.begin_array ∷ ts) (parse_map array o)
 in_array ts None h = tt
 in_array ts (Some p) h = ap (λ l. Token.begin_array ∷ l) h
 
-in_object : (ts : List Token) (o : Option (Members × List Token)) → IsSplit members_tokens ts o → IsSplit json_tokens (Token.begin_object ∷ ts) (parse_map object o)
+in_object : (ts : List Token) (o : Option (Members × List Token)) → IsSplit members_tokens ts o
+    → IsSplit json_tokens (Token.begin_object ∷ ts) (parse_map object o)
 in_object ts None h = tt
 in_object ts (Some p) h = ap (λ l. Token.begin_object ∷ l) h
 
@@ -34,7 +38,8 @@ one_member name j ts us (Some p) h k =
     ap (λ l. Token.key name ∷ l) (h ∙ ap (λ l. json_tokens j ++ l) k ∙ sym (append_assoc (json_tokens j) (members_tokens p.0) p.1))
 
 module _ (p : Parse Json) (splits : Splits json_tokens p) where
-  more_items : (more : Parse Items) → Splits items_tokens more → (ts : List Token) (o : Option (Json × List Token)) → IsSplit json_tokens ts o
+  more_items : (more : Parse Items) → Splits items_tokens more → (ts : List Token) (o : Option (Json × List Token))
+      → IsSplit json_tokens ts o
       → IsSplit items_tokens ts (option_and_then (λ q. parse_map (item q.0) (more q.1)) o)
   more_items more again ts None h = tt
   more_items more again ts (Some q) h = one_item q.0 ts q.1 (more q.1) h (again q.1)
@@ -50,11 +55,13 @@ module _ (p : Parse Json) (splits : Splits json_tokens p) where
   Splits-items (suc n) ts = item_turn (items p n) (Splits-items n) ts (after_end_array ts) refl
 
   more_members : (more : Parse Members) → Splits members_tokens more → (name : List ℕ) (ts : List Token) (o : Option (Json × List Token))
-      → IsSplit json_tokens ts o → IsSplit members_tokens (Token.key name ∷ ts) (option_and_then (λ q. parse_map (member name q.0) (more q.1)) o)
+      → IsSplit json_tokens ts o → IsSplit members_tokens (Token.key name
+      ∷ ts) (option_and_then (λ q. parse_map (member name q.0) (more q.1)) o)
   more_members more again name ts None h = tt
   more_members more again name ts (Some q) h = one_member name q.0 ts q.1 (more q.1) h (again q.1)
 
-  member_turn : (more : Parse Members) → Splits members_tokens more → (ts : List Token) (o : Option (Option (List ℕ) × List Token)) → read_key ts ≡ o
+  member_turn : (more : Parse Members) → Splits members_tokens more → (ts : List Token) (o : Option (Option (List ℕ) × List Token))
+      → read_key ts ≡ o
       → IsSplit members_tokens ts (option_and_then (λ q. members_step p more q.0 q.1) o)
   member_turn more again ts None is = tt
   member_turn more again ts (Some (None, r)) is = read_key_is ts None r is
@@ -67,7 +74,8 @@ module _ (p : Parse Json) (splits : Splits json_tokens p) where
   Splits-members zero ts = tt
   Splits-members (suc n) ts = member_turn (members p n) (Splits-members n) ts (read_key ts) refl
 
-Splits-value_with : (a : Parse Items) (o : Parse Members) → Splits items_tokens a → Splits members_tokens o → Splits json_tokens (value_with a o)
+Splits-value_with : (a : Parse Items) (o : Parse Members) → Splits items_tokens a → Splits members_tokens o
+    → Splits json_tokens (value_with a o)
 Splits-value_with a o p q [] = tt
 Splits-value_with a o p q (Token.begin_object ∷ ts) = in_object ts (o ts) (q ts)
 Splits-value_with a o p q (Token.end_object ∷ ts) = tt
@@ -106,4 +114,5 @@ mutual
 
   members_depth-length : (ms : Members) → members_depth ms ≤ length (members_tokens ms)
   members_depth-length no_members = omega arith
-  members_depth-length (member k j ms) = omega (arith, depth-length j, members_depth-length ms, length-append (json_tokens j) (members_tokens ms))
+  members_depth-length (member k j ms) =
+      omega (arith, depth-length j, members_depth-length ms, length-append (json_tokens j) (members_tokens ms))

@@ -1,7 +1,7 @@
 -- The session can do what a call does.
-use Rattle.std.proofs.Common.{◌≡◌, ◌≢◌, ℕ, Bool, true, false, List, [], ◌∷◌, Some, None, Ok, Err, refl}
-use Rattle.std.specs.List.{flat_map}
-use Rattle.std.specs.Prelude.{Option, Result, not, option_and_then}
+use Rattle.std.proofs.Common.{◌≢◌, ◌==◌, ℕ, Bool, true, false, List, [], ◌∷◌, Some, None, Ok, Err}
+use Rattle.std.specs.List.{AllByRecursion}
+use Rattle.std.specs.Prelude.{Option, Result, not, option_and_then, ⊤}
 use Rattle.url.specs.Parts.{Parts}
 use Rattle.fed_origin.specs.declared.options.GetOptions.{GetOptions}
 use Rattle.fed_origin.specs.declared.options.Mode.{Mode}
@@ -13,7 +13,6 @@ use Rattle.fed_origin.specs.declared.stage.ReplyKind.{ReplyKind}
 use Rattle.fed_origin.specs.declared.stage.ReplyKind.TheVariants as kinds
 use Rattle.fed_origin.specs.declared.stage.Stage.{Stage}
 use Rattle.fed_origin.specs.declared.stage.Stage.TheVariants as stages
-use Rattle.fed_origin.specs.declared.status.LoginStatus.{LoginStatus}
 use Rattle.fed_origin.specs.declared.status.LoginStatus.TheVariants.{Unknown, LoggedIn, LoggedOut}
 use Rattle.fed_origin.specs.WebUrl.{origin_of, scheme_of}
 use Rattle.fed_suffix.specs.Rule.{RuleSet}
@@ -26,34 +25,54 @@ use Rattle.fed_accounts.specs.declared.account.Account.{Account}
 use Rattle.fed_accounts.specs.declared.step.AccountsStep.{AccountsStep}
 use Rattle.fed_status.specs.Login.{status_of}
 use Rattle.fed_status.specs.Shared.{World}
-use Rattle.fed_consent.specs.declared.table.ask.Ask.{Ask}
-use Rattle.fed_consent.specs.declared.table.dialog.Dialog.{Dialog}
 use Rattle.fed_consent.specs.declared.table.effect.Effect.{Effect as CallEffect}
 use Rattle.fed_consent.specs.declared.table.effect.Effect.TheVariants as does
 use Rattle.fed_consent.specs.declared.table.failure.Failure.{Failure}
-use Rattle.fed_consent.specs.declared.table.finish.Finish.{Finish}
-use Rattle.fed_consent.specs.declared.table.why.Why.{Why}
 use Rattle.fed_consent.specs.declared.table.input.Input.{Input}
 use Rattle.fed_consent.specs.declared.table.input.Input.TheVariants as inputs
 use Rattle.fed_consent.specs.declared.consent.manner.Manner.TheVariants.{Chosen, Prompted}
 use Rattle.fed_consent.specs.Consent.{Agreement, Candidate, chosen}
 use Rattle.fed_call.specs.Accounts.{accounts_of, candidate_of}
 use Rattle.fed_call.specs.AssertingRows.{asserts, assertion_reply, asserting_reply}
-use Rattle.fed_call.specs.DialogRows.{links_shown, metadata_reply, prompting_reply, agreed_to, settles, choice, chose, goes_on, went_on, cancelled}
+use Rattle.fed_call.specs.DialogRows.{links_shown, metadata_reply, prompting_reply, agreed_to, settles, choice, chose, goes_on, went_on}
+use Rattle.fed_call.specs.DialogRows.{cancelled}
 use Rattle.fed_call.specs.Facts.{Facts, provider_at, metadata_endpoint}
 use Rattle.fed_provider.specs.FirstReplies.{config_read, wellknown_of}
 use Rattle.fed_consent.specs.Outcomes.{Outcome, only_place}
-use Rattle.fed_call.specs.ListingRows.{is_mismatch, by_mismatch, prompt_effect, prompts, offers, by_accounts, accounts_reply, listing_reply, site_of}
-use Rattle.fed_call.specs.ReadingRows.{start_at, by_scheme, by_gate, is_gated, first_wellknown, first_config, wellknown_reply, config_reply, reading_reply}
-use Rattle.fed_call.specs.Row.{stage_reply, input_row, call_row}
-use Rattle.fed_trace.specs.Effect.{Effect, Login, Move, Sent, Shown, Window, Result as Given, Ignored, kept_change, flag_change}
-use Rattle.fed_trace.specs.Row.{call_effects, get_outcome, moves, outcome_effects}
-use Rattle.fed_trace.proofs.effects.Silent.{AllSilent, silent_append}
+use Rattle.fed_call.specs.ListingRows.{is_mismatch, by_mismatch, prompt_effect, prompts, offers, by_accounts, accounts_reply, listing_reply}
+use Rattle.fed_call.specs.ListingRows.{site_of}
+use Rattle.fed_call.specs.ReadingRows.{start_at, by_scheme, by_gate, is_gated, first_wellknown, first_config, wellknown_reply, config_reply}
+use Rattle.fed_call.specs.ReadingRows.{reading_reply}
+use Rattle.fed_call.specs.Row.{stage_reply}
+use Rattle.fed_call.specs.Row as get
+use Rattle.fed_origin.specs.Origin.{origin_text}
+use Rattle.fed_origin.specs.declared.status.Triple.{Triple}
+use Rattle.fed_token.specs.declared.step.TokenStep.{TokenStep}
+use Rattle.fed_token.specs.Read.{DisconnectOf}
+use Rattle.fed_status.specs.Kept.{has_pair, has_triple, triple_of}
+use Rattle.fed_provider.specs.declared.first_replies.Heard.{Heard}
+use Rattle.fed_provider.specs.declared.first_replies.Heard.TheVariants as heard
+use Rattle.fed_provider.specs.FirstReplies.{reply_heard}
+use Rattle.fed_disconnect.specs.Facts.{DisconnectOptions, DisconnectFacts, provider_origin}
+use Rattle.fed_disconnect.specs.Rows as disconnect
+use Rattle.fed_script.specs.Used.{IsKnown}
+use Rattle.fed_trace.specs.Begun.{CallOptions, ToGet, ToDisconnect}
+use Rattle.fed_trace.specs.Call.{Known, OfGet, OfDisconnect, get_outcome, first_row, input_row}
 use Rattle.fed_session.specs.StepParts.{CanApplyAll, CanApply}
 
--- all of an outcome can be done
-abbrev Sets : Outcome → Type 0
-Sets outcome = CanApplyAll outcome.effects
+-- what may follow the first thing that a call does: a status that was said, and no pair goes
+abbrev pub Next : CallEffect → Type 0
+Next (does.SetLogin origin status) = IsKnown status
+Next (does.ForgetPair origin provider) = ⊥
+Next _ = ⊤
+
+-- all of it can be done, and only the first may be that a pair goes
+abbrev pub SetsAll : List CallEffect → Type 0
+SetsAll [] = ⊤
+SetsAll (effect ∷ effects) = CanApply effect × AllByRecursion Next effects
+
+abbrev pub Sets : Outcome → Type 0
+Sets outcome = SetsAll outcome.effects
 
 in_known : LoggedIn ≢ Unknown
 in_known is = absurd (cc)
@@ -76,15 +95,17 @@ scheme_sets place Https config (Ok wellknown) gated = gate_sets place config wel
 start_sets : (world : World) (mode : Mode) (place : ℕ) (provider : Option ProviderOptions) → Sets (start_at world mode place provider)
 start_sets world mode place None = tt
 start_sets world mode place (Some provider) =
-    scheme_sets place (scheme_of provider.config) provider.config (WellKnownUrlOf world.rules provider.config) (is_gated mode (status_of world.login (origin_of provider.config)))
+    scheme_sets place (scheme_of provider.config) provider.config (WellKnownUrlOf world.rules provider.config)
+    (is_gated mode (status_of world.login (origin_of provider.config)))
 
-pub get_can_apply : (world : World) (busy : Bool) (origin : Origin) (options : GetOptions) → Sets (get_outcome world busy origin options)
-get_can_apply world true origin options = (tt, tt)
-get_can_apply world false origin options = start_sets world options.mode only_place (provider_at only_place options)
+get_sets : (world : World) (busy : Bool) (origin : Origin) (options : GetOptions) → Sets (get_outcome world busy origin options)
+get_sets world true origin options = (tt, tt)
+get_sets world false origin options = start_sets world options.mode only_place (provider_at only_place options)
 
 -- ---- first replies
 
-first_wellknown_sets : (place : ℕ) (config : Option Config) (read : Result (Unit {0}) ProviderStep) → Sets (first_wellknown place config read)
+first_wellknown_sets : (place : ℕ) (config : Option Config) (read : Result (Unit {0}) ProviderStep)
+    → Sets (first_wellknown place config read)
 first_wellknown_sets place config (Err step) = (tt, tt)
 first_wellknown_sets place None (Ok u) = tt
 first_wellknown_sets place (Some config) (Ok u) = (tt, tt)
@@ -100,12 +121,14 @@ wellknown_sets place true config read = (tt, tt)
 wellknown_sets place false config None = (tt, tt)
 wellknown_sets place false config (Some read) = first_wellknown_sets place config read
 
-config_sets : (place : ℕ) (heard : Bool) (config : Option Config) (read : Option (Result Config ProviderStep)) → Sets (config_reply place heard config read)
+config_sets : (place : ℕ) (heard : Bool) (config : Option Config) (read : Option (Result Config ProviderStep))
+    → Sets (config_reply place heard config read)
 config_sets place heard (Some config) read = (tt, tt)
 config_sets place heard None None = (tt, tt)
 config_sets place heard None (Some read) = first_config_sets place heard read
 
-reading_sets : (rules : RuleSet) (heard : Bool) (config : Option Config) (place : ℕ) (provider : Option ProviderOptions) (kind : ReplyKind) (raw : List ℕ)
+reading_sets : (rules : RuleSet) (heard : Bool) (config : Option Config) (place : ℕ) (provider : Option ProviderOptions) (kind : ReplyKind)
+    (raw : List ℕ)
     → Sets (reading_reply rules heard config place provider kind raw)
 reading_sets rules heard config place provider kinds.WellKnown raw = wellknown_sets place heard config (wellknown_of rules raw provider)
 reading_sets rules heard config place provider kinds.Config raw = config_sets place heard config (config_read raw provider)
@@ -116,32 +139,47 @@ reading_sets rules heard config place provider kinds.Disconnect raw = (tt, tt)
 
 -- ---- accounts
 
-mismatch_sets : (provider : Origin) (place : ℕ) (site : List ℕ) (failure : Failure) (shown : Bool) → CanApplyAll (by_mismatch place site failure shown).effects
+mismatch_sets : (provider : Origin) (place : ℕ) (site : List ℕ) (failure : Failure) (shown : Bool)
+    → AllByRecursion Next (by_mismatch place site failure shown).effects
 mismatch_sets provider place site failure true = (tt, tt)
 mismatch_sets provider place site failure false = (tt, tt)
 
-prompt_sets : (world : World) (facts : Facts) (place : ℕ) (provider : ProviderOptions) (candidate : Candidate) (connected : Bool) (endpoint : Option Parts) → CanApply (prompt_effect world facts place provider candidate connected endpoint)
+prompt_sets : (world : World) (facts : Facts) (place : ℕ) (provider : ProviderOptions) (candidate : Candidate) (connected : Bool)
+    (endpoint : Option Parts) → Next (prompt_effect world facts place provider candidate connected endpoint)
 prompt_sets world facts place provider candidate true endpoint = tt
 prompt_sets world facts place provider candidate false None = tt
 prompt_sets world facts place provider candidate false (Some to) = tt
 
-offers_sets : (world : World) (facts : Facts) (place : ℕ) (provider : ProviderOptions) (accounts : List Account) → Sets (offers world facts place provider accounts)
+prompt_applies : (world : World) (facts : Facts) (place : ℕ) (provider : ProviderOptions) (candidate : Candidate) (connected : Bool)
+    (endpoint : Option Parts) → CanApply (prompt_effect world facts place provider candidate connected endpoint)
+prompt_applies world facts place provider candidate true endpoint = tt
+prompt_applies world facts place provider candidate false None = tt
+prompt_applies world facts place provider candidate false (Some to) = tt
+
+offers_sets : (world : World) (facts : Facts) (place : ℕ) (provider : ProviderOptions) (accounts : List Account)
+    → AllByRecursion Next (offers world facts place provider accounts).effects
 offers_sets world facts place provider [] = tt
 offers_sets world facts place provider (only ∷ []) =
     let candidate = candidate_of world facts.origin provider only in
     (prompt_sets world facts place provider candidate candidate.connected (metadata_endpoint facts.config), tt)
 offers_sets world facts place provider (first ∷ second ∷ more) = (tt, tt)
 
-by_accounts_sets : (world : World) (facts : Facts) (place : ℕ) (provider : ProviderOptions) (read : Result (List Account) AccountsStep) → Sets (by_accounts world facts place provider read)
-by_accounts_sets world facts place provider (Err step) =
-    (out_known, mismatch_sets (origin_of provider.config) place (site_of world facts.origin) _ (is_mismatch facts.options.mode facts.options.mediation (status_of world.login (origin_of provider.config))))
+by_accounts_sets : (world : World) (facts : Facts) (place : ℕ) (provider : ProviderOptions) (read : Result (List Account) AccountsStep)
+    → Sets (by_accounts world facts place provider read)
+by_accounts_sets world facts place provider (Err step) = (
+  out_known,
+  mismatch_sets (origin_of provider.config) place (site_of world facts.origin) _
+      (is_mismatch facts.options.mode facts.options.mediation (status_of world.login (origin_of provider.config))),
+)
 by_accounts_sets world facts place provider (Ok accounts) = (in_known, offers_sets world facts place provider accounts)
 
-accounts_sets : (world : World) (facts : Facts) (place : ℕ) (provider : Option ProviderOptions) (raw : List ℕ) → Sets (accounts_reply world facts place provider raw)
+accounts_sets : (world : World) (facts : Facts) (place : ℕ) (provider : Option ProviderOptions) (raw : List ℕ)
+    → Sets (accounts_reply world facts place provider raw)
 accounts_sets world facts place None raw = (tt, tt)
 accounts_sets world facts place (Some provider) raw = by_accounts_sets world facts place provider (accounts_of raw provider)
 
-listing_sets : (world : World) (facts : Facts) (place : ℕ) (provider : Option ProviderOptions) (kind : ReplyKind) (raw : List ℕ) → Sets (listing_reply world facts place provider kind raw)
+listing_sets : (world : World) (facts : Facts) (place : ℕ) (provider : Option ProviderOptions) (kind : ReplyKind) (raw : List ℕ)
+    → Sets (listing_reply world facts place provider kind raw)
 listing_sets world facts place provider kinds.Accounts raw = accounts_sets world facts place provider raw
 listing_sets world facts place provider kinds.WellKnown raw = (tt, tt)
 listing_sets world facts place provider kinds.Config raw = (tt, tt)
@@ -151,16 +189,19 @@ listing_sets world facts place provider kinds.Disconnect raw = (tt, tt)
 
 -- ---- dialogs
 
-links_sets : (world : World) (facts : Facts) (place : ℕ) (picked : Option Candidate) (links : PolicyLinks) → Sets (links_shown world facts place picked links)
+links_sets : (world : World) (facts : Facts) (place : ℕ) (picked : Option Candidate) (links : PolicyLinks)
+    → Sets (links_shown world facts place picked links)
 links_sets world facts place None links = tt
 links_sets world facts place (Some candidate) links = (tt, tt)
 
-metadata_sets : (world : World) (facts : Facts) (waits : Bool) (place : ℕ) (provider : Option ProviderOptions) (raw : List ℕ) → Sets (metadata_reply world facts waits place provider raw)
+metadata_sets : (world : World) (facts : Facts) (waits : Bool) (place : ℕ) (provider : Option ProviderOptions) (raw : List ℕ)
+    → Sets (metadata_reply world facts waits place provider raw)
 metadata_sets world facts false place provider raw = (tt, tt)
 metadata_sets world facts true place None raw = (tt, tt)
 metadata_sets world facts true place (Some provider) raw = links_sets world facts place facts.picked (MetadataOf raw)
 
-prompting_sets : (world : World) (facts : Facts) (place : ℕ) (provider : Option ProviderOptions) (kind : ReplyKind) (raw : List ℕ) → Sets (prompting_reply world facts place provider kind raw)
+prompting_sets : (world : World) (facts : Facts) (place : ℕ) (provider : Option ProviderOptions) (kind : ReplyKind) (raw : List ℕ)
+    → Sets (prompting_reply world facts place provider kind raw)
 prompting_sets world facts place provider kinds.Metadata raw = metadata_sets world facts facts.waits place provider raw
 prompting_sets world facts place provider kinds.WellKnown raw = (tt, tt)
 prompting_sets world facts place provider kinds.Config raw = (tt, tt)
@@ -168,25 +209,32 @@ prompting_sets world facts place provider kinds.Accounts raw = (tt, tt)
 prompting_sets world facts place provider kinds.Assertion raw = (tt, tt)
 prompting_sets world facts place provider kinds.Disconnect raw = (tt, tt)
 
-asserts_sets : (facts : Facts) (place : ℕ) (provider : Option ProviderOptions) (config : Option Config) (agreed : Agreement) → Sets (asserts facts place provider config agreed)
+asserts_sets : (facts : Facts) (place : ℕ) (provider : Option ProviderOptions) (config : Option Config) (agreed : Agreement)
+    → Sets (asserts facts place provider config agreed)
 asserts_sets facts place None config agreed = tt
 asserts_sets facts place (Some provider) None agreed = tt
 asserts_sets facts place (Some provider) (Some config) agreed = (tt, tt)
 
-prompts_sets : (world : World) (facts : Facts) (place : ℕ) (provider : ProviderOptions) (candidate : Candidate) → Sets (prompts world facts place provider candidate)
-prompts_sets world facts place provider candidate = (prompt_sets world facts place provider candidate candidate.connected (metadata_endpoint facts.config), tt)
+prompts_sets : (world : World) (facts : Facts) (place : ℕ) (provider : ProviderOptions) (candidate : Candidate)
+    → Sets (prompts world facts place provider candidate)
+prompts_sets world facts place provider candidate =
+    (prompt_applies world facts place provider candidate candidate.connected (metadata_endpoint facts.config), tt)
 
-settles_sets : (world : World) (facts : Facts) (place : ℕ) (provider : ProviderOptions) (candidate : Candidate) (connected : Bool) → Sets (settles world facts place provider candidate connected)
-settles_sets world facts place provider candidate true = asserts_sets facts place (Some provider) facts.config (agreed_to facts place candidate Chosen false)
+settles_sets : (world : World) (facts : Facts) (place : ℕ) (provider : ProviderOptions) (candidate : Candidate) (connected : Bool)
+    → Sets (settles world facts place provider candidate connected)
+settles_sets world facts place provider candidate true =
+    asserts_sets facts place (Some provider) facts.config (agreed_to facts place candidate Chosen false)
 settles_sets world facts place provider candidate false = prompts_sets world facts place provider candidate
 
-choice_sets : (world : World) (facts : Facts) (place : ℕ) (provider : Option ProviderOptions) (candidate : Option Candidate) → Sets (choice world facts place provider candidate)
+choice_sets : (world : World) (facts : Facts) (place : ℕ) (provider : Option ProviderOptions) (candidate : Option Candidate)
+    → Sets (choice world facts place provider candidate)
 choice_sets world facts place None candidate = (tt, tt)
 choice_sets world facts place (Some provider) None = (tt, tt)
 choice_sets world facts place (Some provider) (Some candidate) = settles_sets world facts place provider candidate candidate.connected
 
 chose_sets : (world : World) (facts : Facts) (stage : Stage) (place : ℕ) (id : List ℕ) → Sets (chose world facts stage place id)
-chose_sets world facts stages.Choosing place id = choice_sets world facts place (provider_at place facts.options) (option_and_then (chosen id) facts.listed)
+chose_sets world facts stages.Choosing place id =
+    choice_sets world facts place (provider_at place facts.options) (option_and_then (chosen id) facts.listed)
 chose_sets world facts stages.Reading place id = (tt, tt)
 chose_sets world facts stages.Listing place id = (tt, tt)
 chose_sets world facts stages.Mismatch place id = (tt, tt)
@@ -197,7 +245,9 @@ chose_sets world facts stages.Ended place id = (tt, tt)
 goes_on_sets : (facts : Facts) (waits : Bool) (picked : Option Candidate) → Sets (goes_on facts waits picked)
 goes_on_sets facts true picked = (tt, tt)
 goes_on_sets facts false None = tt
-goes_on_sets facts false (Some candidate) = asserts_sets facts only_place (provider_at only_place facts.options) facts.config (agreed_to facts only_place candidate Prompted (not candidate.connected))
+goes_on_sets facts false (Some candidate) =
+    asserts_sets facts only_place (provider_at only_place facts.options) facts.config
+    (agreed_to facts only_place candidate Prompted (not candidate.connected))
 
 went_on_sets : (facts : Facts) (stage : Stage) → Sets (went_on facts stage)
 went_on_sets facts stages.Prompting = goes_on_sets facts facts.waits facts.picked
@@ -210,11 +260,13 @@ went_on_sets facts stages.Ended = (tt, tt)
 
 -- ---- the token
 
-assertion_sets : (facts : Facts) (place : ℕ) (provider : Option ProviderOptions) (raw : List ℕ) → Sets (assertion_reply facts place provider raw)
+assertion_sets : (facts : Facts) (place : ℕ) (provider : Option ProviderOptions) (raw : List ℕ)
+    → Sets (assertion_reply facts place provider raw)
 assertion_sets facts place None raw = (tt, tt)
 assertion_sets facts place (Some provider) raw = (tt, tt)
 
-asserting_sets : (facts : Facts) (place : ℕ) (provider : Option ProviderOptions) (kind : ReplyKind) (raw : List ℕ) → Sets (asserting_reply facts place provider kind raw)
+asserting_sets : (facts : Facts) (place : ℕ) (provider : Option ProviderOptions) (kind : ReplyKind) (raw : List ℕ)
+    → Sets (asserting_reply facts place provider kind raw)
 asserting_sets facts place provider kinds.Assertion raw = assertion_sets facts place provider raw
 asserting_sets facts place provider kinds.WellKnown raw = (tt, tt)
 asserting_sets facts place provider kinds.Config raw = (tt, tt)
@@ -233,8 +285,10 @@ cancel_sets stages.Ended = (tt, tt)
 
 -- ---- all inputs
 
-reply_sets : (world : World) (facts : Facts) (stage : Stage) (place : ℕ) (kind : ReplyKind) (raw : List ℕ) → Sets (stage_reply world facts stage place kind raw)
-reply_sets world facts stages.Reading place kind raw = reading_sets world.rules facts.heard facts.config place (provider_at place facts.options) kind raw
+reply_sets : (world : World) (facts : Facts) (stage : Stage) (place : ℕ) (kind : ReplyKind) (raw : List ℕ)
+    → Sets (stage_reply world facts stage place kind raw)
+reply_sets world facts stages.Reading place kind raw =
+    reading_sets world.rules facts.heard facts.config place (provider_at place facts.options) kind raw
 reply_sets world facts stages.Listing place kind raw = listing_sets world facts place (provider_at place facts.options) kind raw
 reply_sets world facts stages.Mismatch place kind raw = (tt, tt)
 reply_sets world facts stages.Choosing place kind raw = (tt, tt)
@@ -242,7 +296,7 @@ reply_sets world facts stages.Prompting place kind raw = prompting_sets world fa
 reply_sets world facts stages.Asserting place kind raw = asserting_sets facts place (provider_at place facts.options) kind raw
 reply_sets world facts stages.Ended place kind raw = (tt, tt)
 
-input_sets : (world : World) (facts : Facts) (input : Input) → Sets (input_row world facts input)
+input_sets : (world : World) (facts : Facts) (input : Input) → Sets (get.input_row world facts input)
 input_sets world facts (inputs.Reply place kind raw) = reply_sets world facts facts.stage place kind raw
 input_sets world facts inputs.Cancel = cancel_sets facts.stage
 input_sets world facts inputs.Abort = (tt, tt)
@@ -252,44 +306,99 @@ input_sets world facts inputs.SignIn = (tt, tt)
 input_sets world facts inputs.Shut = (tt, tt)
 input_sets world facts inputs.Resume = (tt, tt)
 
-pub row_can_apply : (world : World) (facts : Option Facts) (input : Input) → Sets (call_row world facts input)
-row_can_apply world None input = (tt, tt)
-row_can_apply world (Some facts) input = input_sets world facts input
+-- ---- a disconnect
 
--- ---- what can be done says nothing of permissions and flags
+by_site_sets : (config : Parts) (wellknown : Result Parts ProviderStep) (kept : Bool) → Sets (disconnect.by_site config wellknown kept)
+by_site_sets config (Err step) kept = (tt, tt)
+by_site_sets config (Ok wellknown) false = (tt, tt)
+by_site_sets config (Ok wellknown) true = (tt, (tt, tt))
 
-can_silent : {A : Type 0} (said : Effect → Option A) → ((call provider : ℕ) (ask : Ask) (cookies : List ℕ) → said (Sent call provider ask cookies) ≡ None)
-    → ((call : ℕ) (dialog : Dialog) → said (Shown call dialog) ≡ None) → ((call provider : ℕ) (url : Parts) → said (Window call provider url) ≡ None)
-    → ((origin : Origin) (status : LoginStatus) → said (Login origin status) ≡ None) → ((call page : ℕ) (finish : Finish) → said (Given call page finish) ≡ None)
-    → ((why : Why) → said (Ignored why) ≡ None) → ((call : ℕ) (stage : Stage) → said (Move call stage) ≡ None)
-    → (world : World) (cookies : Ask → List ℕ) (call page : ℕ) (outcome : Outcome) → CanApplyAll outcome.effects
-    → AllSilent said (outcome_effects world cookies call page outcome)
-can_silent said sent shown window login result ignored move world cookies call page outcome can =
-    silent_append said (flat_map (call_effects world cookies call page) outcome.effects) (moves call outcome.stage) (all outcome.effects can) (go outcome.stage)
-  where
-    all : (effects : List CallEffect) → CanApplyAll effects → AllSilent said (flat_map (call_effects world cookies call page) effects)
-    all [] h = tt
-    all (does.Send provider ask ∷ effects) h = (sent call provider ask (cookies ask), all effects h.1)
-    all (does.Finish finish ∷ effects) h = (result call page finish, all effects h.1)
-    all (does.Ignored why ∷ effects) h = (ignored why, all effects h.1)
-    all (does.Dialog dialog ∷ effects) h = (shown call dialog, all effects h.1)
-    all (does.Window place url ∷ effects) h = (window call place url, all effects h.1)
-    all (does.SetLogin origin status ∷ effects) h = (login origin status, all effects h.1)
-    all (does.Keep triple ∷ effects) h = absurd h.0
-    all (does.Forget triple ∷ effects) h = absurd h.0
-    all (does.ForgetPair p q ∷ effects) h = absurd h.0
-    all (does.ClearFlag origin ∷ effects) h = absurd h.0
+by_scheme_sets : (scheme : Scheme) (config : Parts) (wellknown : Result Parts ProviderStep) (kept : Bool)
+    → Sets (disconnect.by_scheme scheme config wellknown kept)
+by_scheme_sets Http config wellknown kept = (tt, tt)
+by_scheme_sets Https config wellknown kept = by_site_sets config wellknown kept
 
-    go : (stage : Option Stage) → AllSilent said (moves call stage)
-    go None = tt
-    go (Some stage) = (move call stage, tt)
+asks_sets : (origin : Origin) (options : DisconnectOptions) (to : Option Parts) → Sets (disconnect.asks_disconnect origin options to)
+asks_sets origin options None = (tt, tt)
+asks_sets origin options (Some to) = (tt, tt)
 
-pub keeps_no_permission : (world : World) (cookies : Ask → List ℕ) (call page : ℕ) (outcome : Outcome) → CanApplyAll outcome.effects
-    → AllSilent kept_change (outcome_effects world cookies call page outcome)
-keeps_no_permission world cookies call page outcome can =
-    can_silent kept_change (λ c p a k. refl) (λ c d. refl) (λ c p u. refl) (λ o s. refl) (λ c p f. refl) (λ w. refl) (λ c s. refl) world cookies call page outcome can
+heard_sets : (origin : Origin) (options : DisconnectOptions) (h : Heard) → Sets (disconnect.by_heard origin options h)
+heard_sets origin options (heard.Refused step) = (tt, tt)
+heard_sets origin options (heard.Waits replies) = tt
+heard_sets origin options (heard.Both config) = asks_sets origin options config.disconnect
+heard_sets origin options (heard.NotWaited replies) = (tt, tt)
 
-pub sets_no_flag : (world : World) (cookies : Ask → List ℕ) (call page : ℕ) (outcome : Outcome) → CanApplyAll outcome.effects
-    → AllSilent flag_change (outcome_effects world cookies call page outcome)
-sets_no_flag world cookies call page outcome can =
-    can_silent flag_change (λ c p a k. refl) (λ c d. refl) (λ c p u. refl) (λ o s. refl) (λ c p f. refl) (λ w. refl) (λ c s. refl) world cookies call page outcome can
+forgotten_sets : (page provider : Origin) (account : List ℕ) (kept : Bool) → CanApply (disconnect.forgotten page provider account kept)
+forgotten_sets page provider account true = tt
+forgotten_sets page provider account false = tt
+
+answered_sets : (kept : List Triple) (page provider : Origin) (read : Result (List ℕ) TokenStep)
+    → Sets (disconnect.answered kept page provider read)
+answered_sets kept page provider (Ok account) =
+    (forgotten_sets page provider account (has_triple kept (triple_of page provider account)), (tt, tt))
+answered_sets kept page provider (Err step) = (tt, (tt, tt))
+
+sending_sets : (kept : List Triple) (page provider : Origin) (kind : ReplyKind) (raw : List ℕ)
+    → Sets (disconnect.asserting_reply kept page provider kind raw)
+sending_sets kept page provider kinds.Disconnect raw = answered_sets kept page provider (DisconnectOf raw (origin_text page))
+sending_sets kept page provider kinds.WellKnown raw = (tt, tt)
+sending_sets kept page provider kinds.Config raw = (tt, tt)
+sending_sets kept page provider kinds.Accounts raw = (tt, tt)
+sending_sets kept page provider kinds.Metadata raw = (tt, tt)
+sending_sets kept page provider kinds.Assertion raw = (tt, tt)
+
+disconnect_stage_sets : (world : World) (facts : DisconnectFacts) (stage : Stage) (kind : ReplyKind) (raw : List ℕ)
+    → Sets (disconnect.stage_reply world facts stage kind raw)
+disconnect_stage_sets world facts stages.Reading kind raw =
+    heard_sets facts.origin facts.options (reply_heard world.rules facts.replies facts.options.config kind raw)
+disconnect_stage_sets world facts stages.Asserting kind raw = sending_sets world.kept facts.origin (provider_origin facts.options) kind raw
+disconnect_stage_sets world facts stages.Listing kind raw = (tt, tt)
+disconnect_stage_sets world facts stages.Mismatch kind raw = (tt, tt)
+disconnect_stage_sets world facts stages.Choosing kind raw = (tt, tt)
+disconnect_stage_sets world facts stages.Prompting kind raw = (tt, tt)
+disconnect_stage_sets world facts stages.Ended kind raw = (tt, tt)
+
+provider_sets : (world : World) (facts : DisconnectFacts) (own : Bool) (kind : ReplyKind) (raw : List ℕ)
+    → Sets (disconnect.provider_reply world facts own kind raw)
+provider_sets world facts true kind raw = disconnect_stage_sets world facts facts.stage kind raw
+provider_sets world facts false kind raw = (tt, tt)
+
+disconnect_sets : (world : World) (facts : DisconnectFacts) (input : Input) → Sets (disconnect.input_row world facts input)
+disconnect_sets world facts (inputs.Reply place kind raw) = provider_sets world facts (place == only_place) kind raw
+disconnect_sets world facts inputs.Cancel = (tt, tt)
+disconnect_sets world facts inputs.Abort = (tt, tt)
+disconnect_sets world facts (inputs.Choose place account) = (tt, tt)
+disconnect_sets world facts inputs.GoOn = (tt, tt)
+disconnect_sets world facts inputs.SignIn = (tt, tt)
+disconnect_sets world facts inputs.Shut = (tt, tt)
+disconnect_sets world facts inputs.Resume = (tt, tt)
+
+-- ---- a call of either kind
+
+pub first_sets : (world : World) (busy : Bool) (origin : Origin) (options : CallOptions) → Sets (first_row world busy origin options)
+first_sets world busy origin (ToGet options) = get_sets world busy origin options
+first_sets world busy origin (ToDisconnect options) =
+    by_scheme_sets (scheme_of options.config) options.config (WellKnownUrlOf world.rules options.config)
+    (has_pair world.kept origin (provider_origin options))
+
+pub row_sets : (world : World) (known : Known) (input : Input) → Sets (input_row world known input)
+row_sets world (OfGet facts) input = input_sets world facts input
+row_sets world (OfDisconnect facts) input = disconnect_sets world facts input
+
+-- what comes next can be done
+next_apply : (effects : List CallEffect) → AllByRecursion Next effects → CanApplyAll effects
+next_apply [] next = tt
+next_apply (does.SetLogin origin status ∷ effects) next = (next.0, next_apply effects next.1)
+next_apply (does.ForgetPair p q ∷ effects) next = (tt, next_apply effects next.1)
+next_apply (does.Send provider ask ∷ effects) next = (tt, next_apply effects next.1)
+next_apply (does.Finish finish ∷ effects) next = (tt, next_apply effects next.1)
+next_apply (does.Ignored why ∷ effects) next = (tt, next_apply effects next.1)
+next_apply (does.Dialog dialog ∷ effects) next = (tt, next_apply effects next.1)
+next_apply (does.Window place url ∷ effects) next = (tt, next_apply effects next.1)
+next_apply (does.Keep triple ∷ effects) next = (tt, next_apply effects next.1)
+next_apply (does.Forget triple ∷ effects) next = (tt, next_apply effects next.1)
+next_apply (does.ClearFlag origin ∷ effects) next = (tt, next_apply effects next.1)
+
+pub sets_apply : (effects : List CallEffect) → SetsAll effects → CanApplyAll effects
+sets_apply [] sets = tt
+sets_apply (effect ∷ effects) sets = (sets.0, next_apply effects sets.1)

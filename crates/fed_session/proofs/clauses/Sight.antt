@@ -32,10 +32,12 @@ sees s sight is =
     }
 
 -- what a jar gives is what was written
-jar_same : (s : State) (T : Trace) (to : Parts) → Stands s T → jar_text s.rules to s.time s.cookies ≡ jar.cookie_text T.header.rules to (now_at T) (writes T)
+jar_same : (s : State) (T : Trace) (to : Parts) → Stands s T
+    → jar_text s.rules to s.time s.cookies ≡ jar.cookie_text T.header.rules to (now_at T) (writes T)
 unfolding jar_text jar.cookie_text jar.cookies_at
 jar_same s T to h =
-    ap (λ r. jar_text r to s.time s.cookies) h.rules ∙ ap (λ t. jar_text T.header.rules to t s.cookies) h.time ∙ ap (jar_text T.header.rules to (now_at T)) h.cookies
+    ap (λ r. jar_text r to s.time s.cookies) h.rules ∙ ap (λ t. jar_text T.header.rules to t s.cookies) h.time
+    ∙ ap (jar_text T.header.rules to (now_at T)) h.cookies
 
 pub cookies_same : (s : State) (T : Trace) (ask : Ask) → Stands s T → cookies_of (sight_of s) ask ≡ cookies_with T ask
 cookies_same s T (asks.Accounts to) h = jar_same s T to h

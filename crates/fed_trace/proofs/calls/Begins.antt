@@ -1,5 +1,6 @@
 -- No call begins twice.
-use Rattle.std.proofs.Common.{◌≡◌, ℕ, Bool, true, false, nat_eq, ◌||◌, ◌⊎◌, inl, inr, List, [], ◌∷◌, ◌++◌, Some, None, refl, sym, ap, subst, ◌∙◌, arith, append-nil}
+use Rattle.std.proofs.Common.{◌≡◌, ℕ, Bool, true, false, nat_eq, ◌||◌, ◌⊎◌, inl, inr, List, [], ◌∷◌, ◌++◌, Some, None, refl, sym, ap, subst}
+use Rattle.std.proofs.Common.{◌∙◌, arith, append-nil}
 use Rattle.std.proofs.lemmas.Bool.Decides.{nat_tests}
 use Rattle.std.specs.Prelude.{Option, ⊤}
 use Rattle.std.specs.List.{list_any, filter_map}
@@ -14,11 +15,13 @@ use Rattle.fed_script.specs.declared.event.Header.{Header}
 use Rattle.fed_consent.specs.declared.table.input.Input.TheVariants as inputs
 use Rattle.fed_script.specs.declared.event.Event.TheVariants as events
 use Rattle.fed_script.specs.declared.event.Have.TheVariants as haves
+use Rattle.fed_trace.specs.Begun.{CallKind, ToGet}
 use Rattle.fed_trace.specs.Effect.{Closed, Cookie, Login, begun_by}
-use Rattle.fed_trace.specs.Known.{world_at, is_begun, facts_at}
-use Rattle.fed_trace.specs.Row.{effects_of, cookies_with, cookies_from, have_cookies, have_logins, set_cookies, set_logins, cookie_effects, ends_of, close_effects, standing_status, status_effects, is_busy, IsNew, IsRun}
-use Rattle.fed_trace.specs.Trace.{Row, Trace, begun, pending, pending_of, page_at, now_at}
-use Rattle.fed_trace.proofs.calls.Pending.{BeginsAtMost, ends_silent, load_silent, get_begins, input_begins_none}
+use Rattle.fed_trace.specs.Known.{world_at, is_begun, known_at}
+use Rattle.fed_trace.specs.Row.{effects_of, cookies_with, cookies_from, have_cookies, have_logins, set_cookies, set_logins, cookie_effects}
+use Rattle.fed_trace.specs.Row.{ends_of, close_effects, standing_status, status_effects, is_busy, IsNew, IsRun}
+use Rattle.fed_trace.specs.Trace.{Row, Trace, begun, pending_of, page_at, now_at, gets}
+use Rattle.fed_trace.proofs.calls.Pending.{BeginsAtMost, ends_silent, load_silent, call_begins, input_begins_none}
 use Rattle.fed_trace.proofs.effects.Silent.{AllSilent, said_silent, silent_map, silent_append}
 
 -- no number stands twice
@@ -40,7 +43,8 @@ apart_push c (x ∷ xs) h apart =
     let tail : list_any (nat_eq c) xs ≡ false = grind (arith, h) in
     (not_in_push x c xs ne apart.0, apart_push c xs tail apart.1)
 
-apart_by : (c : ℕ) (xs begins : List ℕ) → list_any (nat_eq c) xs ≡ false → (begins ≡ []) ⊎ (begins ≡ c ∷ []) → AreApart xs → AreApart (xs ++ begins)
+apart_by : (c : ℕ) (xs begins : List ℕ) → list_any (nat_eq c) xs ≡ false → (begins ≡ []) ⊎ (begins ≡ c ∷ []) → AreApart xs
+    → AreApart (xs ++ begins)
 apart_by c xs begins new (inl none) apart = subst (λ ys. AreApart (xs ++ ys)) (sym none) (subst AreApart (sym (append-nil xs)) apart)
 apart_by c xs begins new (inr one) apart = subst (λ ys. AreApart (xs ++ ys)) (sym one) (apart_push c xs new apart)
 
@@ -48,13 +52,15 @@ none_begun : (xs begins : List ℕ) → begins ≡ [] → AreApart xs → AreApa
 none_begun xs begins none apart = subst (λ ys. AreApart (xs ++ ys)) (sym none) (subst AreApart (sym (append-nil xs)) apart)
 
 have_begins_none : (cookies : List StoredCookie) (have : Have) → AllSilent begun_by (cookie_effects cookies ++ have_logins have)
-have_begins_none cookies (haves.Cookie url field) = silent_append begun_by (cookie_effects cookies) [] (silent_map begun_by Cookie (λ c. refl) cookies) tt
+have_begins_none cookies (haves.Cookie url field) =
+    silent_append begun_by (cookie_effects cookies) [] (silent_map begun_by Cookie (λ c. refl) cookies) tt
 have_begins_none cookies (haves.Login origin status) =
     silent_append begun_by (cookie_effects cookies) (Login origin status ∷ []) (silent_map begun_by Cookie (λ c. refl) cookies) (refl, tt)
 
-close_begins_none : (calls : List ℕ) (page : ℕ) (o : Option Origin) → AllSilent begun_by (close_effects calls page o)
+close_begins_none : (calls : List (ℕ × CallKind)) (page : ℕ) (o : Option Origin) → AllSilent begun_by (close_effects calls page o)
 close_begins_none calls page None = (refl, tt)
-close_begins_none calls page (Some origin) = silent_append begun_by (ends_of calls) (Closed page ∷ []) (ends_silent begun_by (λ c. refl) calls) (refl, tt)
+close_begins_none calls page (Some origin) =
+    silent_append begun_by (ends_of calls) (Closed page ∷ []) (ends_silent begun_by (λ n c. refl) calls) (refl, tt)
 
 status_begins_none : (o : Option Origin) (status : LoginStatus) → AllSilent begun_by (status_effects o status)
 status_begins_none None status = (refl, tt)
@@ -70,34 +76,42 @@ get_call (Get page call options) = Some call
 get_call _ = None
 
 -- an event begins no call, or that of a get
-pub event_begins : (T : Trace) (event : Event) → (AllSilent begun_by (effects_of T event)) ⊎ ((call : ℕ) × (get_call event ≡ Some call) × BeginsAtMost call (effects_of T event))
+pub event_begins : (T : Trace) (event : Event)
+    → (AllSilent begun_by (effects_of T event)) ⊎ ((call : ℕ) × (get_call event ≡ Some call) × BeginsAtMost call (effects_of T event))
 event_begins T (events.Have have) = inl (have_begins_none (have_cookies T.header.rules (now_at T) have) have)
 event_begins T (At time) = inl (refl, tt)
 event_begins T (Load page url raw) =
-    inl (load_silent begun_by (λ c. refl) (λ p o. refl) (λ c. refl) (λ o s. refl) (pending_of T page) page url (cookies_from T.header.rules url (now_at T) (set_cookies raw)) (set_logins raw))
+    inl (load_silent begun_by (λ n c. refl) (λ p o. refl) (λ c. refl) (λ o s. refl) (pending_of T page) page url
+    (cookies_from T.header.rules url (now_at T) (set_cookies raw)) (set_logins raw))
 event_begins T (ClosePage page) = inl (close_begins_none (pending_of T page) page (page_at T page))
 event_begins T (SetStatus page status) = inl (status_begins_none (page_at T page) status)
-event_begins T (Get page call options) = inr (call, refl, get_begins (world_at T) (cookies_with T) (page_at T page) (is_busy page (pending T)) page call options)
-event_begins T (Abort call) = inl (input_begins_none (world_at T) (cookies_with T) (is_begun T call) call (facts_at T call) inputs.Abort)
+event_begins T (Get page call options) =
+    inr (call, refl, call_begins (world_at T) (cookies_with T) (page_at T page) (is_busy page (gets T)) page call (ToGet options))
+event_begins T (Abort call) = inl (input_begins_none (world_at T) (cookies_with T) (is_begun T call) call (known_at T call) inputs.Abort)
 event_begins T (events.Choose call provider account) =
-    inl (input_begins_none (world_at T) (cookies_with T) (is_begun T call) call (facts_at T call) (inputs.Choose provider account))
-event_begins T (events.GoOn call) = inl (input_begins_none (world_at T) (cookies_with T) (is_begun T call) call (facts_at T call) inputs.GoOn)
-event_begins T (events.Cancel call) = inl (input_begins_none (world_at T) (cookies_with T) (is_begun T call) call (facts_at T call) inputs.Cancel)
+    inl (input_begins_none (world_at T) (cookies_with T) (is_begun T call) call (known_at T call) (inputs.Choose provider account))
+event_begins T (events.GoOn call) =
+    inl (input_begins_none (world_at T) (cookies_with T) (is_begun T call) call (known_at T call) inputs.GoOn)
+event_begins T (events.Cancel call) =
+    inl (input_begins_none (world_at T) (cookies_with T) (is_begun T call) call (known_at T call) inputs.Cancel)
 event_begins T (Reply call provider kind raw) =
-    inl (input_begins_none (world_at T) (cookies_with T) (is_begun T call) call (facts_at T call) (inputs.Reply provider kind raw))
+    inl (input_begins_none (world_at T) (cookies_with T) (is_begun T call) call (known_at T call) (inputs.Reply provider kind raw))
 
 -- an event other than a get begins none
 pub begins_none : (T : Trace) (event : Event) → get_call event ≡ None → filter_map begun_by (effects_of T event) ≡ []
 begins_none T event none = go (event_begins T event)
   where
-    go : (AllSilent begun_by (effects_of T event)) ⊎ ((call : ℕ) × (get_call event ≡ Some call) × BeginsAtMost call (effects_of T event)) → filter_map begun_by (effects_of T event) ≡ []
+    go : (AllSilent begun_by (effects_of T event)) ⊎ ((call : ℕ) × (get_call event ≡ Some call) × BeginsAtMost call (effects_of T event))
+        → filter_map begun_by (effects_of T event) ≡ []
     go (inl silent) = said_silent begun_by (effects_of T event) silent
     go (inr found) = let is = found.1 in absurd (cc)
 
-apart_after : (T : Trace) (event : Event) → IsNew T.rows event → AreApart (begun T.rows) → AreApart (begun T.rows ++ filter_map begun_by (effects_of T event))
+apart_after : (T : Trace) (event : Event) → IsNew T.rows event → AreApart (begun T.rows)
+    → AreApart (begun T.rows ++ filter_map begun_by (effects_of T event))
 apart_after T event new apart = go event (event_begins T event) new
   where
-    go : (e : Event) → (AllSilent begun_by (effects_of T event)) ⊎ ((call : ℕ) × (get_call e ≡ Some call) × BeginsAtMost call (effects_of T event)) → IsNew T.rows e
+    go : (e : Event) → (AllSilent begun_by (effects_of T event))
+        ⊎ ((call : ℕ) × (get_call e ≡ Some call) × BeginsAtMost call (effects_of T event)) → IsNew T.rows e
         → AreApart (begun T.rows ++ filter_map begun_by (effects_of T event))
     go e (inl silent) new = none_begun (begun T.rows) _ (said_silent begun_by (effects_of T event) silent) apart
     go (Get page c options) (inr found) new =

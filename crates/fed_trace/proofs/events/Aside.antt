@@ -1,7 +1,8 @@
 -- What the events without a call leave as it was.
 use Rattle.std.proofs.Common.{◌≡◌, ℕ, Bool, true, false, List, [], ◌∷◌, ◌++◌, Some, None, refl, sym, subst}
 use Rattle.std.specs.Prelude.{Option}
-use Rattle.fed_call.specs.Facts.{Facts}
+use Rattle.fed_trace.specs.Begun.{CallKind}
+use Rattle.fed_trace.specs.Call.{Known}
 use Rattle.fed_script.specs.declared.event.Event.{Event}
 use Rattle.url.specs.Parts.{Parts}
 use Rattle.fed_origin.specs.Origin.{is_trustworthy}
@@ -9,15 +10,16 @@ use Rattle.fed_origin.specs.declared.origin.Origin.{Origin}
 use Rattle.fed_origin.specs.declared.stage.Stage.TheVariants.{Ended}
 use Rattle.fed_origin.specs.declared.status.LoginStatus.{LoginStatus}
 use Rattle.fed_jar.specs.Cookie.{StoredCookie}
-use Rattle.fed_script.specs.declared.event.Event.TheVariants.{Load, Get}
+use Rattle.fed_script.specs.declared.event.Event.TheVariants.{Load}
 use Rattle.fed_script.specs.declared.event.Have.{Have}
 use Rattle.fed_consent.specs.declared.table.why.Why.{Why}
 use Rattle.fed_consent.specs.declared.table.why.Why.TheVariants.{NoPage, PageInsecure}
-use Rattle.fed_origin.specs.declared.options.GetOptions.{GetOptions}
 use Rattle.fed_script.specs.declared.event.Event.TheVariants as events
 use Rattle.fed_script.specs.declared.event.Have.TheVariants as haves
-use Rattle.fed_trace.specs.Effect.{page_change, kept_change, flag_change, call_change, stage_change, begun_by, begins, Effect, Closed, Cookie, Login, Move, Ignored, written_by}
-use Rattle.fed_trace.specs.Row.{effects_of, cookies_from, have_cookies, have_logins, set_cookies, set_logins, cookie_effects, ends_of, load_effects, status_effects, standing_status}
+use Rattle.fed_trace.specs.Effect.{page_change, kept_change, flag_change, call_change, stage_change, begun_by, begins, Effect, Closed}
+use Rattle.fed_trace.specs.Effect.{Cookie, Login, Move, Ignored, written_by}
+use Rattle.fed_trace.specs.Row.{effects_of, cookies_from, have_cookies, have_logins, set_cookies, set_logins, cookie_effects, ends_of}
+use Rattle.fed_trace.specs.Row.{load_effects, status_effects, standing_status}
 use Rattle.fed_trace.specs.Trace.{Trace, pending_of, now_at}
 use Rattle.fed_trace.specs.Records.{record_of, records_of}
 use Rattle.fed_trace.proofs.effects.Silent.{AllSilent, said_silent, silent_map, silent_append}
@@ -34,13 +36,15 @@ pub record IsAside (T : Trace) (line : ℕ) (event : Event) : Type 0 where
   pub begins_none : (q : ℕ) → AllSilent (begins q) (effects_of T event)
   pub kept : AllSilent kept_change (effects_of T event)
   pub flags : AllSilent flag_change (effects_of T event)
-  pub inputs : (q : ℕ) (f : Facts) → said_of T event q f ≡ f
+  pub inputs : (q : ℕ) (k : Known) → said_of T event q k ≡ k
 
 -- ---- what is silent
 
-pub have_silent : {A : Type 0} (said : Effect → Option A) → ((cookie : StoredCookie) → said (Cookie cookie) ≡ None) → ((origin : Origin) (status : LoginStatus) → said (Login origin status) ≡ None)
+pub have_silent : {A : Type 0} (said : Effect → Option A) → ((cookie : StoredCookie) → said (Cookie cookie) ≡ None)
+    → ((origin : Origin) (status : LoginStatus) → said (Login origin status) ≡ None)
     → (cookies : List StoredCookie) (have : Have) → AllSilent said (cookie_effects cookies ++ have_logins have)
-have_silent said cookie login cookies (haves.Cookie url field) = silent_append said (cookie_effects cookies) [] (silent_map said Cookie cookie cookies) tt
+have_silent said cookie login cookies (haves.Cookie url field) =
+    silent_append said (cookie_effects cookies) [] (silent_map said Cookie cookie cookies) tt
 have_silent said cookie login cookies (haves.Login origin status) =
     silent_append said (cookie_effects cookies) (Login origin status ∷ []) (silent_map said Cookie cookie cookies) (login origin status, tt)
 
@@ -48,7 +52,8 @@ pub logins_write_none : (have : Have) → AllSilent written_by (have_logins have
 logins_write_none (haves.Cookie url field) = tt
 logins_write_none (haves.Login origin status) = (refl, tt)
 
-pub status_silent : {A : Type 0} (said : Effect → Option A) → ((origin : Origin) (status : LoginStatus) → said (Login origin status) ≡ None) → ((why : Why) → said (Ignored why) ≡ None)
+pub status_silent : {A : Type 0} (said : Effect → Option A) → ((origin : Origin) (status : LoginStatus) → said (Login origin status) ≡ None)
+    → ((why : Why) → said (Ignored why) ≡ None)
     → (o : Option Origin) (status : LoginStatus) → AllSilent said (status_effects o status)
 status_silent said login ignored None status = (ignored NoPage, tt)
 status_silent said login ignored (Some origin) status = go (is_trustworthy origin)
@@ -57,27 +62,33 @@ status_silent said login ignored (Some origin) status = go (is_trustworthy origi
     go true = (login origin status, tt)
     go false = (ignored PageInsecure, tt)
 
-pub close_silent : {A : Type 0} (said : Effect → Option A) → ((call : ℕ) → said (Move call Ended) ≡ None) → ((page : ℕ) → said (Closed page) ≡ None)
-    → (calls : List ℕ) (page : ℕ) → AllSilent said (ends_of calls ++ Closed page ∷ [])
-close_silent said move closed calls page = silent_append said (ends_of calls) (Closed page ∷ []) (ends_silent said move calls) (closed page, tt)
+pub close_silent : {A : Type 0} (said : Effect → Option A) → ((kind : CallKind) (call : ℕ) → said (Move kind call Ended) ≡ None)
+    → ((page : ℕ) → said (Closed page) ≡ None)
+    → (calls : List (ℕ × CallKind)) (page : ℕ) → AllSilent said (ends_of calls ++ Closed page ∷ [])
+close_silent said move closed calls page =
+    silent_append said (ends_of calls) (Closed page ∷ []) (ends_silent said move calls) (closed page, tt)
 
 -- ---- records
 
 pub have_records : (T : Trace) (line : ℕ) (have : Have) → [] ≡ records_of line (effects_of T (events.Have have))
 have_records T line have =
     let found = have_cookies T.header.rules (now_at T) have in
-    sym (said_silent (record_of line) (cookie_effects found ++ have_logins have) (have_silent (record_of line) (λ c. refl) (λ o s. refl) found have))
+    sym (said_silent (record_of line) (cookie_effects found
+    ++ have_logins have) (have_silent (record_of line) (λ c. refl) (λ o s. refl) found have))
 
-pub load_records : (T : Trace) (line page : ℕ) (url : Parts) (raw : Option (List ℕ)) → [] ≡ records_of line (effects_of T (Load page url raw))
+pub load_records : (T : Trace) (line page : ℕ) (url : Parts) (raw : Option (List ℕ))
+    → [] ≡ records_of line (effects_of T (Load page url raw))
 load_records T line page url raw =
     let found = cookies_from T.header.rules url (now_at T) (set_cookies raw) in
     sym (said_silent (record_of line) (load_effects (pending_of T page) page url found (set_logins raw))
-    (load_silent (record_of line) (λ c. refl) (λ p o. refl) (λ c. refl) (λ o s. refl) (pending_of T page) page url found (set_logins raw)))
+    (load_silent (record_of line) (λ n c. refl) (λ p o. refl) (λ c. refl) (λ o s. refl) (pending_of T page) page url found
+    (set_logins raw)))
 
--- ---- a get that is not taken
+-- ---- an event that is not taken
 
-pub aside_ignored : (T : Trace) (line page call : ℕ) (options : GetOptions) (why : Why) → effects_of T (Get page call options) ≡ Ignored why ∷ [] → IsAside T line (Get page call options)
-aside_ignored T line page call options why is =
+pub aside_ignored : (T : Trace) (line : ℕ) (event : Event) (why : Why) → effects_of T event ≡ Ignored why ∷ []
+    → ((q : ℕ) (k : Known) → said_of T event q k ≡ k) → IsAside T line event
+aside_ignored T line event why is inputs =
     record {
       pages = subst (AllSilent page_change) (sym is) (refl, tt);
       calls = subst (AllSilent call_change) (sym is) (refl, tt);
@@ -86,5 +97,5 @@ aside_ignored T line page call options why is =
       begins_none = λ q. subst (AllSilent (begins q)) (sym is) (refl, tt);
       kept = subst (AllSilent kept_change) (sym is) (refl, tt);
       flags = subst (AllSilent flag_change) (sym is) (refl, tt);
-      inputs = λ q f. refl;
+      inputs = inputs;
     }

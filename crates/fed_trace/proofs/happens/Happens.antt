@@ -1,5 +1,6 @@
 -- What an event does to a call.
-use Rattle.std.proofs.Common.{◌≡◌, ℕ, Bool, true, false, nat_eq, ◌⊎◌, inl, inr, List, [], ◌∷◌, ◌++◌, Option, Some, None, refl, sym, ap, subst, ◌∙◌, arith, cond}
+use Rattle.std.proofs.Common.{◌≡◌, ℕ, Bool, true, false, nat_eq, ◌⊎◌, inl, inr, List, [], ◌∷◌, ◌++◌, Option, Some, None, refl, sym, ap}
+use Rattle.std.proofs.Common.{subst, ◌∙◌, arith, cond}
 use Rattle.std.proofs.lemmas.Bool.Decides.{nat_tests}
 use Rattle.std.specs.Option.{option_or}
 use Rattle.std.specs.List.{list_any}
@@ -11,93 +12,123 @@ use Rattle.fed_status.specs.Shared.{World}
 use Rattle.fed_consent.specs.declared.table.ask.Ask.{Ask}
 use Rattle.fed_consent.specs.declared.table.input.Input.{Input}
 use Rattle.fed_consent.specs.declared.table.input.Input.TheVariants as inputs
-use Rattle.fed_call.specs.Facts.{Facts}
 use Rattle.fed_consent.specs.Outcomes.{Outcome}
-use Rattle.fed_call.specs.Row.{call_row}
 use Rattle.fed_script.specs.declared.event.Event.{Event}
 use Rattle.fed_script.specs.declared.event.Event.TheVariants as events
 use Rattle.fed_script.specs.declared.event.Event.TheVariants.{At, Load, ClosePage, Get, SetStatus}
-use Rattle.fed_trace.specs.Begun.{Begun}
+use Rattle.fed_trace.specs.Begun.{Begun, CallKind, CallOptions, ToGet, kind_asked}
+use Rattle.fed_trace.specs.Call.{Known, kind_of, page_of, first_row, input_row}
 use Rattle.fed_trace.specs.OfCall.{asked, given, replaces}
-use Rattle.fed_trace.specs.Effect.{Page, Closed, Begin, page_change, call_change, stage_change, begins, is_ignored}
+use Rattle.fed_trace.specs.Effect.{pending_from, Page, Closed, Begin, page_change, call_change, stage_change, begins}
+use Rattle.fed_trace.specs.Effect.{is_ignored}
 use Rattle.fed_trace.specs.Keyed.{last_said, says}
-use Rattle.fed_trace.specs.Known.{world_at, is_begun, input_to, with_said, facts_at}
-use Rattle.fed_trace.specs.Row.{effects_of, cookies_with, cookies_from, outcome_effects, get_outcome, standing_get, get_effects, input_effects, page_of, is_busy, ends_of, close_effects, cookie_effects, login_effects, have_cookies, have_logins, set_cookies, set_logins, status_effects}
-use Rattle.fed_trace.specs.Trace.{Trace, page_at, pending, pending_of, now_at}
+use Rattle.fed_trace.specs.Known.{world_at, is_begun, input_to, with_said, known_at}
+use Rattle.fed_trace.specs.Row.{effects_of, cookies_with, cookies_from, outcome_effects, standing_call, begin_effects, input_effects}
+use Rattle.fed_trace.specs.Row.{is_busy, ends_of, close_effects, cookie_effects, login_effects, have_cookies, have_logins, set_cookies}
+use Rattle.fed_trace.specs.Row.{set_logins, status_effects}
+use Rattle.fed_trace.specs.Trace.{Trace, page_at, pending_of, now_at, gets}
 use Rattle.fed_trace.proofs.effects.Outcome.{last_said_after}
 use Rattle.fed_trace.proofs.calls.Pending.{ends_silent, load_rest_silent}
 use Rattle.fed_trace.proofs.effects.Silent.{last_said_silent}
+use Rattle.fed_trace.proofs.known.Known.{ignored_says}
 use Rattle.fed_trace.proofs.happens.Says.{Quiet, own, outcome_pages, quiet_other}
-use Rattle.fed_trace.proofs.happens.Ends.{Takes, Happens, event_for, dull_have, dull_status, dull_stage, dull_call, dull_page, dull_begins, dull_asked, dull_given, quiet_silent, quiet_ignored, left, happens_load, happens_close, Started, Took}
+use Rattle.fed_trace.proofs.happens.Ends.{Takes, Happens, event_for, dull_have, dull_status, dull_stage, dull_call, dull_page, dull_begins}
+use Rattle.fed_trace.proofs.happens.Ends.{dull_asked, dull_given, quiet_silent, quiet_ignored, left, happens_load, happens_close, Started}
+use Rattle.fed_trace.proofs.happens.Ends.{Took}
 
 -- ---- a get
 
-quiet_begin : (world : World) (cookies : Ask → List ℕ) (q : ℕ) (b : Begun) → nat_eq q b.call ≡ false → (outcome : Outcome) → Quiet q (Begin b ∷ outcome_effects world cookies b.call b.page outcome)
+quiet_begin : (world : World) (cookies : Ask → List ℕ) (q : ℕ) (b : Begun) → nat_eq q b.call ≡ false → (outcome : Outcome)
+    → Quiet q (Begin b ∷ outcome_effects world cookies (kind_asked b.options) b.call b.page outcome)
 quiet_begin world cookies q b ne outcome =
-    let rest = quiet_other world cookies q b.call b.page ne outcome in
+    let rest = quiet_other world cookies q (kind_asked b.options) b.call b.page ne outcome in
     record {
       stage = ap (λ o. option_or o None) rest.stage;
-      pending = ap (λ o. option_or o (cond (nat_eq q b.call) (Some (Some b.page)) None)) rest.pending ∙ ap (λ t. cond t (Some (Some b.page)) None) ne;
+      pending =
+          ap (λ o. option_or o (cond (nat_eq q b.call) (Some (Some (pending_from b))) None)) rest.pending
+          ∙ ap (λ t. cond t (Some (Some (pending_from b))) None) ne;
       begins_none = ap (λ o. option_or o (cond (nat_eq q b.call) (Some b) None)) rest.begins_none ∙ ap (λ t. cond t (Some b) None) ne;
       asks = rest.asks;
       gives = rest.gives;
     }
 
-happens_get : (T : Trace) (page call : ℕ) (options : GetOptions) (q : ℕ) (o : Option Origin) → page_at T page ≡ o → Happens T (Get page call options) q
+happens_get : (T : Trace) (page call : ℕ) (options : GetOptions) (q : ℕ) (o : Option Origin) → page_at T page ≡ o
+    → Happens T (Get page call options) q
 happens_get T page call options q None is =
     left T (Get page call options) q
-    (subst (Quiet q) (sym (ap (λ o. get_effects (world_at T) (cookies_with T) o (is_busy page (pending T)) page call options) is)) (quiet_ignored q _))
-    (λ f. refl) (inl refl) (λ other. refl)
+    (subst (Quiet q) (sym (ap (λ o. begin_effects (world_at T) (cookies_with T) o (is_busy page (gets T)) page call (ToGet options)) is))
+    (quiet_ignored q _))
+    (λ k. refl) (inl refl) (λ other. refl)
 happens_get T page call options q (Some origin) is = go (is_trustworthy origin) refl
   where
     b : Begun
-    b = record { call = call; page = page; origin = origin; options = options }
+    b = record { call = call; page = page; origin = origin; options = ToGet options }
 
     standing : (trusted : Bool) → is_trustworthy origin ≡ trusted
-        → effects_of T (Get page call options) ≡ standing_get (world_at T) (cookies_with T) trusted (is_busy page (pending T)) b
+        → effects_of T (Get page call options) ≡ standing_call (world_at T) (cookies_with T) trusted (is_busy page (gets T)) b
     standing trusted trust =
-        ap (λ o. get_effects (world_at T) (cookies_with T) o (is_busy page (pending T)) page call options) is
-        ∙ ap (λ t. standing_get (world_at T) (cookies_with T) t (is_busy page (pending T)) b) trust
+        ap (λ o. begin_effects (world_at T) (cookies_with T) o (is_busy page (gets T)) page call (ToGet options)) is
+        ∙ ap (λ t. standing_call (world_at T) (cookies_with T) t (is_busy page (gets T)) b) trust
 
     taken : (own : Bool) → nat_eq q call ≡ own → is_trustworthy origin ≡ true → Happens T (Get page call options) q
     taken true key trust =
         let same : call ≡ q = grind (arith, nat_tests, key) in
-        Started (record { begun = b; is_call = same; stands = is; is_get = refl; busy = is_busy page (pending T); effects = standing true trust })
+        Started (record {
+          begun = b;
+          is_call = same;
+          stands = is;
+          is_event = refl;
+          busy = is_busy page (gets T);
+          effects =
+              standing true trust;
+        })
     taken false key trust =
         left T (Get page call options) q
-        (subst (Quiet q) (sym (standing true trust)) (quiet_begin (world_at T) (cookies_with T) q b key (get_outcome (world_at T) (is_busy page (pending T)) origin options)))
-        (λ f. refl) (inl refl) (λ other. refl)
+        (subst (Quiet q) (sym (standing true trust)) (quiet_begin (world_at T) (cookies_with T) q b key
+        (first_row (world_at T) (is_busy page (gets T)) origin (ToGet options))))
+        (λ k. refl) (inl refl) (λ other. refl)
 
     go : (trusted : Bool) → is_trustworthy origin ≡ trusted → Happens T (Get page call options) q
     go false trust =
-        left T (Get page call options) q (subst (Quiet q) (sym (standing false trust)) (quiet_ignored q _)) (λ f. refl) (inl refl) (λ other. refl)
+        left T (Get page call options) q (subst (Quiet q) (sym (standing false trust)) (quiet_ignored q _)) (λ k. refl) (inl refl)
+        (λ other. refl)
     go true trust = taken (nat_eq q call) refl trust
 
 -- ---- an input
 
-ignored_says : (world : World) (input : Option Input) (f : Facts) → with_said world true input f ≡ f
-ignored_says world None f = refl
-ignored_says world (Some input) f = refl
-
 happens_input : (T : Trace) (event : Event) (call : ℕ) (input : Input) (q : ℕ)
-    → effects_of T event ≡ input_effects (world_at T) (cookies_with T) (is_begun T call) call (facts_at T call) input
+    → effects_of T event ≡ input_effects (world_at T) (cookies_with T) (is_begun T call) call (known_at T call) input
     → ((other : ℕ) → input_to other event ≡ cond (nat_eq other call) (Some input) None) → Some event ≡ event_for call input
     → ((other : ℕ) → replaces other event ≡ false) → Happens T event q
 happens_input T event call input q effects said is_event none = go (is_begun T call) refl
   where
-    by : (begun : Bool) → is_begun T call ≡ begun → effects_of T event ≡ input_effects (world_at T) (cookies_with T) begun call (facts_at T call) input
-    by begun is = effects ∙ ap (λ b. input_effects (world_at T) (cookies_with T) b call (facts_at T call) input) is
+    by : (begun : Bool) → is_begun T call ≡ begun
+        → effects_of T event ≡ input_effects (world_at T) (cookies_with T) begun call (known_at T call) input
+    by begun is = effects ∙ ap (λ b. input_effects (world_at T) (cookies_with T) b call (known_at T call) input) is
+
+    quiet_input : (known : Option Known) → nat_eq q call ≡ false
+        → Quiet q (input_effects (world_at T) (cookies_with T) true call known input)
+    quiet_input None key = quiet_ignored q _
+    quiet_input (Some k) key = quiet_other (world_at T) (cookies_with T) q (kind_of k) call (page_of k) key (input_row (world_at T) k input)
 
     taken : (own : Bool) → nat_eq q call ≡ own → is_begun T call ≡ true → Happens T event q
     taken true key is =
         let same : call ≡ q = grind (arith, nat_tests, key) in
         let for_call : Takes T event call =
-        record { begun = is; input = input; is_event = is_event; input_is = said call ∙ ap (λ b. cond b (Some input) None) (own call); effects = by true is } in
+        record {
+          begun = is;
+          input = input;
+          is_event = is_event;
+          input_is =
+              said call ∙ ap (λ b. cond b (Some input) None) (own call);
+          effects = by true is;
+        } in
         Took (subst (Takes T event) same for_call)
     taken false key is =
         left T event q
-        (subst (Quiet q) (sym (by true is)) (quiet_other (world_at T) (cookies_with T) q call (page_of (facts_at T call)) key (call_row (world_at T) (facts_at T call) input)))
-        (λ f. ap (λ i. with_said (world_at T) (list_any is_ignored (effects_of T event)) i f) (said q ∙ ap (λ b. cond b (Some input) None) key))
+        (subst (Quiet q) (sym (by true is)) (quiet_input (known_at T call) key))
+        (λ k. ap (λ i. with_said (world_at T) (list_any is_ignored (effects_of T event)) i k) (said q
+        ∙ ap (λ b. cond b (Some input) None) key))
         (inl (said q ∙ ap (λ b. cond b (Some input) None) key)) none
 
     refused : (own : Bool) → nat_eq q call ≡ own → is_begun T call ≡ false
@@ -110,7 +141,8 @@ happens_input T event call input q effects said is_event none = go (is_begun T c
     go : (begun : Bool) → is_begun T call ≡ begun → Happens T event q
     go false is =
         left T event q (subst (Quiet q) (sym (by false is)) (quiet_ignored q _))
-        (λ f. ap (λ effects. with_said (world_at T) (list_any is_ignored effects) (input_to q event) f) (by false is) ∙ ignored_says (world_at T) (input_to q event) f)
+        (λ k. ap (λ effects. with_said (world_at T) (list_any is_ignored effects) (input_to q event) k) (by false is)
+        ∙ ignored_says (world_at T) (input_to q event) k)
         (refused (nat_eq q call) refl is) none
     go true is = taken (nat_eq q call) refl is
 
@@ -118,17 +150,21 @@ pub happens : (T : Trace) (event : Event) (q : ℕ) → Happens T event q
 happens T (events.Have have) q =
     let found = have_cookies T.header.rules (now_at T) have in
     left T (events.Have have) q
-    (quiet_silent q (cookie_effects found ++ have_logins have) (dull_have stage_change dull_stage found have) (dull_have call_change dull_call found have)
-    (dull_have (begins q) (dull_begins q) found have) (dull_have (asked q) (dull_asked q) found have) (dull_have (given q) (dull_given q) found have))
-    (λ f. refl) (inl refl) (λ other. refl)
+    (quiet_silent q (cookie_effects found
+    ++ have_logins have) (dull_have stage_change dull_stage found have) (dull_have call_change dull_call found have)
+    (dull_have (begins q) (dull_begins q) found have) (dull_have (asked q) (dull_asked q) found have)
+    (dull_have (given q) (dull_given q) found have))
+    (λ k. refl) (inl refl) (λ other. refl)
 happens T (At time) q =
-    left T (At time) q (record { stage = refl; pending = refl; begins_none = refl; asks = refl; gives = refl }) (λ f. refl) (inl refl) (λ other. refl)
+    left T (At time) q (record { stage = refl; pending = refl; begins_none = refl; asks = refl; gives = refl }) (λ k. refl) (inl
+    refl) (λ other. refl)
 happens T (SetStatus page status) q =
     let o = page_at T page in
     left T (SetStatus page status) q
     (quiet_silent q (status_effects o status) (dull_status stage_change dull_stage o status) (dull_status call_change dull_call o status)
-    (dull_status (begins q) (dull_begins q) o status) (dull_status (asked q) (dull_asked q) o status) (dull_status (given q) (dull_given q) o status))
-    (λ f. refl) (inl refl) (λ other. refl)
+    (dull_status (begins q) (dull_begins q) o status) (dull_status (asked q) (dull_asked q) o status)
+    (dull_status (given q) (dull_given q) o status))
+    (λ k. refl) (inl refl) (λ other. refl)
 happens T (Load page url raw) q = happens_load T page url raw q
 happens T (ClosePage page) q = happens_close T page q (page_at T page) refl
 happens T (Get page call options) q = happens_get T page call options q (page_at T page) refl
@@ -147,26 +183,37 @@ other_page : (q page : ℕ) (said : Option (Option Origin)) (v : Option Origin) 
 other_page q page said v ne none = ap (λ o. option_or o (cond (nat_eq q page) (Some v) None)) none ∙ ap (λ b. cond b (Some v) None) ne
 
 input_pages : (T : Trace) (event : Event) (call : ℕ) (input : Input) (q : ℕ)
-    → effects_of T event ≡ input_effects (world_at T) (cookies_with T) (is_begun T call) call (facts_at T call) input → last_said nat_eq page_change q (effects_of T event) ≡ None
+    → effects_of T event ≡ input_effects (world_at T) (cookies_with T) (is_begun T call) call (known_at T call) input
+    → last_said nat_eq page_change q (effects_of T event) ≡ None
 input_pages T event call input q effects = ap (last_said nat_eq page_change q) effects ∙ go (is_begun T call)
   where
-    go : (begun : Bool) → last_said nat_eq page_change q (input_effects (world_at T) (cookies_with T) begun call (facts_at T call) input) ≡ None
+    go : (begun : Bool) → last_said nat_eq page_change q (input_effects (world_at T) (cookies_with T) begun call (known_at T call) input)
+        ≡ None
     go false = refl
-    go true = outcome_pages (world_at T) (cookies_with T) call (page_of (facts_at T call)) q (call_row (world_at T) (facts_at T call) input)
+    go true = taken (known_at T call)
+      where
+        taken : (known : Option Known) → last_said nat_eq page_change q (input_effects (world_at T) (cookies_with T) true call known input)
+            ≡ None
+        taken None = refl
+        taken (Some k) = outcome_pages (world_at T) (cookies_with T) (kind_of k) call (page_of k) q (input_row (world_at T) k input)
 
-get_pages : (world : World) (cookies : Ask → List ℕ) (o : Option Origin) (busy : Bool) (page call q : ℕ) (options : GetOptions)
-    → last_said nat_eq page_change q (get_effects world cookies o busy page call options) ≡ None
-get_pages world cookies None busy page call q options = refl
-get_pages world cookies (Some origin) busy page call q options = go (is_trustworthy origin)
+begin_pages : (world : World) (cookies : Ask → List ℕ) (o : Option Origin) (busy : Bool) (page call q : ℕ) (options : CallOptions)
+    → last_said nat_eq page_change q (begin_effects world cookies o busy page call options) ≡ None
+begin_pages world cookies None busy page call q options = refl
+begin_pages world cookies (Some origin) busy page call q options = go (is_trustworthy origin)
   where
-    go : (trusted : Bool) → last_said nat_eq page_change q (standing_get world cookies trusted busy (record { call = call; page = page; origin = origin; options = options })) ≡ None
+    go : (trusted : Bool) → last_said nat_eq page_change q
+        (standing_call world cookies trusted busy (record { call = call; page = page; origin = origin; options = options })) ≡ None
     go false = refl
-    go true = ap (λ o. option_or o None) (outcome_pages world cookies call page q (get_outcome world busy origin options))
+    go true =
+        ap (λ o. option_or o None) (outcome_pages world cookies (kind_asked options) call page q (first_row world busy origin options))
 
-close_pages : (calls : List ℕ) (page q : ℕ) (o : Option Origin) → nat_eq q page ≡ false → last_said nat_eq page_change q (close_effects calls page o) ≡ None
+close_pages : (calls : List (ℕ × CallKind)) (page q : ℕ) (o : Option Origin) → nat_eq q page ≡ false
+    → last_said nat_eq page_change q (close_effects calls page o) ≡ None
 close_pages calls page q None ne = refl
 close_pages calls page q (Some origin) ne =
-    last_said_after nat_eq page_change q (ends_of calls) (Closed page ∷ []) (ends_silent page_change (λ c. refl) calls) ∙ other_page q page None None ne refl
+    last_said_after nat_eq page_change q (ends_of calls) (Closed page ∷ []) (ends_silent page_change (λ n c. refl) calls)
+    ∙ other_page q page None None ne refl
 
 pub pages_left : (T : Trace) (event : Event) (q : ℕ) → replaces q event ≡ false → last_said nat_eq page_change q (effects_of T event) ≡ None
 pages_left T (events.Have have) q h =
@@ -174,17 +221,23 @@ pages_left T (events.Have have) q h =
     last_said_silent nat_eq page_change q (cookie_effects found ++ have_logins have) (dull_have page_change dull_page found have)
 pages_left T (At time) q h = refl
 pages_left T (SetStatus page status) q h =
-    last_said_silent nat_eq page_change q (status_effects (page_at T page) status) (dull_status page_change dull_page (page_at T page) status)
+    last_said_silent nat_eq page_change q (status_effects (page_at T page) status)
+    (dull_status page_change dull_page (page_at T page) status)
 pages_left T (Load page url raw) q h =
     let found = cookies_from T.header.rules url (now_at T) (set_cookies raw) in
     let rest = cookie_effects found ++ login_effects (origin_of url) (set_logins raw) in
-    last_said_after nat_eq page_change q (ends_of (pending_of T page)) (Page page (origin_of url) ∷ rest) (ends_silent page_change (λ c. refl) (pending_of T page))
+    last_said_after nat_eq page_change q (ends_of (pending_of T page)) (Page page (origin_of url)
+    ∷ rest) (ends_silent page_change (λ n c. refl) (pending_of T page))
     ∙ other_page q page (last_said nat_eq page_change q rest) (Some (origin_of url)) h
-    (last_said_silent nat_eq page_change q rest (load_rest_silent page_change (λ c. refl) (λ o s. refl) found (origin_of url) (set_logins raw)))
+    (last_said_silent nat_eq page_change q rest (load_rest_silent page_change (λ c. refl) (λ o s. refl) found (origin_of url)
+    (set_logins raw)))
 pages_left T (ClosePage page) q h = close_pages (pending_of T page) page q (page_at T page) h
-pages_left T (Get page call options) q h = get_pages (world_at T) (cookies_with T) (page_at T page) (is_busy page (pending T)) page call q options
+pages_left T (Get page call options) q h =
+    begin_pages (world_at T) (cookies_with T) (page_at T page) (is_busy page (gets T)) page call q (ToGet options)
 pages_left T (events.Abort call) q h = input_pages T (events.Abort call) call inputs.Abort q refl
-pages_left T (events.Reply call provider kind raw) q h = input_pages T (events.Reply call provider kind raw) call (inputs.Reply provider kind raw) q refl
-pages_left T (events.Choose call provider account) q h = input_pages T (events.Choose call provider account) call (inputs.Choose provider account) q refl
+pages_left T (events.Reply call provider kind raw) q h =
+    input_pages T (events.Reply call provider kind raw) call (inputs.Reply provider kind raw) q refl
+pages_left T (events.Choose call provider account) q h =
+    input_pages T (events.Choose call provider account) call (inputs.Choose provider account) q refl
 pages_left T (events.GoOn call) q h = input_pages T (events.GoOn call) call inputs.GoOn q refl
 pages_left T (events.Cancel call) q h = input_pages T (events.Cancel call) call inputs.Cancel q refl

@@ -26,14 +26,16 @@ lookup-insert_entry q k v [] = refl
 lookup-insert_entry q k v (e ∷ es) =
     let rest = lookup-insert_entry q k v es in grind (arith, nat_tests, rest)
 
-pub absent_after_insert : {V : Type 0} (q k : ℕ) (v : V) (es : List (ℕ × V)) → nat_eq q k ≡ false → IsAbsent q es → IsAbsent q (insert_entry nat_eq es k v)
+pub absent_after_insert : {V : Type 0} (q k : ℕ) (v : V) (es : List (ℕ × V)) → nat_eq q k ≡ false → IsAbsent q es
+    → IsAbsent q (insert_entry nat_eq es k v)
 absent_after_insert q k v es ne h = lookup-insert_entry q k v es ∙ ap (λ b. cond b (Some v) (lookup (nat_eq q) es)) ne ∙ h
 
 pub distinct_after_insert : {V : Type 0} (k : ℕ) (v : V) (es : List (ℕ × V)) → AreDistinct es → AreDistinct (insert_entry nat_eq es k v)
 distinct_after_insert k v [] h = (refl, tt)
 distinct_after_insert {V} k v (e ∷ es) h = go (distinct_after_insert k v es h.1) (nat_eq k e.0) refl
   where
-    go : AreDistinct (insert_entry nat_eq es k v) → (b : Bool) → nat_eq k e.0 ≡ b → AreDistinct (cond b ((e.0, v) ∷ es) (e ∷ insert_entry nat_eq es k v))
+    go : AreDistinct (insert_entry nat_eq es k v) → (b : Bool) → nat_eq k e.0 ≡ b
+        → AreDistinct (cond b ((e.0, v) ∷ es) (e ∷ insert_entry nat_eq es k v))
     go rest true is = (h.0, h.1)
     go rest false is = (absent_after_insert e.0 k v es (let ne : nat_eq e.0 k ≡ false = grind (arith, nat_tests, is) in ne) h.0, rest)
 
@@ -76,7 +78,8 @@ distinct_after_change None es h = h
 distinct_after_change (Some (k, None)) es h = distinct_after_remove k es h
 distinct_after_change (Some (k, Some v)) es h = distinct_after_insert k v es h
 
-pub distinct_after : {E V : Type 0} (change : E → Option (Change ℕ V)) (effects : List E) (es : List (ℕ × V)) → AreDistinct es → AreDistinct (entries_after nat_eq change effects es)
+pub distinct_after : {E V : Type 0} (change : E → Option (Change ℕ V)) (effects : List E) (es : List (ℕ × V)) → AreDistinct es
+    → AreDistinct (entries_after nat_eq change effects es)
 distinct_after change [] es h = h
 distinct_after change (e ∷ effects) es h =
     distinct_after change effects (changed nat_eq (change e) es) (distinct_after_change (change e) es h)
@@ -94,7 +97,8 @@ entries_after-append same change (x ∷ xs) ys es = entries_after-append same ch
 
 -- ---- what is looked up is what was said last
 
-pub unwrap_or-option_or : {V : Type 0} (later said : Option V) (x : V) → unwrap_or (option_or later said) x ≡ unwrap_or later (unwrap_or said x)
+pub unwrap_or-option_or : {V : Type 0} (later said : Option V) (x : V)
+    → unwrap_or (option_or later said) x ≡ unwrap_or later (unwrap_or said x)
 unwrap_or-option_or None said x = refl
 unwrap_or-option_or (Some y) said x = refl
 

@@ -1,5 +1,5 @@
 -- What an input says of a call hangs on no stage, and leaves what the call began with.
-use Rattle.std.proofs.Common.{◌≡◌, Bool, true, false, List, [], ◌∷◌, ℕ, Some, None, Ok, Err, refl}
+use Rattle.std.proofs.Common.{◌≡◌, Bool, true, false, List, [], ◌∷◌, ℕ, Some, None, Ok, Err, refl, ap}
 use Rattle.std.specs.Prelude.{Option, option_and_then, Result}
 use Rattle.fed_origin.specs.declared.options.ProviderOptions.{ProviderOptions}
 use Rattle.fed_origin.specs.declared.stage.ReplyKind.{ReplyKind}
@@ -12,7 +12,11 @@ use Rattle.fed_consent.specs.Consent.{Candidate, chosen}
 use Rattle.fed_consent.specs.declared.table.input.Input.{Input}
 use Rattle.fed_consent.specs.declared.table.input.Input.TheVariants as inputs
 use Rattle.fed_call.specs.Accounts.{accounts_of}
-use Rattle.fed_call.specs.Facts.{Facts, with_accounts, with_choice, with_input, with_list, with_listing, with_reply, provider_at}
+use Rattle.fed_call.specs.Facts.{Facts, with_accounts, with_choice, with_list, with_listing, with_reply, provider_at}
+use Rattle.fed_call.specs.Facts as get
+use Rattle.fed_disconnect.specs.Facts.{DisconnectFacts}
+use Rattle.fed_disconnect.specs.Facts as disconnect
+use Rattle.fed_trace.specs.Call.{Known, OfGet, OfDisconnect, kind_of, page_of, with_input}
 
 -- a reading of facts that leaves the page, its origin and the options, and does not look at the stage
 record Keeps (f : Facts → Facts) : Type 0 where
@@ -24,9 +28,11 @@ record Keeps (f : Facts → Facts) : Type 0 where
 accounts_keep : (world : World) (provider : ProviderOptions) (accounts : List Account) → Keeps (with_accounts world provider accounts)
 accounts_keep world provider [] = record { page = λ f. refl; origin = λ f. refl; options = λ f. refl; staged = λ f s. refl }
 accounts_keep world provider (only ∷ []) = record { page = λ f. refl; origin = λ f. refl; options = λ f. refl; staged = λ f s. refl }
-accounts_keep world provider (first ∷ second ∷ more) = record { page = λ f. refl; origin = λ f. refl; options = λ f. refl; staged = λ f s. refl }
+accounts_keep world provider (first ∷ second ∷ more) =
+    record { page = λ f. refl; origin = λ f. refl; options = λ f. refl; staged = λ f s. refl }
 
-list_keeps : (world : World) (provider : ProviderOptions) (read : Result (List Account) AccountsStep) → Keeps (with_list world provider read)
+list_keeps : (world : World) (provider : ProviderOptions) (read : Result (List Account) AccountsStep)
+    → Keeps (with_list world provider read)
 list_keeps world provider (Err step) = record { page = λ f. refl; origin = λ f. refl; options = λ f. refl; staged = λ f s. refl }
 list_keeps world provider (Ok accounts) = accounts_keep world provider accounts
 
@@ -52,7 +58,7 @@ choice_keeps : (candidate : Option Candidate) → Keeps (with_choice candidate)
 choice_keeps None = record { page = λ f. refl; origin = λ f. refl; options = λ f. refl; staged = λ f s. refl }
 choice_keeps (Some candidate) = record { page = λ f. refl; origin = λ f. refl; options = λ f. refl; staged = λ f s. refl }
 
-input_keeps : (world : World) (ignored : Bool) (input : Input) → Keeps (with_input world ignored input)
+input_keeps : (world : World) (ignored : Bool) (input : Input) → Keeps (get.with_input world ignored input)
 input_keeps world true input = record { page = λ f. refl; origin = λ f. refl; options = λ f. refl; staged = λ f s. refl }
 input_keeps world false (inputs.Reply place kind raw) = reply_keeps world place kind raw
 input_keeps world false (inputs.Choose place account) =
@@ -69,15 +75,64 @@ input_keeps world false inputs.Shut = record { page = λ f. refl; origin = λ f.
 input_keeps world false inputs.Resume = record { page = λ f. refl; origin = λ f. refl; options = λ f. refl; staged = λ f s. refl }
 input_keeps world false inputs.Abort = record { page = λ f. refl; origin = λ f. refl; options = λ f. refl; staged = λ f s. refl }
 
-pub same_page : (world : World) (ignored : Bool) (input : Input) (facts : Facts) → (with_input world ignored input facts).page ≡ facts.page
-same_page world ignored input facts = (input_keeps world ignored input).page facts
+-- ---- of a call of either kind
 
-pub same_origin_of : (world : World) (ignored : Bool) (input : Input) (facts : Facts) → (with_input world ignored input facts).origin ≡ facts.origin
+-- the call, put at this stage
+abbrev pub staged : Stage → Known → Known
+staged stage (OfGet facts) = OfGet (record facts { stage = stage })
+staged stage (OfDisconnect facts) = OfDisconnect (record facts { stage = stage })
+
+disconnect_at : (world : World) (ignored : Bool) (input : Input) (facts : DisconnectFacts) (stage : Stage)
+    → disconnect.with_input world ignored input (record facts { stage = stage })
+    ≡ record (disconnect.with_input world ignored input facts) { stage = stage }
+disconnect_at world true input facts stage = refl
+disconnect_at world false (inputs.Reply place kind raw) facts stage = refl
+disconnect_at world false (inputs.Choose place account) facts stage = refl
+disconnect_at world false inputs.GoOn facts stage = refl
+disconnect_at world false inputs.Cancel facts stage = refl
+disconnect_at world false inputs.SignIn facts stage = refl
+disconnect_at world false inputs.Shut facts stage = refl
+disconnect_at world false inputs.Resume facts stage = refl
+disconnect_at world false inputs.Abort facts stage = refl
+
+disconnect_page : (world : World) (ignored : Bool) (input : Input) (facts : DisconnectFacts)
+    → (disconnect.with_input world ignored input facts).page ≡ facts.page
+disconnect_page world true input facts = refl
+disconnect_page world false (inputs.Reply place kind raw) facts = refl
+disconnect_page world false (inputs.Choose place account) facts = refl
+disconnect_page world false inputs.GoOn facts = refl
+disconnect_page world false inputs.Cancel facts = refl
+disconnect_page world false inputs.SignIn facts = refl
+disconnect_page world false inputs.Shut facts = refl
+disconnect_page world false inputs.Resume facts = refl
+disconnect_page world false inputs.Abort facts = refl
+
+-- an input leaves the page and the kind of a call
+pub same_page : (world : World) (ignored : Bool) (input : Input) (known : Known)
+    → page_of (with_input world ignored input known) ≡ page_of known
+same_page world ignored input (OfGet facts) = (input_keeps world ignored input).page facts
+same_page world ignored input (OfDisconnect facts) = disconnect_page world ignored input facts
+
+pub same_kind : (world : World) (ignored : Bool) (input : Input) (known : Known)
+    → kind_of (with_input world ignored input known) ≡ kind_of known
+same_kind world ignored input (OfGet facts) = refl
+same_kind world ignored input (OfDisconnect facts) = refl
+
+pub with_input-at : (world : World) (ignored : Bool) (input : Input) (known : Known) (stage : Stage)
+    → with_input world ignored input (staged stage known) ≡ staged stage (with_input world ignored input known)
+with_input-at world ignored input (OfGet facts) stage = ap OfGet ((input_keeps world ignored input).staged facts stage)
+with_input-at world ignored input (OfDisconnect facts) stage = ap OfDisconnect (disconnect_at world ignored input facts stage)
+
+-- ---- of a get
+
+pub same_origin_of : (world : World) (ignored : Bool) (input : Input) (facts : Facts)
+    → (get.with_input world ignored input facts).origin ≡ facts.origin
 same_origin_of world ignored input facts = (input_keeps world ignored input).origin facts
 
-pub same_options : (world : World) (ignored : Bool) (input : Input) (facts : Facts) → (with_input world ignored input facts).options ≡ facts.options
+pub same_options : (world : World) (ignored : Bool) (input : Input) (facts : Facts)
+    → (get.with_input world ignored input facts).options ≡ facts.options
 same_options world ignored input facts = (input_keeps world ignored input).options facts
 
-pub with_input-at : (world : World) (ignored : Bool) (input : Input) (facts : Facts) (stage : Stage)
-    → with_input world ignored input (record facts { stage = stage }) ≡ record (with_input world ignored input facts) { stage = stage }
-with_input-at world ignored input facts stage = (input_keeps world ignored input).staged facts stage
+pub get_page : (world : World) (ignored : Bool) (input : Input) (facts : Facts)
+    → (get.with_input world ignored input facts).page ≡ facts.page
+get_page world ignored input facts = (input_keeps world ignored input).page facts

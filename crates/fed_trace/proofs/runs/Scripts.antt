@@ -8,7 +8,8 @@ use Rattle.fed_script.specs.declared.event.Event.TheVariants.{Get}
 use Rattle.fed_script.specs.declared.event.Numbered.{Numbered}
 use Rattle.fed_script.specs.declared.event.Header.{Header}
 use Rattle.fed_script.specs.Line.{header_of}
-use Rattle.fed_script.specs.Script.{Script, Stop, MayFollow, AreRead, IsRead, events_of, lines_of, script_of, script_of_lines, script_after, ended_by}
+use Rattle.fed_script.specs.Script.{Script, Stop, MayFollow, AreRead, IsRead, events_of, lines_of, script_of, script_of_lines, script_after}
+use Rattle.fed_script.specs.Script.{ended_by}
 use Rattle.fed_script.specs.Used.{UsedState, unused, used_after}
 use Rattle.fed_script.proofs.scripts.Read.{are_read}
 use Rattle.fed_trace.specs.OfScript.{start, with_events, trace_of}

@@ -1,5 +1,6 @@
 -- What a call does at an input is the same, as far as providers can tell, in two worlds that they cannot tell apart.
-use Rattle.std.proofs.Common.{◌≡◌, ℕ, zero, suc, Bool, true, false, ◌||◌, ◌⊎◌, inl, inr, List, [], ◌∷◌, map, length, slice_get, Option, Some, None, Result as Answer, Ok, Err, is_some, IfSome, refl, sym, ap, subst, ◌∙◌}
+use Rattle.std.proofs.Common.{◌≡◌, ℕ, zero, suc, Bool, true, false, ◌||◌, ◌⊎◌, inl, inr, List, [], ◌∷◌, map, length, slice_get, Option}
+use Rattle.std.proofs.Common.{Some, None, Result as Answer, Ok, Err, is_some, IfSome, refl, sym, ap, subst, ◌∙◌}
 use Rattle.std.specs.Prelude.{option_and_then, option_map, unwrap_or, ⊤}
 use Rattle.std.specs.List.{filter_map, cons_option, list_any, AllByRecursion, AllZip}
 use Rattle.std.specs.Result.{result_ok}
@@ -33,11 +34,11 @@ use Rattle.fed_consent.specs.declared.table.input.Input.TheVariants as inputs
 use Rattle.fed_consent.specs.declared.table.why.Why.{Why}
 use Rattle.fed_consent.specs.Consent.{Candidate}
 use Rattle.fed_call.specs.Accounts.{accounts_of, candidate_of}
-use Rattle.fed_call.specs.Facts.{Facts, at_stage, is_ignored, provider_at, with_candidate, with_accounts, with_list, with_listing, with_choice, with_input, facts_after}
+use Rattle.fed_call.specs.Facts.{Facts, at_stage, provider_at, with_candidate, with_accounts, with_list, with_listing, with_choice}
+use Rattle.fed_call.specs.Facts.{with_input, facts_after}
 use Rattle.fed_provider.specs.FirstReplies.{config_read, wellknown_of, wellknown_read}
-use Rattle.fed_consent.specs.Outcomes.{Outcome, fails, ignored, moves, after}
+use Rattle.fed_consent.specs.Outcomes.{Outcome, fails, ignored, moves, after, is_ignored}
 use Rattle.fed_call.specs.ReadingRows.{wellknown_reply, config_reply}
-use Rattle.fed_trace.proofs.effects.Outcome.{Goes, goes_or_ends}
 use Rattle.fed_twin.specs.Providers.{Providers, is_provider}
 use Rattle.fed_twin.specs.Same.{IfBoth, SameProvider, SameOptions, is_open, SameData, SameFacts, SameCall}
 
@@ -133,13 +134,18 @@ configured p f f' s ne = go s.past
     go (inl e) = absurd (ne e)
     go (inr e) = e
 
+open_at : (stage : Stage) (f : Facts) → is_open stage ≡ true → at_stage stage f ≡ Some (record f { stage = stage })
+open_at Reading f opened = refl
+open_at Listing f opened = refl
+open_at Mismatch f opened = refl
+open_at Choosing f opened = refl
+open_at Prompting f opened = refl
+open_at Asserting f opened = absurd (cc)
+open_at Ended f opened = absurd (cc)
+
 -- the facts of an open call are those at its stage
 pub open_facts : (f : Facts) → is_open f.stage ≡ true → at_stage f.stage f ≡ Some f
-open_facts f opened = go (goes_or_ends f.stage)
-  where
-    go : (f.stage ≡ Ended) ⊎ Goes f.stage → at_stage f.stage f ≡ Some f
-    go (inl e) = absurd (let no : false ≡ true = sym (ap is_open e) ∙ opened in cc)
-    go (inr goes) = goes.kept f
+open_facts f opened = open_at f.stage f opened
 
 -- ---- ignored in both, or ended in both
 
@@ -302,7 +308,8 @@ own_config : (p : Providers) (raw : List ℕ) (url : Parts) (config : Configurat
     → is_provider p (host_of url) ≡ true
     → is_provider p (host_of config.accounts) ≡ true
 own_config p raw url config h known =
-    ap (λ o. is_provider p o.host) (same_origin_is (origin_of config.accounts) (origin_of url) (endpoints_are_own_lem raw url config h).accounts)
+    ap (λ o. is_provider p o.host) (same_origin_is (origin_of config.accounts) (origin_of url)
+    (endpoints_are_own_lem raw url config h).accounts)
     ∙ known
 
 -- ---- in Reading
@@ -340,7 +347,8 @@ lands_config place true None (Some (Err step)) = inl refl
 lands_config place false None (Some (Ok config)) = inr (refl, inl refl)
 lands_config place true None (Some (Ok config)) = inr (refl, inr refl)
 
-own_first_config : (p : Providers) (place : ℕ) (heard : Bool) (config : Option Configuration) (read : Option (Answer Configuration ProviderStep))
+own_first_config : (p : Providers) (place : ℕ) (heard : Bool) (config : Option Configuration)
+    (read : Option (Answer Configuration ProviderStep))
     → IfSome (option_and_then result_ok read) (λ c. is_provider p (host_of c.accounts) ≡ true)
     → AllOwn p (config_reply place heard config read).effects
 own_first_config p place heard (Some config) read known = (tt, tt)
@@ -432,7 +440,8 @@ module _ (p : Providers) (w w' : World) (agree : AgreeWorlds p w w') (f f' : Fac
       ∙ ap (config_reply place f'.heard f'.config) (configs_same place raw) in
       subst (Keeps p w w' f f' i i o) same
       (keeps_row p w w' f f' s i i o
-      (own_first_config p place f.heard f.config read (own_read p raw (provider_at place f.options) (provider_at place f'.options) (both place)))
+      (own_first_config p place f.heard f.config read
+      (own_read p raw (provider_at place f.options) (provider_at place f'.options) (both place)))
       (config_by place raw)
       (subst (λ st. Lands (unwrap_or o.stage st) (with_input w (list_any is_ignored o.effects) i f).config) (sym at)
       (subst (Lands (unwrap_or o.stage Reading)) (config_kept place raw (list_any is_ignored o.effects))

@@ -1,30 +1,53 @@
--- What an event leaves of a call.
-use Rattle.std.proofs.Common.{◌≡◌, ℕ, Bool, true, false, nat_eq, cond, ◌⊎◌, inl, inr, List, [], ◌∷◌, ◌++◌, Option, Some, None, refl, sym, ap, subst, ◌∙◌}
-use Rattle.std.specs.Prelude.{option_map}
-use Rattle.std.specs.Option.{option_or}
+-- What an event leaves of a get, and what is seen of other calls.
+use Rattle.std.proofs.Common.{◌≡◌, ℕ, Bool, true, false, nat_eq, List, [], ◌∷◌, ◌++◌, Option, Some, None, refl, sym, ap, subst, ◌∙◌}
+use Rattle.std.proofs.lemmas.List.Elements.{filter_map-append}
+use Rattle.std.specs.Prelude.{option_and_then}
+use Rattle.std.specs.List.{filter_map, flat_map}
 use Rattle.url.specs.Parts.{Parts}
 use Rattle.fed_origin.specs.declared.origin.Origin.{Origin}
+use Rattle.fed_origin.specs.declared.stage.Stage.{Stage}
 use Rattle.fed_origin.specs.declared.stage.Stage.TheVariants.{Ended}
 use Rattle.fed_origin.specs.WebUrl.{origin_of}
-use Rattle.fed_call.specs.Facts.{Facts}
+use Rattle.fed_status.specs.Kept.{triples_of_pair}
+use Rattle.fed_status.specs.Shared.{World}
+use Rattle.fed_consent.specs.declared.table.ask.Ask.{Ask}
+use Rattle.fed_consent.specs.declared.table.effect.Effect.{Effect as CallEffect}
+use Rattle.fed_consent.specs.declared.table.effect.Effect.TheVariants as does
 use Rattle.fed_consent.specs.declared.table.why.Why.{Why}
+use Rattle.fed_consent.specs.Outcomes.{Outcome}
+use Rattle.fed_call.specs.Facts.{Facts}
 use Rattle.fed_script.specs.declared.event.Event.{Event}
 use Rattle.fed_script.specs.declared.event.Event.TheVariants.{Load, ClosePage, Get}
+use Rattle.fed_trace.specs.Begun.{DisconnectCall, CallOptions, ToGet, ToDisconnect}
+use Rattle.fed_trace.specs.Call.{Known, OfDisconnect, get_facts, input_row}
 use Rattle.fed_trace.specs.OfCall.{replaces}
 use Rattle.fed_trace.specs.Effect.{Effect, Page, Closed, Ignored, last_of, stage_change, begins}
-use Rattle.fed_trace.specs.Keyed.{last_said, says}
-use Rattle.fed_trace.specs.Known.{input_to, facts_at, known_in}
-use Rattle.fed_trace.specs.Row.{effects_of, with_event, ends_of, close_effects, cookies_from, cookie_effects, login_effects, set_cookies, set_logins}
-use Rattle.fed_trace.specs.Trace.{Trace, page_at, pending_of, now_at}
-use Rattle.fed_trace.proofs.happens.Ends.{Happens, Left, Ends, Started, Took}
+use Rattle.fed_trace.specs.Keyed.{last_said}
+use Rattle.fed_trace.specs.Known.{world_at, is_begun, input_to, facts_at, known_by}
+use Rattle.fed_trace.specs.Row.{effects_of, with_event, cookies_with, call_effects, moves, ends_of, close_effects, cookies_from}
+use Rattle.fed_trace.specs.Row.{cookie_effects, login_effects, set_cookies, set_logins}
+use Rattle.fed_trace.specs.Trace.{Trace, page_at, stage_at, pending_of, now_at}
+use Rattle.fed_trace.proofs.calls.Pending.{is_among, ends_silent, load_rest_silent}
+use Rattle.fed_trace.proofs.effects.Silent.{AllSilent, last_silent, silent_append, goes_silent}
+use Rattle.fed_trace.proofs.happens.Disconnects.{Turn, Gives, GivesNone, sets_login, disconnect_turn}
+use Rattle.fed_trace.proofs.happens.Ends.{Happens, Left, Ends, Started, Took, Takes, beginning, last_said_front, ends_apart, ends_hit}
+use Rattle.fed_trace.proofs.happens.Gets.{Taking, ByGet, ByDisconnect, ByNone, taking, facts_same, facts_ended}
 use Rattle.fed_trace.proofs.happens.Happens.{happens}
-use Rattle.fed_trace.proofs.calls.Pending.{ends_silent, load_rest_silent}
-use Rattle.fed_trace.proofs.effects.Silent.{AllSilent, last_silent, last_said_silent, silent_append}
-use Rattle.fed_trace.proofs.known.Known.{said_of, facts_moved, facts_same, over}
+use Rattle.fed_trace.proofs.happens.Over.{over_ignored}
+use Rattle.fed_trace.proofs.happens.Taken.{does_it}
+use Rattle.fed_trace.proofs.known.Known.{said_of}
+use Rattle.fed_trace.proofs.runs.Gets.{unbegun_unknown}
+use Rattle.fed_twin.specs.Providers.{Providers}
+use Rattle.fed_twin.specs.Seen.{seen}
 
+-- the event begins a call
 abbrev pub is_get : Event → Bool
 is_get (Get page call options) = true
 is_get _ = false
+
+begins_get : (event : Event) (page call : ℕ) (options : CallOptions) → Some event ≡ beginning page call options → is_get event ≡ true
+begins_get event page call (ToGet options) is = let get : event ≡ Get page call options = cc in ap is_get get
+begins_get event page call (ToDisconnect options) is = absurd (cc)
 
 -- an event that begins no call, ends no page and brings the call nothing leaves it
 pub facts_left : (T : Trace) (line : ℕ) (event : Event) (q : ℕ) → input_to q event ≡ None
@@ -35,79 +58,114 @@ facts_left T line event q unsaid stands no_get = go (happens T event q)
     go : Happens T event q → facts_at (with_event T line event) q ≡ facts_at T q
     go (Left l) = facts_same T line event q l.quiet.stage l.quiet.begins_none l.same
     go (Ends e) = absurd (let no : false ≡ true = sym (stands e.page) ∙ e.replaced in cc)
-    go (Started s) = absurd (let no : false ≡ true = sym no_get ∙ ap is_get s.is_get in cc)
+    go (Started s) =
+        absurd (let no : false ≡ true = sym no_get ∙ begins_get event s.begun.page s.begun.call s.begun.options s.is_event in cc)
     go (Took t) = absurd (let no : None ≡ Some t.input = sym unsaid ∙ t.input_is in cc)
 
 -- an event that is ignored leaves every call
 pub facts_ignored : (T : Trace) (line : ℕ) (event : Event) (q : ℕ) (why : Why) → effects_of T event ≡ Ignored why ∷ []
-    → ((f : Facts) → said_of T event q f ≡ f)
+    → ((k : Known) → said_of T event q k ≡ k)
     → facts_at (with_event T line event) q ≡ facts_at T q
 facts_ignored T line event q why effects same =
     facts_same T line event q (ap (last_said nat_eq stage_change q) effects) (ap (last_of (begins q)) effects) same
 
 -- ---- calls that end with their page
 
--- what is said of a call's stage before silence
-said_before : (q : ℕ) (xs ys : List Effect) → AllSilent stage_change ys
-    → last_said nat_eq stage_change q (xs ++ ys) ≡ last_said nat_eq stage_change q xs
-said_before q [] ys h = last_said_silent nat_eq stage_change q ys h
-said_before q (x ∷ xs) ys h = ap (λ o. option_or o (says nat_eq q (stage_change x))) (said_before q xs ys h)
+-- a call that is pending on the page is over, another is left
+pub record EndsThere (T : Trace) (line : ℕ) (event : Event) (page q : ℕ) : Type 0 where
+  pub there : is_among q (pending_of T page) ≡ true → facts_at (with_event T line event) q ≡ None
+  pub elsewhere : is_among q (pending_of T page) ≡ false → facts_at (with_event T line event) q ≡ facts_at T q
 
--- ends say nothing of a call, or that it ended
-pub said_ends : (q : ℕ) (calls : List ℕ)
-    → (last_said nat_eq stage_change q (ends_of calls) ≡ None) ⊎
-    (last_said nat_eq stage_change q (ends_of calls) ≡ Some (Some Ended))
-said_ends q [] = inl refl
-said_ends q (c ∷ calls) = go (said_ends q calls) (nat_eq q c) refl
-  where
-    go : (last_said nat_eq stage_change q (ends_of calls) ≡ None) ⊎
-        (last_said nat_eq stage_change q (ends_of calls) ≡ Some (Some Ended))
-        → (b : Bool) → nat_eq q c ≡ b
-        → (last_said nat_eq stage_change q (ends_of (c ∷ calls)) ≡ None) ⊎
-        (last_said nat_eq stage_change q (ends_of (c ∷ calls)) ≡ Some (Some Ended))
-    go (inr e) b is = inr (ap (λ o. option_or o (says nat_eq q (Some (c, Some Ended)))) e)
-    go (inl e) true is =
-        inr (ap (λ o. option_or o (says nat_eq q (Some (c, Some Ended)))) e ∙ ap (λ t. cond t (Some (Some Ended)) None) is)
-    go (inl e) false is =
-        inl (ap (λ o. option_or o (says nat_eq q (Some (c, Some Ended)))) e ∙ ap (λ t. cond t (Some (Some Ended)) None) is)
-
--- where the calls of a page end, and what comes after says nothing of calls: a call is left, or over
-pub facts_end : (T : Trace) (line : ℕ) (event : Event) (q page : ℕ) (rest : List Effect)
+-- where the calls of a page end, and what comes after says nothing of calls
+facts_end : (T : Trace) (line : ℕ) (event : Event) (q page : ℕ) (rest : List Effect)
     → effects_of T event ≡ ends_of (pending_of T page) ++ rest
-    → AllSilent stage_change rest → AllSilent (begins q) rest → ((f : Facts) → said_of T event q f ≡ f)
-    → ((last_said nat_eq stage_change q (ends_of (pending_of T page)) ≡ None) → facts_at (with_event T line event) q ≡ facts_at T q)
-    × ((last_said nat_eq stage_change q (ends_of (pending_of T page)) ≡ Some (Some Ended)) → facts_at
-    (with_event T line event) q ≡ None)
+    → AllSilent stage_change rest → AllSilent (begins q) rest → ((k : Known) → said_of T event q k ≡ k) → EndsThere T line event page q
 facts_end T line event q page rest effects stage begun same =
     let none : last_of (begins q) (effects_of T event) ≡ None =
     last_silent (begins q) (effects_of T event)
     (subst (AllSilent (begins q)) (sym effects)
-    (silent_append (begins q) (ends_of (pending_of T page)) rest (ends_silent (begins q) (λ c. refl) (pending_of T page)) begun)) in
+    (silent_append (begins q) (ends_of (pending_of T page)) rest (ends_silent (begins q) (λ n c. refl) (pending_of T page)) begun)) in
     let said : last_said nat_eq stage_change q (effects_of T event) ≡ last_said nat_eq stage_change q (ends_of (pending_of T page)) =
-    ap (last_said nat_eq stage_change q) effects ∙ said_before q (ends_of (pending_of T page)) rest stage in (
-      λ e. facts_same T line event q (said ∙ e) none same,
-      λ e. facts_moved T line event q (Some (Some Ended)) None (said ∙ e) none
-          ∙ over (option_map (said_of T event q) (known_in T.header T.rows q)),
-    )
+    ap (last_said nat_eq stage_change q) effects ∙ last_said_front stage_change q (ends_of (pending_of T page)) rest stage in
+    record {
+      there = λ is. facts_ended T line event q (said ∙ ends_hit q (pending_of T page) is) none;
+      elsewhere =
+          λ is. facts_same T line event q (said ∙ ends_apart stage_change (Some Ended) (λ n c. refl) q (pending_of T page) is) none same;
+    }
 
-pub facts_load : (T : Trace) (line page : ℕ) (url : Parts) (raw : Option (List ℕ)) (q : ℕ)
-    → ((last_said nat_eq stage_change q (ends_of (pending_of T page)) ≡ None) → facts_at
-    (with_event T line (Load page url raw)) q ≡ facts_at T q)
-    × ((last_said nat_eq stage_change q (ends_of (pending_of T page)) ≡ Some (Some Ended)) → facts_at
-    (with_event T line (Load page url raw)) q ≡ None)
+pub facts_load : (T : Trace) (line page : ℕ) (url : Parts) (raw : Option (List ℕ)) (q : ℕ) → EndsThere T line (Load page url raw) page q
 facts_load T line page url raw q =
     let found = cookies_from T.header.rules url (now_at T) (set_cookies raw) in
     let statuses = set_logins raw in
     facts_end T line (Load page url raw) q page
     (Page page (origin_of url) ∷ (cookie_effects found ++ login_effects (origin_of url) statuses)) refl
     (refl, load_rest_silent stage_change (λ c. refl) (λ o s. refl) found (origin_of url) statuses)
-    (refl, load_rest_silent (begins q) (λ c. refl) (λ o s. refl) found (origin_of url) statuses) (λ f. refl)
+    (refl, load_rest_silent (begins q) (λ c. refl) (λ o s. refl) found (origin_of url) statuses) (λ k. refl)
 
 pub facts_close : (T : Trace) (line page : ℕ) (q : ℕ) (origin : Origin) → page_at T page ≡ Some origin
-    → ((last_said nat_eq stage_change q (ends_of (pending_of T page)) ≡ None) → facts_at
-    (with_event T line (ClosePage page)) q ≡ facts_at T q)
-    × ((last_said nat_eq stage_change q (ends_of (pending_of T page)) ≡ Some (Some Ended)) → facts_at
-    (with_event T line (ClosePage page)) q ≡ None)
+    → EndsThere T line (ClosePage page) page q
 facts_close T line page q origin is =
     facts_end T line (ClosePage page) q page (Closed page ∷ []) (ap (close_effects (pending_of T page) page) is) (refl, tt)
-    (refl, tt) (λ f. refl)
+    (refl, tt) (λ k. refl)
+
+-- ---- calls that are no gets, or over
+
+-- nothing is seen of a disconnect
+disconnect_unseen : (p : Providers) (w : World) (ck : Ask → List ℕ) (call page : ℕ) (es : List CallEffect) → filter_map sets_login es ≡ []
+    → filter_map (seen p) (flat_map (call_effects w ck DisconnectCall call page) es) ≡ []
+disconnect_unseen p w ck call page [] none = refl
+disconnect_unseen p w ck call page (does.SetLogin origin status ∷ es) none = absurd (cc)
+disconnect_unseen p w ck call page (does.Send place ask ∷ es) none = disconnect_unseen p w ck call page es none
+disconnect_unseen p w ck call page (does.Finish finish ∷ es) none = disconnect_unseen p w ck call page es none
+disconnect_unseen p w ck call page (does.Ignored why ∷ es) none = disconnect_unseen p w ck call page es none
+disconnect_unseen p w ck call page (does.Dialog dialog ∷ es) none = disconnect_unseen p w ck call page es none
+disconnect_unseen p w ck call page (does.Window place url ∷ es) none = disconnect_unseen p w ck call page es none
+disconnect_unseen p w ck call page (does.Keep triple ∷ es) none = disconnect_unseen p w ck call page es none
+disconnect_unseen p w ck call page (does.Forget triple ∷ es) none = disconnect_unseen p w ck call page es none
+disconnect_unseen p w ck call page (does.ClearFlag origin ∷ es) none = disconnect_unseen p w ck call page es none
+disconnect_unseen p w ck call page (does.ForgetPair o u ∷ es) none =
+    goes_silent (seen p) (λ t. refl) (triples_of_pair w.kept o u) (flat_map (call_effects w ck DisconnectCall call page) es)
+    ∙ disconnect_unseen p w ck call page es none
+
+moved_unseen : (p : Providers) (call : ℕ) (stage : Option Stage) → filter_map (seen p) (moves DisconnectCall call stage) ≡ []
+moved_unseen p call None = refl
+moved_unseen p call (Some stage) = refl
+
+sets_none : (o : Outcome) → Turn o → filter_map sets_login o.effects ≡ []
+sets_none o (Gives finish other asked_none gave logins) = logins
+sets_none o (GivesNone asked_none gave_none logins) = logins
+
+-- nothing is seen of an input to a call that is no get, or is over
+pub others_unseen : (p : Providers) (T : Trace) (event : Event) (call : ℕ) → Takes T event call → facts_at T call ≡ None
+    → filter_map (seen p) (effects_of T event) ≡ []
+others_unseen p T event call t none = go (taking T event call t)
+  where
+    go : Taking T event call → filter_map (seen p) (effects_of T event) ≡ []
+    go (ByGet f m) = absurd (let no : Some f ≡ None = sym m.found ∙ none in cc)
+    go (ByDisconnect f m) =
+        let o = input_row (world_at T) (OfDisconnect f) m.takes.input in
+        ap (filter_map (seen p)) (does_it T event call (OfDisconnect f) m)
+        ∙ filter_map-append (seen p) (flat_map (call_effects (world_at T) (cookies_with T) DisconnectCall call f.page) o.effects)
+        (moves DisconnectCall call o.stage)
+        ∙ ap (λ xs. xs ++ filter_map (seen p) (moves DisconnectCall call o.stage))
+        (disconnect_unseen p (world_at T) (cookies_with T) call f.page o.effects
+        (sets_none o (disconnect_turn (world_at T) f m.takes.input)))
+        ∙ moved_unseen p call o.stage
+    go (ByNone taken is) = ap (filter_map (seen p)) (over_ignored T event call taken is)
+
+-- a call that is not over began
+pub get_is_begun : (T : Trace) (call : ℕ) (f : Facts) → facts_at T call ≡ Some f → is_begun T call ≡ true
+get_is_begun T call f found = go (is_begun T call) refl
+  where
+    go : (begun : Bool) → is_begun T call ≡ begun → is_begun T call ≡ true
+    go true is = is
+    go false is =
+        let unknown = unbegun_unknown T.header T.rows call is in
+        let no : None ≡ Some f =
+        sym (ap (λ k. option_and_then get_facts (known_by (stage_at T call) k)) unknown
+        ∙ ap (option_and_then get_facts) (by_none (stage_at T call))) ∙ found in
+        absurd (cc)
+      where
+        by_none : (stage : Option Stage) → known_by stage None ≡ None
+        by_none None = refl
+        by_none (Some stage) = refl

@@ -14,7 +14,7 @@ use Rattle.fed_status.specs.Shared.{World}
 use Rattle.fed_consent.specs.Outcomes.{only_place}
 use Rattle.fed_call.specs.Facts.{provider_at}
 use Rattle.fed_call.specs.ReadingRows.{is_gated, by_gate, by_scheme, start_at}
-use Rattle.fed_trace.specs.Row.{get_outcome}
+use Rattle.fed_trace.specs.Call.{get_outcome}
 use Rattle.fed_twin.specs.Providers.{Providers}
 use Rattle.fed_twin.specs.Same.{IfBoth, SameProvider, SameOptions}
 use Rattle.fed_twin.proofs.calls.Call.{AgreeWorlds, AllOwn, providers_both}
@@ -33,7 +33,8 @@ start_same p w w' agree mode mode' e place (Some q) (Some q') h =
     (agree.status (origin_of q.config) h.known)
     ∙ ap (λ r. by_scheme place (scheme_of q.config) q.config (WellKnownUrlOf r q.config)
     (is_gated mode' (status_of w'.login (origin_of q.config)))) (agree.rules ∙ sym agree.rules')
-    ∙ ap (λ c. by_scheme place (scheme_of c) c (WellKnownUrlOf w'.rules c) (is_gated mode' (status_of w'.login (origin_of c)))) h.shares.config
+    ∙ ap (λ c. by_scheme place (scheme_of c) c (WellKnownUrlOf w'.rules c) (is_gated mode' (status_of w'.login (origin_of c))))
+    h.shares.config
 
 -- whatever the origins of the pages
 pub get_same : (p : Providers) (w w' : World) → AgreeWorlds p w w' → (busy : Bool) (o u : Origin) (a b : GetOptions) → SameOptions p a b
@@ -56,7 +57,8 @@ own_scheme p place Https config (Ok wellknown) gated = own_gate p place config w
 own_start : (p : Providers) (w : World) (mode : Mode) (place : ℕ) (q : Option ProviderOptions) → AllOwn p (start_at w mode place q).effects
 own_start p w mode place None = tt
 own_start p w mode place (Some q) =
-    own_scheme p place (scheme_of q.config) q.config (WellKnownUrlOf w.rules q.config) (is_gated mode (status_of w.login (origin_of q.config)))
+    own_scheme p place (scheme_of q.config) q.config (WellKnownUrlOf w.rules q.config)
+    (is_gated mode (status_of w.login (origin_of q.config)))
 
 pub own_get : (p : Providers) (w : World) (busy : Bool) (origin : Origin) (options : GetOptions)
     → AllOwn p (get_outcome w busy origin options).effects

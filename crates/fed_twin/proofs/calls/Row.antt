@@ -1,5 +1,6 @@
 -- The table of a call in two worlds that providers cannot tell apart.
-use Rattle.std.proofs.Common.{◌≡◌, ℕ, zero, suc, Bool, true, false, ◌⊎◌, inl, inr, List, [], ◌∷◌, length, slice_get, position, Option, Some, None, Result as Answer, Ok, Err, is_some, refl, sym, ap, subst, ◌∙◌, arith}
+use Rattle.std.proofs.Common.{◌≡◌, ℕ, zero, suc, Bool, true, false, inr, List, [], ◌∷◌, length, slice_get, position, Option, Some}
+use Rattle.std.proofs.Common.{None, Result as Answer, Ok, Err, is_some, refl, sym, ap, subst, ◌∙◌, arith}
 use Rattle.std.specs.Prelude.{option_and_then, option_map, unwrap_or, ⊤, not}
 use Rattle.std.specs.List.{filter_map, list_any}
 use Rattle.url.specs.Parts.{Parts}
@@ -28,15 +29,18 @@ use Rattle.fed_consent.specs.declared.consent.manner.Manner.TheVariants.{Chosen,
 use Rattle.fed_call.specs.Accounts.{accounts_of, candidate_of}
 use Rattle.fed_call.specs.AssertingRows.{asserts}
 use Rattle.fed_call.specs.DialogRows.{agreed_to, chose, choice, settles, goes_on, went_on, cancelled, metadata_reply, links_shown}
-use Rattle.fed_call.specs.Facts.{Facts, at_stage, is_ignored, provider_at, metadata_endpoint, with_list, with_listing, with_choice, with_input, facts_after}
-use Rattle.fed_consent.specs.Outcomes.{Outcome, ignored, after, only_place}
+use Rattle.fed_call.specs.Facts.{Facts, at_stage, provider_at, metadata_endpoint, with_list, with_listing, with_choice, with_input}
+use Rattle.fed_call.specs.Facts.{facts_after}
+use Rattle.fed_consent.specs.Outcomes.{Outcome, ignored, after, only_place, is_ignored}
 use Rattle.fed_consent.specs.Failures.{plain, accounts_failure}
 use Rattle.fed_call.specs.ListingRows.{accounts_reply, by_accounts, prompt_effect, by_mismatch, is_mismatch, site_of}
 use Rattle.fed_call.specs.Row.{stage_reply}
 use Rattle.fed_trace.proofs.happens.Says.{asks_token}
 use Rattle.fed_twin.specs.Providers.{Providers}
 use Rattle.fed_twin.specs.Same.{IfBoth, SameProvider, SameListed, is_open, SameData, SameFacts, SameCall}
-use Rattle.fed_twin.proofs.calls.Call.{AgreeWorlds, told_effect, OwnSend, Keeps, after_by, open_facts, keeps_ignored, keeps_fails, keeps_moves, keeps_moves_after, same_choice, same_listing, both, keeps_wellknown, keeps_config, configured, read_same, AllOwn}
+use Rattle.fed_twin.proofs.calls.Call.{AgreeWorlds, told_effect, OwnSend, Keeps, after_by, open_facts, keeps_ignored, keeps_fails}
+use Rattle.fed_twin.proofs.calls.Call.{keeps_moves, keeps_moves_after, same_choice, same_listing, both, keeps_wellknown, keeps_config}
+use Rattle.fed_twin.proofs.calls.Call.{configured, read_same, AllOwn}
 
 -- ---- what comes first of a prompt
 
@@ -184,7 +188,8 @@ module _ (p : Providers) (w w' : World) (agree : AgreeWorlds p w w') (f f' : Fac
       (ap (λ c. does.SetLogin (origin_of c) LoggedIn ∷ []) h.shares.config) refl refl tt
       (prompt_untold w f place q c c.connected (metadata_endpoint f.config))
       (prompt_untold w' f' place q' c' c'.connected (metadata_endpoint f'.config))
-      (prompt_taken w f place q c c.connected (metadata_endpoint f.config)) (prompt_taken w' f' place q' c' c'.connected (metadata_endpoint f'.config))
+      (prompt_taken w f place q c c.connected (metadata_endpoint f.config))
+      (prompt_taken w' f' place q' c' c'.connected (metadata_endpoint f'.config))
       (prompt_own p w f place q c c.connected (metadata_endpoint f.config))
       (listing_by place raw) (inr (refl, inr (listing_known place raw at)))
   accounts_by place raw at q q' h (Ok (first ∷ second ∷ more)) =
@@ -288,7 +293,8 @@ module _ (p : Providers) (w w' : World) (agree : AgreeWorlds p w w') (f f' : Fac
       keeps_moves p w w' f f' s _ _ Prompting _ _
       (prompt_untold w f place q c c.connected (metadata_endpoint f.config))
       (prompt_untold w' f' place q' c' c'.connected (metadata_endpoint f'.config))
-      (prompt_taken w f place q c c.connected (metadata_endpoint f.config)) (prompt_taken w' f' place q' c' c'.connected (metadata_endpoint f'.config))
+      (prompt_taken w f place q c c.connected (metadata_endpoint f.config))
+      (prompt_taken w' f' place q' c' c'.connected (metadata_endpoint f'.config))
       (prompt_own p w f place q c c.connected (metadata_endpoint f.config)) (choice_by place id)
       (inr (
         refl,
@@ -421,7 +427,8 @@ unseen_metadata p w f g s at place raw true (Some q) = shown f.picked
     stays_so : SameCall p (at_stage f.stage over) (Some g)
     stays_so = subst (λ x. SameCall p x (Some g)) (sym (open_facts over s.goes_on)) (waits_over p f g s)
 
-    shown : (picked : Option Candidate) → Unseen p w f (inputs.Reply place kinds.Metadata raw) (links_shown w f place picked (MetadataOf raw)) g
+    shown : (picked : Option Candidate) → Unseen p w f (inputs.Reply place kinds.Metadata raw) (links_shown w f place picked
+        (MetadataOf raw)) g
     shown None = record { told = refl; stays = refl; after = stays_so }
     shown (Some c) = record { told = refl; stays = refl; after = stays_so }
 

@@ -1,5 +1,7 @@
 -- A run of a script stops where it is quiet no longer.
-use Rattle.std.proofs.Common.{◌≡◌, ◌≢◌, ℕ, zero, suc, ◌+◌, ◌-◌, ◌*◌, ◌^◌, ◌<◌, ◌≤◌, Bool, true, false, cond, ◌||◌, nat_eq, List, [], ◌∷◌, length, map, Option, Some, None, refl, sym, ap, ap₂, subst, ◌∙◌, arith, lit≤, zero-le, length-append, get_or, drop, add-one, drop-cons}
+use Rattle.std.proofs.Common.{◌≡◌, ◌≢◌, ℕ, zero, suc, ◌+◌, ◌-◌, ◌*◌, ◌^◌, ◌<◌, ◌≤◌, Bool, true, false, cond, ◌||◌, nat_eq, List, [], ◌∷◌}
+use Rattle.std.proofs.Common.{length, map, Option, Some, None, refl, sym, ap, ap₂, subst, ◌∙◌, arith, lit≤, zero-le, length-append, get_or}
+use Rattle.std.proofs.Common.{drop, add-one, drop-cons}
 use Rattle.std.proofs.lemmas.Bool.{eq-eqb, ne_eqb, eqb-true, eqb-false, false≢true}
 use Rattle.std.proofs.lemmas.List.{length-map, drop_all}
 use Rattle.std.proofs.lemmas.List.Sums.{length-filter, count_by-le-length}
@@ -19,15 +21,18 @@ use Rattle.fed_trace.specs.declared.out.Out.TheVariants.{Request}
 use Rattle.fed_trace.specs.Effect.{Effect, Sent}
 use Rattle.fed_trace.specs.OfScript.{start, with_events}
 use Rattle.fed_trace.specs.Records.{records_of, records}
-use Rattle.fed_trace.specs.Row.{row_of, with_event}
+use Rattle.fed_trace.specs.Row.{IsRun, effects_of, row_of, with_event}
 use Rattle.fed_session.specs.Session.{State, Stands, IsFresh}
-use Rattle.fed_trace.specs.Trace.{Row, Trace, begun}
+use Rattle.fed_trace.specs.Trace.{Trace, begun}
 use Rattle.fed_session.proofs.kept.Calls.{absent_from_numbers}
 use Rattle.fed_trace.proofs.runs.Untaken.{IsUntaken, untaken_after}
-use Rattle.fed_twin.specs.Compare.{IsQuietLength, QuietRun, is_naming_kind, is_naming_record, is_first_kind, is_first_record, quiet_count, quiet_requests}
-use Rattle.fed_twin.specs.Script.{is_kept, kept_events, up_to, first_bytes, first_sent, first_requests, is_naming, names, is_loud, AreQuiet, Quiet, sign_in}
+use Rattle.fed_twin.specs.Compare.{IsQuietLength, QuietRun, is_naming_kind, is_naming_record, is_first_kind, is_first_record, quiet_count}
+use Rattle.fed_twin.specs.Compare.{quiet_requests}
+use Rattle.fed_twin.specs.Script.{is_kept, kept_events, up_to, first_bytes, first_sent, first_requests, is_naming, names, is_loud, AreQuiet}
+use Rattle.fed_twin.specs.Script.{Quiet, sign_in}
 use Rattle.fed_twin.specs.Twin.{Twin}
 use Rattle.fed_twin.proofs.compared.Requests.{few_requests}
+use Rattle.fed_twin.proofs.compared.Sends.{first_any, sends_gets}
 use Rattle.fed_twin.proofs.twins.Self.{quiet_before}
 use Rattle.fed_twin.proofs.worlds.Worlds.{two_worlds_lem}
 
@@ -44,7 +49,7 @@ naming_ask (asks.Disconnect to client hint origin) = refl
 naming_records : (line : ℕ) (effects : List Effect) → list_any is_naming_record (records_of line effects) ≡ list_any names effects
 unfolding is_naming_record
 naming_records line [] = refl
-naming_records line (Sent call provider ask cookies ∷ effects) = ap₂ (λ x y. x || y) (naming_ask ask) (naming_records line effects)
+naming_records line (Sent kind call provider ask cookies ∷ effects) = ap₂ (λ x y. x || y) (naming_ask ask) (naming_records line effects)
 naming_records line (effect ∷ effects) = naming_records line effects
 
 first_ask : (ask : Ask) (cookies : List ℕ) (out : Out) (outs : List Out) (xs : List (List ℕ)) → length outs ≡ length xs
@@ -57,16 +62,19 @@ first_ask (asks.Assertion ask) cookies out outs xs is = is
 first_ask (asks.Disconnect to client hint origin) cookies out outs xs is = is
 
 first_records : (line : ℕ) (effects : List Effect)
-    → length (filter is_first_record (records_of line effects)) ≡ length (filter_map first_sent effects)
+    → length (filter is_first_record (records_of line effects)) ≡ length (filter_map first_any effects)
 unfolding is_first_record
 first_records line [] = refl
-first_records line (Sent call provider ask cookies ∷ effects) =
+first_records line (Sent kind call provider ask cookies ∷ effects) =
     first_ask ask cookies (Request line call provider (kind_of ask) (request_bytes ask cookies))
-    (filter is_first_record (records_of line effects)) (filter_map first_sent effects) (first_records line effects)
+    (filter is_first_record (records_of line effects)) (filter_map first_any effects) (first_records line effects)
 first_records line (effect ∷ effects) = first_records line effects
 
-pub count_of_row : (row : Row) → quiet_count (records row) ≡ quiet_requests row
-count_of_row row = ap₂ (λ b n. cond b None (Some n)) (naming_records row.line row.effects) (first_records row.line row.effects)
+pub count_of_row : (T : Trace) → IsRun T.header T.rows → (line : ℕ) (event : Event)
+    → quiet_count (records (row_of T line event)) ≡ quiet_requests (row_of T line event)
+count_of_row T run line event =
+    ap₂ (λ b n. cond b None (Some n)) (naming_records line (effects_of T event))
+    (first_records line (effects_of T event) ∙ ap length (sym (sends_gets T run event)))
 
 -- ---- a run, and where it stops
 
@@ -396,7 +404,8 @@ row_found : {session session' : State} {n : Numbered} (T : Trace) {found : Optio
 row_found {n = n} T requests stands takes is = unless_some (is_loud (row_of T n.line n.event)) requests _ (sym is ∙ (takes T stands).0)
 
 -- they fit
-pub fits_more : {s : Script} {most kept sent total : ℕ} {session session' : State} {n : Numbered} {ns : List Numbered} {found : Option ℕ} (requests : ℕ)
+pub fits_more : {s : Script} {most kept sent total : ℕ} {session session' : State} {n : Numbered} {ns : List Numbered} {found : Option ℕ}
+    (requests : ℕ)
     → Takes session session' n found → found ≡ Some requests → GoesOn s most session (n ∷ ns) kept sent total
     → total + requests < 2 ^ 64
 fits_more {n = n} requests takes is h =
@@ -409,7 +418,8 @@ goes_on : {s : Script} {most kept sent total : ℕ} {session session' : State} {
     → Takes session session' n found → found ≡ Some requests → kept ≢ most → GoesOn s most session (n ∷ ns) kept sent total
     → (more : Bool) → is_kept n.event ≡ more
     → GoesOn s most session' ns (cond more (kept + 1) kept) (cond more (total + requests) sent) (total + requests)
-goes_on {s = s} {most = most} {kept = kept} {sent = sent} {total = total} {session' = session'} {n = n} {ns = ns} requests takes is apart h more kind =
+goes_on {s = s} {most = most} {kept = kept} {sent = sent} {total = total} {session' = session'} {n = n} {ns =
+    ns} requests takes is apart h more kind =
     let row = row_found {n = n} h.trace requests h.stands takes is in
     let count = h.count in
     let all : total + requests ≡ requests_of (after h.trace n) =
@@ -450,12 +460,14 @@ goes_on {s = s} {most = most} {kept = kept} {sent = sent} {total = total} {sessi
         sym (ap (λ b. cond b (run (after h.trace n) ns most (kept + 1) (requests_of (after h.trace n)))
         (run (after h.trace n) ns most kept sent)) kind)
 
-pub goes_on_kept : {s : Script} {most kept sent total : ℕ} {session session' : State} {n : Numbered} {ns : List Numbered} {found : Option ℕ} (requests : ℕ)
+pub goes_on_kept : {s : Script} {most kept sent total : ℕ} {session session' : State} {n : Numbered} {ns : List Numbered} {found : Option ℕ}
+    (requests : ℕ)
     → Takes session session' n found → found ≡ Some requests → kept ≢ most → GoesOn s most session (n ∷ ns) kept sent total
     → is_kept n.event ≡ true → GoesOn s most session' ns (kept + 1) (total + requests) (total + requests)
 goes_on_kept requests takes is apart h kind = goes_on requests takes is apart h true kind
 
-pub goes_on_skipped : {s : Script} {most kept sent total : ℕ} {session session' : State} {n : Numbered} {ns : List Numbered} {found : Option ℕ} (requests : ℕ)
+pub goes_on_skipped : {s : Script} {most kept sent total : ℕ} {session session' : State} {n : Numbered} {ns : List Numbered}
+    {found : Option ℕ} (requests : ℕ)
     → Takes session session' n found → found ≡ Some requests → kept ≢ most → GoesOn s most session (n ∷ ns) kept sent total
     → is_kept n.event ≡ false → GoesOn s most session' ns kept sent (total + requests)
 goes_on_skipped requests takes is apart h kind = goes_on requests takes is apart h false kind
@@ -467,7 +479,8 @@ pub ends_full : {s : Script} {most kept sent total : ℕ} {session : State} {res
 ends_full {s = s} {most = most} {kept = kept} {sent = sent} {rest = rest} h full =
     subst (QuietRun s most) (sym h.same ∙ run-full h.trace rest most kept sent full) (run_is_quiet s most h.whole)
 
-pub ends_loud : {s : Script} {most kept sent total : ℕ} {session session' : State} {n : Numbered} {ns : List Numbered} {found : Option ℕ} → Takes session session' n found → found ≡ None → kept ≢ most
+pub ends_loud : {s : Script} {most kept sent total : ℕ} {session session' : State} {n : Numbered} {ns : List Numbered} {found : Option ℕ}
+    → Takes session session' n found → found ≡ None → kept ≢ most
     → GoesOn s most session (n ∷ ns) kept sent total → QuietRun s most (kept, sent)
 ends_loud {s = s} {most = most} {kept = kept} {sent = sent} {n = n} {ns = ns} takes none apart h =
     let loud = unless_none (is_loud (row_of h.trace n.line n.event)) _ (sym none ∙ (takes h.trace h.stands).0) in

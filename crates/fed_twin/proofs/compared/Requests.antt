@@ -1,5 +1,6 @@
 -- An event sends at most two sign-in requests.
-use Rattle.std.proofs.Common.{◌≡◌, ℕ, ◌≤◌, Bool, true, false, List, [], ◌∷◌, ◌++◌, length, Option, Some, None, Ok, Err, refl, ap, ◌∙◌, append-nil, arith, lit≤}
+use Rattle.std.proofs.Common.{◌≡◌, ℕ, ◌≤◌, Bool, true, false, List, [], ◌∷◌, ◌++◌, length, Option, Some, None, Ok, Err, refl, ap, ◌∙◌}
+use Rattle.std.proofs.Common.{append-nil, arith, lit≤}
 use Rattle.std.proofs.lemmas.List.Elements.{filter_map-append}
 use Rattle.std.specs.Prelude.{Result, option_and_then, not}
 use Rattle.std.specs.List.{filter_map, cons_option, flat_map}
@@ -40,23 +41,29 @@ use Rattle.fed_consent.specs.declared.consent.manner.Manner.TheVariants.{Chosen,
 use Rattle.fed_consent.specs.Consent.{Agreement, Candidate, chosen}
 use Rattle.fed_call.specs.Accounts.{accounts_of}
 use Rattle.fed_call.specs.AssertingRows.{asserts, assertion_reply, asserting_reply}
-use Rattle.fed_call.specs.DialogRows.{links_shown, metadata_reply, prompting_reply, agreed_to, settles, choice, chose, goes_on, went_on, cancelled}
+use Rattle.fed_call.specs.DialogRows.{links_shown, metadata_reply, prompting_reply, agreed_to, settles, choice, chose, goes_on, went_on}
+use Rattle.fed_call.specs.DialogRows.{cancelled}
 use Rattle.fed_call.specs.Facts.{Facts, provider_at}
 use Rattle.fed_provider.specs.FirstReplies.{config_read, wellknown_of}
 use Rattle.fed_consent.specs.Outcomes.{Outcome, after, only_place}
 use Rattle.fed_consent.specs.Failures.{accounts_failure}
 use Rattle.fed_call.specs.ListingRows.{is_mismatch, by_mismatch, offers, by_accounts, accounts_reply, listing_reply, site_of}
-use Rattle.fed_call.specs.ReadingRows.{start_at, by_scheme, by_gate, is_gated, first_wellknown, first_config, wellknown_reply, config_reply, reading_reply}
-use Rattle.fed_call.specs.Row.{stage_reply, input_row, call_row}
+use Rattle.fed_call.specs.ReadingRows.{start_at, by_scheme, by_gate, is_gated, first_wellknown, first_config, wellknown_reply, config_reply}
+use Rattle.fed_call.specs.ReadingRows.{reading_reply}
+use Rattle.fed_call.specs.Row.{stage_reply, input_row}
 use Rattle.fed_script.specs.declared.event.Event.{Event}
 use Rattle.fed_script.specs.declared.event.Event.TheVariants as events
 use Rattle.fed_script.specs.declared.event.Have.{Have}
 use Rattle.fed_script.specs.declared.event.Have.TheVariants as haves
-use Rattle.fed_trace.specs.Begun.{Begun}
+use Rattle.fed_disconnect.specs.Rows as disconnect_rows
+use Rattle.fed_trace.specs.Begun.{CallKind, GetCall, DisconnectCall, CallOptions, ToGet, ToDisconnect}
+use Rattle.fed_trace.specs.Call.{Known, OfGet, OfDisconnect, get_outcome, first_row}
 use Rattle.fed_trace.specs.Effect.{Effect, Closed, Cookie, Login, Sent}
-use Rattle.fed_trace.specs.Known.{world_at, is_begun, facts_at}
-use Rattle.fed_trace.specs.Row.{effects_of, call_effects, moves, outcome_effects, get_outcome, standing_get, get_effects, is_busy, page_of, input_effects, ends_of, cookies_with, cookies_from, cookie_effects, have_cookies, have_logins, close_effects, standing_status, status_effects, set_cookies, set_logins}
-use Rattle.fed_trace.specs.Trace.{Trace, page_at, pending, pending_of, now_at}
+use Rattle.fed_trace.specs.Known.{world_at, is_begun, known_at}
+use Rattle.fed_trace.specs.Row.{effects_of, call_effects, moves, outcome_effects, standing_call, begin_effects, is_busy, input_effects}
+use Rattle.fed_trace.specs.Row.{ends_of, cookies_with, cookies_from, cookie_effects, have_cookies, have_logins, close_effects}
+use Rattle.fed_trace.specs.Row.{standing_status, status_effects, set_cookies, set_logins}
+use Rattle.fed_trace.specs.Trace.{Trace, page_at, gets, pending_of, now_at}
 use Rattle.fed_trace.proofs.calls.Pending.{ends_silent, load_silent}
 use Rattle.fed_trace.proofs.effects.Silent.{AllSilent, said_silent, silent_map, silent_append, goes_silent}
 use Rattle.fed_twin.specs.Script.{first_sent}
@@ -96,7 +103,8 @@ short_get : (world : World) (busy : Bool) (origin : Origin) (options : GetOption
 short_get world true origin options = one
 short_get world false origin options = short_start world options.mode only_place (provider_at only_place options)
 
-short_first_wellknown : (place : ℕ) (config : Option Config) (read : Result (Unit {0}) ProviderStep) → IsShort (first_wellknown place config read)
+short_first_wellknown : (place : ℕ) (config : Option Config) (read : Result (Unit {0}) ProviderStep)
+    → IsShort (first_wellknown place config read)
 short_first_wellknown place config (Err step) = one
 short_first_wellknown place None (Ok u) = none
 short_first_wellknown place (Some config) (Ok u) = one
@@ -141,7 +149,8 @@ short_read : (world : World) (facts : Facts) (place : ℕ) (provider : ProviderO
 short_read world facts place provider (Err step) =
     short_refused (SetLogin (origin_of provider.config) LoggedOut) place (site_of world facts.origin) (accounts_failure step)
     (is_mismatch facts.options.mode facts.options.mediation (status_of world.login (origin_of provider.config)))
-short_read world facts place provider (Ok accounts) = short_offers world facts place provider (SetLogin (origin_of provider.config) LoggedIn) accounts
+short_read world facts place provider (Ok accounts) =
+    short_offers world facts place provider (SetLogin (origin_of provider.config) LoggedIn) accounts
 
 short_accounts : (world : World) (facts : Facts) (place : ℕ) (provider : Option ProviderOptions) (raw : List ℕ)
     → IsShort (accounts_reply world facts place provider raw)
@@ -169,7 +178,8 @@ short_prompting : (world : World) (facts : Facts) (place : ℕ) (provider : Opti
 short_prompting world facts place provider kinds.Metadata raw = short_metadata world facts facts.waits place provider raw
 short_prompting world facts place provider _ raw = one
 
-short_assertion : (facts : Facts) (place : ℕ) (provider : Option ProviderOptions) (raw : List ℕ) → IsShort (assertion_reply facts place provider raw)
+short_assertion : (facts : Facts) (place : ℕ) (provider : Option ProviderOptions) (raw : List ℕ)
+    → IsShort (assertion_reply facts place provider raw)
 short_assertion facts place None raw = one
 short_assertion facts place (Some provider) raw = one
 
@@ -214,7 +224,8 @@ short_goes_on : (facts : Facts) (waits : Bool) (picked : Option Candidate) → I
 short_goes_on facts true picked = one
 short_goes_on facts false None = none
 short_goes_on facts false (Some candidate) =
-    short_asserts facts only_place (provider_at only_place facts.options) facts.config (agreed_to facts only_place candidate Prompted (not candidate.connected))
+    short_asserts facts only_place (provider_at only_place facts.options) facts.config
+    (agreed_to facts only_place candidate Prompted (not candidate.connected))
 
 short_went_on : (facts : Facts) (stage : Stage) → IsShort (went_on facts stage)
 short_went_on facts stages.Prompting = short_goes_on facts facts.waits facts.picked
@@ -236,32 +247,31 @@ short_input world facts inputs.GoOn = short_went_on facts facts.stage
 short_input world facts inputs.Cancel = short_cancelled facts.stage
 short_input world facts _ = one
 
-short_row : (world : World) (facts : Option Facts) (input : Input) → IsShort (call_row world facts input)
-short_row world None input = one
-short_row world (Some facts) input = short_input world facts input
-
 -- ---- so an event sends at most two
 
-moves_send_none : (call : ℕ) (stage : Option Stage) → filter_map first_sent (moves call stage) ≡ []
-moves_send_none call None = refl
-moves_send_none call (Some stage) = refl
+moves_send_none : (kind : CallKind) (call : ℕ) (stage : Option Stage) → filter_map first_sent (moves kind call stage) ≡ []
+moves_send_none kind call None = refl
+moves_send_none kind call (Some stage) = refl
 
--- what a call does sends at most one for each thing that it does
+-- what a get does sends at most one for each thing that it does
 few_sent : (world : World) (cookies : Ask → List ℕ) (call page : ℕ) (effects : List CallEffect)
-    → length (filter_map first_sent (flat_map (call_effects world cookies call page) effects)) ≤ length effects
+    → length (filter_map first_sent (flat_map (call_effects world cookies GetCall call page) effects)) ≤ length effects
 few_sent world cookies call page effects = all effects
   where
-    one : {X : Type 0} (o : Option X) (xs : List X) (e : CallEffect) (es : List CallEffect) → length xs ≤ length es → length (cons_option o xs) ≤ length (e ∷ es)
+    one : {X : Type 0} (o : Option X) (xs : List X) (e : CallEffect) (es : List CallEffect) → length xs ≤ length es
+        → length (cons_option o xs) ≤ length (e ∷ es)
     one None xs e es le = omega (arith, le)
     one (Some x) xs e es le = omega (arith, le)
 
     more : (n : ℕ) (e : CallEffect) (es : List CallEffect) → n ≤ length es → n ≤ length (e ∷ es)
     more n e es le = omega (arith, le)
 
-    all : (effects : List CallEffect) → length (filter_map first_sent (flat_map (call_effects world cookies call page) effects)) ≤ length effects
+    all : (effects : List CallEffect) → length (filter_map first_sent
+        (flat_map (call_effects world cookies GetCall call page) effects)) ≤ length effects
     all [] = lit≤ tt
     all (does.Send provider ask ∷ es) =
-        one (first_sent (Sent call provider ask (cookies ask))) (filter_map first_sent (flat_map (call_effects world cookies call page) es)) (does.Send provider ask) es (all es)
+        one (first_sent (Sent GetCall call provider ask (cookies ask)))
+        (filter_map first_sent (flat_map (call_effects world cookies GetCall call page) es)) (does.Send provider ask) es (all es)
     all (does.Finish finish ∷ es) = more _ (does.Finish finish) es (all es)
     all (does.Ignored why ∷ es) = more _ (does.Ignored why) es (all es)
     all (does.Dialog dialog ∷ es) = more _ (does.Dialog dialog) es (all es)
@@ -270,40 +280,75 @@ few_sent world cookies call page effects = all effects
     all (does.Keep triple ∷ es) = more _ (does.Keep triple) es (all es)
     all (does.Forget triple ∷ es) = more _ (does.Forget triple) es (all es)
     all (does.ForgetPair p q ∷ es) =
-        rw (goes_silent first_sent (λ t. refl) (triples_of_pair world.kept p q) (flat_map (call_effects world cookies call page) es))
+        rw (goes_silent first_sent (λ t. refl) (triples_of_pair world.kept p q)
+        (flat_map (call_effects world cookies GetCall call page) es))
         (more _ (does.ForgetPair p q) es (all es))
     all (does.ClearFlag origin ∷ es) = more _ (does.ClearFlag origin) es (all es)
 
-few_of_outcome : (world : World) (cookies : Ask → List ℕ) (call page : ℕ) (outcome : Outcome) → IsShort outcome
-    → length (filter_map first_sent (outcome_effects world cookies call page outcome)) ≤ 2
-few_of_outcome world cookies call page outcome short =
-    let done = flat_map (call_effects world cookies call page) outcome.effects in
+-- a disconnect sends none
+disconnect_sends_none : (world : World) (cookies : Ask → List ℕ) (call page : ℕ) (effects : List CallEffect)
+    → filter_map first_sent (flat_map (call_effects world cookies DisconnectCall call page) effects) ≡ []
+disconnect_sends_none world cookies call page [] = refl
+disconnect_sends_none world cookies call page (does.Send provider ask ∷ es) = disconnect_sends_none world cookies call page es
+disconnect_sends_none world cookies call page (does.Finish finish ∷ es) = disconnect_sends_none world cookies call page es
+disconnect_sends_none world cookies call page (does.Ignored why ∷ es) = disconnect_sends_none world cookies call page es
+disconnect_sends_none world cookies call page (does.Dialog dialog ∷ es) = disconnect_sends_none world cookies call page es
+disconnect_sends_none world cookies call page (does.Window place url ∷ es) = disconnect_sends_none world cookies call page es
+disconnect_sends_none world cookies call page (does.SetLogin origin status ∷ es) = disconnect_sends_none world cookies call page es
+disconnect_sends_none world cookies call page (does.Keep triple ∷ es) = disconnect_sends_none world cookies call page es
+disconnect_sends_none world cookies call page (does.Forget triple ∷ es) = disconnect_sends_none world cookies call page es
+disconnect_sends_none world cookies call page (does.ForgetPair p q ∷ es) =
+    goes_silent first_sent (λ t. refl) (triples_of_pair world.kept p q) (flat_map (call_effects world cookies DisconnectCall call page) es)
+    ∙ disconnect_sends_none world cookies call page es
+disconnect_sends_none world cookies call page (does.ClearFlag origin ∷ es) = disconnect_sends_none world cookies call page es
+
+-- the first requests of an outcome are those of what is done
+sent_done : (world : World) (cookies : Ask → List ℕ) (kind : CallKind) (call page : ℕ) (outcome : Outcome)
+    → filter_map first_sent (outcome_effects world cookies kind call page outcome)
+    ≡ filter_map first_sent (flat_map (call_effects world cookies kind call page) outcome.effects)
+sent_done world cookies kind call page outcome =
+    let done = flat_map (call_effects world cookies kind call page) outcome.effects in
+    filter_map-append first_sent done (moves kind call outcome.stage)
+    ∙ ap (λ xs. filter_map first_sent done ++ xs) (moves_send_none kind call outcome.stage)
+    ∙ append-nil (filter_map first_sent done)
+
+few_of_get : (world : World) (cookies : Ask → List ℕ) (call page : ℕ) (outcome : Outcome) → IsShort outcome
+    → length (filter_map first_sent (outcome_effects world cookies GetCall call page outcome)) ≤ 2
+few_of_get world cookies call page outcome short =
     let few = few_sent world cookies call page outcome.effects in
-    let is : filter_map first_sent (outcome_effects world cookies call page outcome) ≡ filter_map first_sent done ++ [] =
-    filter_map-append first_sent done (moves call outcome.stage)
-    ∙ ap (λ xs. filter_map first_sent done ++ xs) (moves_send_none call outcome.stage) in
-    rw (is, append-nil) (omega (arith, few, short))
+    rw (sent_done world cookies GetCall call page outcome) (omega (arith, few, short))
+
+few_of_disconnect : (world : World) (cookies : Ask → List ℕ) (call page : ℕ) (outcome : Outcome)
+    → length (filter_map first_sent (outcome_effects world cookies DisconnectCall call page outcome)) ≤ 2
+few_of_disconnect world cookies call page outcome =
+    rw (sent_done world cookies DisconnectCall call page outcome, disconnect_sends_none world cookies call page outcome.effects) none
 
 few_of_silent : (effects : List Effect) → AllSilent first_sent effects → length (filter_map first_sent effects) ≤ 2
 few_of_silent effects silent = rw (said_silent first_sent effects silent) none
 
-few_of_standing : (world : World) (cookies : Ask → List ℕ) (trusted busy : Bool) (b : Begun)
-    → length (filter_map first_sent (standing_get world cookies trusted busy b)) ≤ 2
-few_of_standing world cookies false busy b = none
-few_of_standing world cookies true busy b =
-    few_of_outcome world cookies b.call b.page (get_outcome world busy b.origin b.options) (short_get world busy b.origin b.options)
+few_of_standing : (world : World) (cookies : Ask → List ℕ) (trusted busy : Bool) (call page : ℕ) (origin : Origin) (options : CallOptions)
+    → length (filter_map first_sent (standing_call world cookies trusted busy
+    (record { call = call; page = page; origin = origin; options = options }))) ≤ 2
+few_of_standing world cookies false busy call page origin options = none
+few_of_standing world cookies true busy call page origin (ToGet options) =
+    few_of_get world cookies call page (get_outcome world busy origin options) (short_get world busy origin options)
+few_of_standing world cookies true busy call page origin (ToDisconnect options) =
+    few_of_disconnect world cookies call page (first_row world busy origin (ToDisconnect options))
 
-few_of_get : (world : World) (cookies : Ask → List ℕ) (origin : Option Origin) (busy : Bool) (page call : ℕ) (options : GetOptions)
-    → length (filter_map first_sent (get_effects world cookies origin busy page call options)) ≤ 2
-few_of_get world cookies None busy page call options = none
-few_of_get world cookies (Some origin) busy page call options =
-    few_of_standing world cookies (is_trustworthy origin) busy (record { call = call; page = page; origin = origin; options = options })
+few_of_begin : (world : World) (cookies : Ask → List ℕ) (origin : Option Origin) (busy : Bool) (page call : ℕ) (options : CallOptions)
+    → length (filter_map first_sent (begin_effects world cookies origin busy page call options)) ≤ 2
+few_of_begin world cookies None busy page call options = none
+few_of_begin world cookies (Some origin) busy page call options =
+    few_of_standing world cookies (is_trustworthy origin) busy call page origin options
 
-few_of_input : (world : World) (cookies : Ask → List ℕ) (taken : Bool) (call : ℕ) (facts : Option Facts) (input : Input)
-    → length (filter_map first_sent (input_effects world cookies taken call facts input)) ≤ 2
-few_of_input world cookies false call facts input = none
-few_of_input world cookies true call facts input =
-    few_of_outcome world cookies call (page_of facts) (call_row world facts input) (short_row world facts input)
+few_of_input : (world : World) (cookies : Ask → List ℕ) (taken : Bool) (call : ℕ) (known : Option Known) (input : Input)
+    → length (filter_map first_sent (input_effects world cookies taken call known input)) ≤ 2
+few_of_input world cookies false call known input = none
+few_of_input world cookies true call None input = none
+few_of_input world cookies true call (Some (OfGet facts)) input =
+    few_of_get world cookies call facts.page (input_row world facts input) (short_input world facts input)
+few_of_input world cookies true call (Some (OfDisconnect facts)) input =
+    few_of_disconnect world cookies call facts.page (disconnect_rows.input_row world facts input)
 
 silent_have : (cookies : List StoredCookie) (have : Have) → AllSilent first_sent (cookie_effects cookies ++ have_logins have)
 silent_have cookies (haves.Cookie url field) =
@@ -312,10 +357,10 @@ silent_have cookies (haves.Login origin status) =
     silent_append first_sent (cookie_effects cookies) (Login origin status ∷ [])
     (silent_map first_sent Cookie (λ c. refl) cookies) (refl, tt)
 
-silent_close : (calls : List ℕ) (page : ℕ) (origin : Option Origin) → AllSilent first_sent (close_effects calls page origin)
+silent_close : (calls : List (ℕ × CallKind)) (page : ℕ) (origin : Option Origin) → AllSilent first_sent (close_effects calls page origin)
 silent_close calls page None = (refl, tt)
 silent_close calls page (Some origin) =
-    silent_append first_sent (ends_of calls) (Closed page ∷ []) (ends_silent first_sent (λ c. refl) calls) (refl, tt)
+    silent_append first_sent (ends_of calls) (Closed page ∷ []) (ends_silent first_sent (λ n c. refl) calls) (refl, tt)
 
 silent_standing : (trusted : Bool) (origin : Origin) (status : LoginStatus) → AllSilent first_sent (standing_status trusted origin status)
 silent_standing true origin status = (refl, tt)
@@ -330,16 +375,16 @@ few_requests T (events.Have have) = few_of_silent _ (silent_have (have_cookies T
 few_requests T (events.At time) = none
 few_requests T (events.Load page url raw) =
     few_of_silent _
-    (load_silent first_sent (λ c. refl) (λ p o. refl) (λ c. refl) (λ o s. refl) (pending_of T page) page url
+    (load_silent first_sent (λ n c. refl) (λ p o. refl) (λ c. refl) (λ o s. refl) (pending_of T page) page url
     (cookies_from T.header.rules url (now_at T) (set_cookies raw)) (set_logins raw))
 few_requests T (events.ClosePage page) = few_of_silent _ (silent_close (pending_of T page) page (page_at T page))
 few_requests T (events.Get page call options) =
-    few_of_get (world_at T) (cookies_with T) (page_at T page) (is_busy page (pending T)) page call options
-few_requests T (events.Abort call) = few_of_input (world_at T) (cookies_with T) (is_begun T call) call (facts_at T call) inputs.Abort
-few_requests T (events.GoOn call) = few_of_input (world_at T) (cookies_with T) (is_begun T call) call (facts_at T call) inputs.GoOn
-few_requests T (events.Cancel call) = few_of_input (world_at T) (cookies_with T) (is_begun T call) call (facts_at T call) inputs.Cancel
+    few_of_begin (world_at T) (cookies_with T) (page_at T page) (is_busy page (gets T)) page call (ToGet options)
+few_requests T (events.Abort call) = few_of_input (world_at T) (cookies_with T) (is_begun T call) call (known_at T call) inputs.Abort
+few_requests T (events.GoOn call) = few_of_input (world_at T) (cookies_with T) (is_begun T call) call (known_at T call) inputs.GoOn
+few_requests T (events.Cancel call) = few_of_input (world_at T) (cookies_with T) (is_begun T call) call (known_at T call) inputs.Cancel
 few_requests T (events.Reply call place kind raw) =
-    few_of_input (world_at T) (cookies_with T) (is_begun T call) call (facts_at T call) (inputs.Reply place kind raw)
+    few_of_input (world_at T) (cookies_with T) (is_begun T call) call (known_at T call) (inputs.Reply place kind raw)
 few_requests T (events.Choose call place id) =
-    few_of_input (world_at T) (cookies_with T) (is_begun T call) call (facts_at T call) (inputs.Choose place id)
+    few_of_input (world_at T) (cookies_with T) (is_begun T call) call (known_at T call) (inputs.Choose place id)
 few_requests T (events.SetStatus page status) = few_of_silent _ (silent_status (page_at T page) status)

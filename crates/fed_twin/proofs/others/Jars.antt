@@ -1,11 +1,11 @@
 -- All that is looked up but cookies is the same where cookies alone differ.
-use Rattle.std.proofs.Common.{◌≡◌, ℕ, Bool, true, false, ◌||◌, nat_eq, List, [], ◌∷◌, ◌++◌, map, Option, Some, None, refl, sym, ap, ap₂, ◌∙◌}
+use Rattle.std.proofs.Common.{◌≡◌, ℕ, Bool, true, false, ◌||◌, nat_eq, List, [], ◌∷◌, ◌++◌, map, Option, Some, None, refl, sym, ap, ap₂}
+use Rattle.std.proofs.Common.{◌∙◌}
 use Rattle.std.proofs.lemmas.List.Elements.{filter_map-append}
 use Rattle.std.specs.Prelude.{option_and_then, option_map, unwrap_or}
 use Rattle.std.specs.Option.{option_or}
 use Rattle.std.specs.List.{filter_map, list_any, AllZip, flat_map}
 use Rattle.url.specs.Parts.{Parts}
-use Rattle.fed_origin.specs.declared.options.GetOptions.{GetOptions}
 use Rattle.fed_origin.specs.declared.origin.Origin.{Origin}
 use Rattle.fed_origin.specs.declared.status.LoginStatus.{LoginStatus}
 use Rattle.fed_origin.specs.Origin.{is_trustworthy, same_origin}
@@ -17,20 +17,23 @@ use Rattle.fed_consent.specs.declared.table.ask.Ask.{Ask}
 use Rattle.fed_consent.specs.declared.table.effect.Effect.{Effect as CallEffect}
 use Rattle.fed_consent.specs.declared.table.effect.Effect.TheVariants as does
 use Rattle.fed_consent.specs.declared.table.input.Input.{Input}
-use Rattle.fed_call.specs.Facts.{Facts}
 use Rattle.fed_consent.specs.Outcomes.{Outcome}
-use Rattle.fed_call.specs.Row.{call_row}
 use Rattle.fed_script.specs.declared.event.Event.{Event}
 use Rattle.fed_script.specs.declared.event.Event.TheVariants as events
 use Rattle.fed_script.specs.declared.event.Have.TheVariants as haves
 use Rattle.fed_script.specs.declared.event.Numbered.{Numbered}
-use Rattle.fed_trace.specs.Begun.{Begun}
+use Rattle.fed_trace.specs.Begun.{Begun, CallKind, CallOptions, ToGet, kind_asked}
+use Rattle.fed_trace.specs.Call.{Known, kind_of, page_of, known_first, first_row, input_row}
 use Rattle.fed_trace.specs.Effect as effects
-use Rattle.fed_trace.specs.Effect.{Effect, Page, Login, Begin, last_of, page_change, login_change, kept_change, flag_change, call_change, stage_change, time_of, begun_by, begins, is_ignored}
+use Rattle.fed_trace.specs.Effect.{Effect, Page, Login, Begin, last_of, page_change, login_change, kept_change, flag_change, call_change}
+use Rattle.fed_trace.specs.Effect.{get_change, stage_change, time_of, begun_by, begins, is_ignored}
 use Rattle.fed_trace.specs.Keyed.{Change, entries_after, says}
-use Rattle.fed_trace.specs.Known.{world_at, is_begun, input_to, known_first, with_said, known_in, facts_by, facts_at}
-use Rattle.fed_trace.specs.Row.{effects_of, with_event, cookies_with, call_effects, moves, outcome_effects, get_outcome, get_effects, standing_get, input_effects, page_of, is_busy, ends_of, cookies_from, cookie_effects, login_effects, load_effects, close_effects, status_effects, have_cookies, set_cookies, set_logins}
-use Rattle.fed_trace.specs.Trace.{Row, Trace, page_at, logins, kept, flags, pending, pending_of, calls_of, now_at, begun, stage_at, last_value, all_said}
+use Rattle.fed_trace.specs.Known.{world_at, is_begun, input_to, with_said, known_in, known_by, known_at}
+use Rattle.fed_trace.specs.Row.{effects_of, with_event, cookies_with, call_effects, moves, outcome_effects, begin_effects, standing_call}
+use Rattle.fed_trace.specs.Row.{input_effects, is_busy, ends_of, cookies_from, cookie_effects, login_effects, load_effects, close_effects}
+use Rattle.fed_trace.specs.Row.{status_effects, have_cookies, set_cookies, set_logins}
+use Rattle.fed_trace.specs.Trace.{Row, Trace, page_at, logins, kept, flags, pending, gets, pending_of, calls_of, now_at, begun, stage_at}
+use Rattle.fed_trace.specs.Trace.{last_value, all_said}
 use Rattle.fed_trace.specs.OfScript.{start, with_events}
 use Rattle.fed_twin.specs.Jars.{BringCookies, Equal, Haves, Loads, OnOneLine, but_cookies, but_cookies_of, TwoJars}
 use Rattle.fed_twin.proofs.seen.Seen.{last_at, last_of-seen, last_in-seen, last_value-seen, standing-seen, all_said-seen}
@@ -44,18 +47,18 @@ use Rattle.fed_origin.specs.Status.{same_triple}
 -- a reading that does not look at cookies
 record IsBlind {A : Type 0} (said : Effect → Option A) : Type 0 where
   cookie : (cookie : StoredCookie) → said (effects.Cookie cookie) ≡ None
-  sent : (call provider : ℕ) (ask : Ask) (cookies : List ℕ)
-      → said (effects.Sent call provider ask cookies) ≡ said (effects.Sent call provider ask [])
+  sent : (kind : CallKind) (call provider : ℕ) (ask : Ask) (cookies : List ℕ)
+      → said (effects.Sent kind call provider ask cookies) ≡ said (effects.Sent kind call provider ask [])
 
 blind : {A : Type 0} (said : Effect → Option A) → IsBlind said → (e : Effect) → said e ≡ option_and_then said (but_cookies e)
 blind said h (effects.Cookie cookie) = h.cookie cookie
-blind said h (effects.Sent call provider ask cookies) = h.sent call provider ask cookies
+blind said h (effects.Sent kind call provider ask cookies) = h.sent kind call provider ask cookies
 blind said h (effects.Time time) = refl
 blind said h (effects.Page page origin) = refl
 blind said h (effects.Closed page) = refl
 blind said h (effects.Login origin status) = refl
 blind said h (effects.Begin b) = refl
-blind said h (effects.Move call stage) = refl
+blind said h (effects.Move kind call stage) = refl
 blind said h (effects.Shown call dialog) = refl
 blind said h (effects.Window call provider url) = refl
 blind said h (effects.Kept triple stays) = refl
@@ -89,19 +92,19 @@ value_same change k h xs ys same =
         (change e)) ∙ blind (λ e. says nat_eq k (change e)) h e) rows
 
 any_same : (test : Effect → Bool) → ((cookie : StoredCookie) → test (effects.Cookie cookie) ≡ false)
-    → ((call provider : ℕ) (ask : Ask) (cookies : List ℕ) → test (effects.Sent call provider ask cookies) ≡ test
-    (effects.Sent call provider ask []))
+    → ((kind : CallKind) (call provider : ℕ) (ask : Ask) (cookies : List ℕ) → test (effects.Sent kind call provider ask cookies) ≡ test
+    (effects.Sent kind call provider ask []))
     → (es : List Effect) → list_any test es ≡ list_any test (filter_map but_cookies es)
 any_same test c s [] = refl
 any_same test c s (effects.Cookie cookie ∷ es) = ap (λ b. b || list_any test es) (c cookie) ∙ any_same test c s es
-any_same test c s (effects.Sent call provider ask cookies ∷ es) =
-    ap₂ (λ a b. a || b) (s call provider ask cookies) (any_same test c s es)
+any_same test c s (effects.Sent kind call provider ask cookies ∷ es) =
+    ap₂ (λ a b. a || b) (s kind call provider ask cookies) (any_same test c s es)
 any_same test c s (effects.Time time ∷ es) = ap (λ b. test (effects.Time time) || b) (any_same test c s es)
 any_same test c s (effects.Page page origin ∷ es) = ap (λ b. test (effects.Page page origin) || b) (any_same test c s es)
 any_same test c s (effects.Closed page ∷ es) = ap (λ b. test (effects.Closed page) || b) (any_same test c s es)
 any_same test c s (effects.Login origin status ∷ es) = ap (λ b. test (effects.Login origin status) || b) (any_same test c s es)
 any_same test c s (effects.Begin begun ∷ es) = ap (λ b. test (effects.Begin begun) || b) (any_same test c s es)
-any_same test c s (effects.Move call stage ∷ es) = ap (λ b. test (effects.Move call stage) || b) (any_same test c s es)
+any_same test c s (effects.Move kind call stage ∷ es) = ap (λ b. test (effects.Move kind call stage) || b) (any_same test c s es)
 any_same test c s (effects.Shown call dialog ∷ es) = ap (λ b. test (effects.Shown call dialog) || b) (any_same test c s es)
 any_same test c s (effects.Window call provider url ∷ es) = ap (λ b. test (effects.Window call provider url) || b) (any_same test c s es)
 any_same test c s (effects.Kept triple stays ∷ es) = ap (λ b. test (effects.Kept triple stays) || b) (any_same test c s es)
@@ -121,122 +124,137 @@ module _ (T U : Trace) (h : SameLooks T U) where
   same_now =
       ap₂ unwrap_or
       (last_in-seen but_cookies time_of time_of
-      (blind time_of (record { cookie = λ c. refl; sent = λ c p a k. refl })) T.rows ∙ ap (last_at time_of) h.does
-      ∙ sym (last_in-seen but_cookies time_of time_of (blind time_of (record { cookie = λ c. refl; sent = λ c p a k. refl })) U.rows))
+      (blind time_of (record { cookie = λ c. refl; sent = λ n c p a k. refl })) T.rows ∙ ap (last_at time_of) h.does
+      ∙ sym (last_in-seen but_cookies time_of time_of (blind time_of (record { cookie = λ c. refl; sent = λ n c p a k. refl })) U.rows))
       (ap (λ x. x.now) h.header)
 
   same_page : (q : ℕ) → page_at T q ≡ page_at U q
-  same_page q = value_same page_change q (record { cookie = λ c. refl; sent = λ c p a k. refl }) T.rows U.rows h.does
+  same_page q = value_same page_change q (record { cookie = λ c. refl; sent = λ n c p a k. refl }) T.rows U.rows h.does
 
   same_stage : (q : ℕ) → stage_at T q ≡ stage_at U q
-  same_stage q = value_same stage_change q (record { cookie = λ c. refl; sent = λ c p a k. refl }) T.rows U.rows h.does
+  same_stage q = value_same stage_change q (record { cookie = λ c. refl; sent = λ n c p a k. refl }) T.rows U.rows h.does
 
   same_logins : logins T ≡ logins U
   same_logins =
       standing-seen but_cookies same_origin login_change login_change
-      (blind login_change (record { cookie = λ c. refl; sent = λ c p a k. refl })) T.rows
+      (blind login_change (record { cookie = λ c. refl; sent = λ n c p a k. refl })) T.rows
       ∙ ap (λ v. entries_after same_origin login_change v []) h.does
       ∙ sym (standing-seen but_cookies same_origin login_change login_change
-      (blind login_change (record { cookie = λ c. refl; sent = λ c p a k. refl })) U.rows)
+      (blind login_change (record { cookie = λ c. refl; sent = λ n c p a k. refl })) U.rows)
 
   same_kept : kept T ≡ kept U
   same_kept =
       ap keys_of
       (standing-seen but_cookies same_triple kept_change kept_change
-      (blind kept_change (record { cookie = λ c. refl; sent = λ c p a k. refl })) T.rows
+      (blind kept_change (record { cookie = λ c. refl; sent = λ n c p a k. refl })) T.rows
       ∙ ap (λ v. entries_after same_triple kept_change v []) h.does
       ∙ sym (standing-seen but_cookies same_triple kept_change kept_change
-      (blind kept_change (record { cookie = λ c. refl; sent = λ c p a k. refl })) U.rows))
+      (blind kept_change (record { cookie = λ c. refl; sent = λ n c p a k. refl })) U.rows))
 
   same_flags : flags T ≡ flags U
   same_flags =
       ap keys_of
       (standing-seen but_cookies same_origin flag_change flag_change
-      (blind flag_change (record { cookie = λ c. refl; sent = λ c p a k. refl })) T.rows
+      (blind flag_change (record { cookie = λ c. refl; sent = λ n c p a k. refl })) T.rows
       ∙ ap (λ v. entries_after same_origin flag_change v []) h.does
       ∙ sym (standing-seen but_cookies same_origin flag_change flag_change
-      (blind flag_change (record { cookie = λ c. refl; sent = λ c p a k. refl })) U.rows))
+      (blind flag_change (record { cookie = λ c. refl; sent = λ n c p a k. refl })) U.rows))
 
   same_pending : pending T ≡ pending U
   same_pending =
       standing-seen but_cookies nat_eq call_change call_change
-      (blind call_change (record { cookie = λ c. refl; sent = λ c p a k. refl })) T.rows
+      (blind call_change (record { cookie = λ c. refl; sent = λ n c p a k. refl })) T.rows
       ∙ ap (λ v. entries_after nat_eq call_change v []) h.does
       ∙ sym (standing-seen but_cookies nat_eq call_change call_change
-      (blind call_change (record { cookie = λ c. refl; sent = λ c p a k. refl })) U.rows)
+      (blind call_change (record { cookie = λ c. refl; sent = λ n c p a k. refl })) U.rows)
+
+  same_gets : gets T ≡ gets U
+  same_gets =
+      standing-seen but_cookies nat_eq get_change get_change
+      (blind get_change (record { cookie = λ c. refl; sent = λ n c p a k. refl })) T.rows
+      ∙ ap (λ v. entries_after nat_eq get_change v []) h.does
+      ∙ sym (standing-seen but_cookies nat_eq get_change get_change
+      (blind get_change (record { cookie = λ c. refl; sent = λ n c p a k. refl })) U.rows)
 
   same_begun : (q : ℕ) → is_begun T q ≡ is_begun U q
   same_begun q =
       ap (list_any (nat_eq q))
       (all_said-seen but_cookies begun_by begun_by
-      (blind begun_by (record { cookie = λ c. refl; sent = λ c p a k. refl })) T.rows ∙ ap (filter_map begun_by) h.does
+      (blind begun_by (record { cookie = λ c. refl; sent = λ n c p a k. refl })) T.rows ∙ ap (filter_map begun_by) h.does
       ∙ sym (all_said-seen but_cookies begun_by begun_by
-      (blind begun_by (record { cookie = λ c. refl; sent = λ c p a k. refl })) U.rows))
+      (blind begun_by (record { cookie = λ c. refl; sent = λ n c p a k. refl })) U.rows))
 
   same_world : world_at T ≡ world_at U
   same_world =
-      ap₂ (λ r l. let w : World = record { rules = r; login = l; kept = kept T; flags = flags T } in w) (ap (λ x. x.rules) h.header) same_logins
+      ap₂ (λ r l. let w : World = record { rules = r; login = l; kept = kept T; flags = flags T } in
+      w) (ap (λ x. x.rules) h.header) same_logins
       ∙ ap₂ (λ k f. let w : World = record { rules = U.header.rules; login = logins U; kept = k; flags = f } in w) same_kept same_flags
 
-  same_facts : (q : ℕ) → facts_at T q ≡ facts_at U q
-  same_facts q = ap₂ facts_by (same_stage q) (h.known q)
+  same_known : (q : ℕ) → known_at T q ≡ known_at U q
+  same_known q = ap₂ known_by (same_stage q) (h.known q)
 
 -- ---- effects without their cookies
 
-but_call : (w : World) (ck ck' : Ask → List ℕ) (call page : ℕ) (es : List CallEffect)
-    → filter_map but_cookies (flat_map (call_effects w ck call page) es)
-    ≡ filter_map but_cookies (flat_map (call_effects w ck' call page) es)
-but_call w ck ck' call page [] = refl
-but_call w ck ck' call page (does.Send provider ask ∷ es) =
-    ap (λ xs. effects.Sent call provider ask [] ∷ xs) (but_call w ck ck' call page es)
-but_call w ck ck' call page (does.SetLogin origin status ∷ es) = ap (λ xs. Login origin status ∷ xs) (but_call w ck ck' call page es)
-but_call w ck ck' call page (does.Finish finish ∷ es) = ap (λ xs. effects.Result call page finish ∷ xs) (but_call w ck ck' call page es)
-but_call w ck ck' call page (does.Ignored why ∷ es) = ap (λ xs. effects.Ignored why ∷ xs) (but_call w ck ck' call page es)
-but_call w ck ck' call page (does.Dialog dialog ∷ es) = ap (λ xs. effects.Shown call dialog ∷ xs) (but_call w ck ck' call page es)
-but_call w ck ck' call page (does.Window place url ∷ es) = ap (λ xs. effects.Window call place url ∷ xs) (but_call w ck ck' call page es)
-but_call w ck ck' call page (does.Keep triple ∷ es) = ap (λ xs. effects.Kept triple true ∷ xs) (but_call w ck ck' call page es)
-but_call w ck ck' call page (does.Forget triple ∷ es) = ap (λ xs. effects.Kept triple false ∷ xs) (but_call w ck ck' call page es)
-but_call w ck ck' call page (does.ForgetPair o u ∷ es) = goes (but_call w ck ck' call page es) (triples_of_pair w.kept o u)
+but_call : (w : World) (ck ck' : Ask → List ℕ) (kind : CallKind) (call page : ℕ) (es : List CallEffect)
+    → filter_map but_cookies (flat_map (call_effects w ck kind call page) es)
+    ≡ filter_map but_cookies (flat_map (call_effects w ck' kind call page) es)
+but_call w ck ck' kind call page [] = refl
+but_call w ck ck' kind call page (does.Send provider ask ∷ es) =
+    ap (λ xs. effects.Sent kind call provider ask [] ∷ xs) (but_call w ck ck' kind call page es)
+but_call w ck ck' kind call page (does.SetLogin origin status ∷ es) =
+    ap (λ xs. Login origin status ∷ xs) (but_call w ck ck' kind call page es)
+but_call w ck ck' kind call page (does.Finish finish ∷ es) =
+    ap (λ xs. effects.Result call page finish ∷ xs) (but_call w ck ck' kind call page es)
+but_call w ck ck' kind call page (does.Ignored why ∷ es) = ap (λ xs. effects.Ignored why ∷ xs) (but_call w ck ck' kind call page es)
+but_call w ck ck' kind call page (does.Dialog dialog ∷ es) = ap (λ xs. effects.Shown call dialog ∷ xs) (but_call w ck ck' kind call page es)
+but_call w ck ck' kind call page (does.Window place url ∷ es) =
+    ap (λ xs. effects.Window call place url ∷ xs) (but_call w ck ck' kind call page es)
+but_call w ck ck' kind call page (does.Keep triple ∷ es) = ap (λ xs. effects.Kept triple true ∷ xs) (but_call w ck ck' kind call page es)
+but_call w ck ck' kind call page (does.Forget triple ∷ es) = ap (λ xs. effects.Kept triple false ∷ xs) (but_call w ck ck' kind call page es)
+but_call w ck ck' kind call page (does.ForgetPair o u ∷ es) = goes (but_call w ck ck' kind call page es) (triples_of_pair w.kept o u)
   where
-    goes : filter_map but_cookies (flat_map (call_effects w ck call page) es) ≡ filter_map but_cookies (flat_map (call_effects w ck' call page) es)
+    goes : filter_map but_cookies (flat_map (call_effects w ck kind call page) es)
+        ≡ filter_map but_cookies (flat_map (call_effects w ck' kind call page) es)
         → (triples : List Triple)
-        → filter_map but_cookies (map (λ triple. effects.Kept triple false) triples ++ flat_map (call_effects w ck call page) es)
-        ≡ filter_map but_cookies (map (λ triple. effects.Kept triple false) triples ++ flat_map (call_effects w ck' call page) es)
+        → filter_map but_cookies (map (λ triple. effects.Kept triple false) triples ++ flat_map (call_effects w ck kind call page) es)
+        ≡ filter_map but_cookies (map (λ triple. effects.Kept triple false) triples ++ flat_map (call_effects w ck' kind call page) es)
     goes rest [] = rest
     goes rest (t ∷ triples) = ap (λ xs. effects.Kept t false ∷ xs) (goes rest triples)
-but_call w ck ck' call page (does.ClearFlag origin ∷ es) = ap (λ xs. effects.Flag origin false ∷ xs) (but_call w ck ck' call page es)
+but_call w ck ck' kind call page (does.ClearFlag origin ∷ es) =
+    ap (λ xs. effects.Flag origin false ∷ xs) (but_call w ck ck' kind call page es)
 
-but_outcome : (w : World) (ck ck' : Ask → List ℕ) (call page : ℕ) (o : Outcome)
-    → filter_map but_cookies (outcome_effects w ck call page o) ≡ filter_map but_cookies (outcome_effects w ck' call page o)
-but_outcome w ck ck' call page o =
-    filter_map-append but_cookies (flat_map (call_effects w ck call page) o.effects) (moves call o.stage)
-    ∙ ap (λ xs. xs ++ filter_map but_cookies (moves call o.stage)) (but_call w ck ck' call page o.effects)
-    ∙ sym (filter_map-append but_cookies (flat_map (call_effects w ck' call page) o.effects) (moves call o.stage))
+but_outcome : (w : World) (ck ck' : Ask → List ℕ) (kind : CallKind) (call page : ℕ) (o : Outcome)
+    → filter_map but_cookies (outcome_effects w ck kind call page o) ≡ filter_map but_cookies (outcome_effects w ck' kind call page o)
+but_outcome w ck ck' kind call page o =
+    filter_map-append but_cookies (flat_map (call_effects w ck kind call page) o.effects) (moves kind call o.stage)
+    ∙ ap (λ xs. xs ++ filter_map but_cookies (moves kind call o.stage)) (but_call w ck ck' kind call page o.effects)
+    ∙ sym (filter_map-append but_cookies (flat_map (call_effects w ck' kind call page) o.effects) (moves kind call o.stage))
 
-but_input : (w : World) (ck ck' : Ask → List ℕ) (begun : Bool) (call : ℕ) (facts : Option Facts) (i : Input)
-    → filter_map but_cookies (input_effects w ck begun call facts i) ≡ filter_map but_cookies (input_effects w ck' begun call facts i)
-but_input w ck ck' false call facts i = refl
-but_input w ck ck' true call facts i = but_outcome w ck ck' call (page_of facts) (call_row w facts i)
+but_input : (w : World) (ck ck' : Ask → List ℕ) (begun : Bool) (call : ℕ) (known : Option Known) (i : Input)
+    → filter_map but_cookies (input_effects w ck begun call known i) ≡ filter_map but_cookies (input_effects w ck' begun call known i)
+but_input w ck ck' false call known i = refl
+but_input w ck ck' true call None i = refl
+but_input w ck ck' true call (Some known) i = but_outcome w ck ck' (kind_of known) call (page_of known) (input_row w known i)
 
-but_get : (w : World) (ck ck' : Ask → List ℕ) (o : Option Origin) (busy : Bool) (page call : ℕ) (options : GetOptions)
-    → filter_map but_cookies (get_effects w ck o busy page call options)
-    ≡ filter_map but_cookies (get_effects w ck' o busy page call options)
-but_get w ck ck' None busy page call options = refl
-but_get w ck ck' (Some origin) busy page call options = go (is_trustworthy origin)
+but_begin : (w : World) (ck ck' : Ask → List ℕ) (o : Option Origin) (busy : Bool) (page call : ℕ) (options : CallOptions)
+    → filter_map but_cookies (begin_effects w ck o busy page call options)
+    ≡ filter_map but_cookies (begin_effects w ck' o busy page call options)
+but_begin w ck ck' None busy page call options = refl
+but_begin w ck ck' (Some origin) busy page call options = go (is_trustworthy origin)
   where
     b : Begun
     b = record { call = call; page = page; origin = origin; options = options }
 
     go : (trusted : Bool)
-        → filter_map but_cookies (standing_get w ck trusted busy b) ≡ filter_map but_cookies (standing_get w ck' trusted busy b)
+        → filter_map but_cookies (standing_call w ck trusted busy b) ≡ filter_map but_cookies (standing_call w ck' trusted busy b)
     go false = refl
-    go true = ap (λ xs. Begin b ∷ xs) (but_outcome w ck ck' call page (get_outcome w busy origin options))
+    go true = ap (λ xs. Begin b ∷ xs) (but_outcome w ck ck' (kind_asked options) call page (first_row w busy origin options))
 
 but_writes : (cookies : List StoredCookie) → filter_map but_cookies (cookie_effects cookies) ≡ []
 but_writes [] = refl
 but_writes (c ∷ cookies) = but_writes cookies
 
-but_load : (calls : List ℕ) (page : ℕ) (url : Parts) (cookies : List StoredCookie) (statuses : List LoginStatus)
+but_load : (calls : List (ℕ × CallKind)) (page : ℕ) (url : Parts) (cookies : List StoredCookie) (statuses : List LoginStatus)
     → filter_map but_cookies (load_effects calls page url cookies statuses)
     ≡ filter_map but_cookies (load_effects calls page url [] statuses)
 but_load calls page url cookies statuses =
@@ -253,13 +271,13 @@ but_have (c ∷ cookies) = but_have cookies
 
 -- an input's effects are those of what is looked up
 input_same : (T U : Trace) → SameLooks T U → (call : ℕ) (i : Input)
-    → filter_map but_cookies (input_effects (world_at T) (cookies_with T) (is_begun T call) call (facts_at T call) i)
-    ≡ filter_map but_cookies (input_effects (world_at U) (cookies_with U) (is_begun U call) call (facts_at U call) i)
+    → filter_map but_cookies (input_effects (world_at T) (cookies_with T) (is_begun T call) call (known_at T call) i)
+    ≡ filter_map but_cookies (input_effects (world_at U) (cookies_with U) (is_begun U call) call (known_at U call) i)
 input_same T U h call i =
-    but_input (world_at T) (cookies_with T) (cookies_with U) (is_begun T call) call (facts_at T call) i
-    ∙ ap (λ w. filter_map but_cookies (input_effects w (cookies_with U) (is_begun T call) call (facts_at T call) i)) (same_world T U h)
+    but_input (world_at T) (cookies_with T) (cookies_with U) (is_begun T call) call (known_at T call) i
+    ∙ ap (λ w. filter_map but_cookies (input_effects w (cookies_with U) (is_begun T call) call (known_at T call) i)) (same_world T U h)
     ∙ ap₂ (λ b f. filter_map but_cookies (input_effects (world_at U) (cookies_with U) b call f i)) (same_begun T U h call)
-    (same_facts T U h call)
+    (same_known T U h call)
 
 equal_effects : (T U : Trace) → SameLooks T U → (e : Event)
     → filter_map but_cookies (effects_of T e) ≡ filter_map but_cookies (effects_of U e)
@@ -276,11 +294,11 @@ equal_effects T U h (events.ClosePage page) =
     ap₂ (λ x o. filter_map but_cookies (close_effects (calls_of page x) page o)) (same_pending T U h) (same_page T U h page)
 equal_effects T U h (events.SetStatus page status) = ap (λ o. filter_map but_cookies (status_effects o status)) (same_page T U h page)
 equal_effects T U h (events.Get page call options) =
-    but_get (world_at T) (cookies_with T) (cookies_with U) (page_at T page) (is_busy page (pending T)) page call options
-    ∙ ap (λ w. filter_map but_cookies (get_effects w (cookies_with U) (page_at T page) (is_busy page (pending T)) page call options))
+    but_begin (world_at T) (cookies_with T) (cookies_with U) (page_at T page) (is_busy page (gets T)) page call (ToGet options)
+    ∙ ap (λ w. filter_map but_cookies (begin_effects w (cookies_with U) (page_at T page) (is_busy page (gets T)) page call (ToGet options)))
     (same_world T U h)
-    ∙ ap₂ (λ o x. filter_map but_cookies (get_effects (world_at U) (cookies_with U) o (is_busy page x) page call options))
-    (same_page T U h page) (same_pending T U h)
+    ∙ ap₂ (λ o x. filter_map but_cookies (begin_effects (world_at U) (cookies_with U) o (is_busy page x) page call (ToGet options)))
+    (same_page T U h page) (same_gets T U h)
 equal_effects T U h (events.Abort call) = input_same T U h call _
 equal_effects T U h (events.GoOn call) = input_same T U h call _
 equal_effects T U h (events.Cancel call) = input_same T U h call _
@@ -326,15 +344,15 @@ jar_step T U h line line' {e} {e'} alike =
     begins_same : (q : ℕ) → last_of (begins q) (effects_of T e) ≡ last_of (begins q) (effects_of U e')
     begins_same q =
         last_of-seen but_cookies (begins q) (begins q)
-        (blind (begins q) (record { cookie = λ c. refl; sent = λ c p a k. refl })) (effects_of T e)
+        (blind (begins q) (record { cookie = λ c. refl; sent = λ n c p a k. refl })) (effects_of T e)
         ∙ ap (last_at (begins q)) effects_same
         ∙ sym (last_of-seen but_cookies (begins q) (begins q)
-        (blind (begins q) (record { cookie = λ c. refl; sent = λ c p a k. refl })) (effects_of U e'))
+        (blind (begins q) (record { cookie = λ c. refl; sent = λ n c p a k. refl })) (effects_of U e'))
 
     ignored_same : list_any is_ignored (effects_of T e) ≡ list_any is_ignored (effects_of U e')
     ignored_same =
-        any_same is_ignored (λ c. refl) (λ c p a k. refl) (effects_of T e) ∙ ap (list_any is_ignored) effects_same
-        ∙ sym (any_same is_ignored (λ c. refl) (λ c p a k. refl) (effects_of U e'))
+        any_same is_ignored (λ c. refl) (λ n c p a k. refl) (effects_of T e) ∙ ap (list_any is_ignored) effects_same
+        ∙ sym (any_same is_ignored (λ c. refl) (λ n c p a k. refl) (effects_of U e'))
 
 jar_walk : (xs ys : List Numbered) → AllZip OnOneLine xs ys → (T U : Trace) → SameLooks T U
     → map but_cookies_of T.rows ≡ map but_cookies_of U.rows

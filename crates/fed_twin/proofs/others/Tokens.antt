@@ -1,6 +1,7 @@
 -- Nothing is looked up of a token.
-use Rattle.std.proofs.Common.{◌≡◌, ℕ, Bool, true, false, nat_eq, cond, List, [], ◌∷◌, ◌++◌, Option, Some, None, Result as Answer, Ok, Err, append_assoc, refl, sym, ap, ap₂, subst, ◌∙◌}
-use Rattle.std.specs.Prelude.{option_map, unwrap_or, ⊤}
+use Rattle.std.proofs.Common.{◌≡◌, ℕ, Bool, true, false, nat_eq, cond, List, [], ◌∷◌, ◌++◌, Option, Some, None, Result as Answer, Ok, Err}
+use Rattle.std.proofs.Common.{append_assoc, refl, sym, ap, ap₂, subst, ◌∙◌}
+use Rattle.std.specs.Prelude.{◌==◌, option_map, unwrap_or, ⊤}
 use Rattle.std.specs.Option.{option_or}
 use Rattle.std.specs.List.{filter_map, list_any}
 use Rattle.url.specs.Parts.{Parts}
@@ -19,18 +20,26 @@ use Rattle.fed_consent.specs.declared.table.ask.Ask.TheVariants as asks
 use Rattle.fed_consent.specs.declared.table.input.Input.{Input}
 use Rattle.fed_consent.specs.declared.table.input.Input.TheVariants as inputs
 use Rattle.fed_call.specs.AssertingRows.{token_given, assertion_reply}
-use Rattle.fed_consent.specs.Outcomes.{finishes}
+use Rattle.fed_consent.specs.Outcomes.{finishes, only_place}
 use Rattle.fed_call.specs.Facts.{Facts, provider_at}
 use Rattle.fed_call.specs.Row.{stage_reply}
 use Rattle.fed_script.specs.declared.event.Event.{Event}
 use Rattle.fed_script.specs.declared.event.Event.TheVariants as events
 use Rattle.fed_script.specs.declared.event.Have.TheVariants as haves
 use Rattle.fed_script.specs.declared.event.Numbered.{Numbered}
-use Rattle.fed_trace.specs.Effect.{Effect, last_of, page_change, login_change, kept_change, flag_change, call_change, stage_change, time_of, written_by, begun_by, begins, is_ignored}
+use Rattle.fed_disconnect.specs.Facts.{DisconnectFacts}
+use Rattle.fed_disconnect.specs.Rows.{provider_reply}
+use Rattle.fed_trace.specs.Begun.{GetCall, DisconnectCall, ToGet}
+use Rattle.fed_trace.specs.Call.{Known, OfGet, OfDisconnect, known_first, with_input}
+use Rattle.fed_trace.specs.Effect.{Effect, PendingCall, last_of, page_change, login_change, kept_change, flag_change, call_change}
+use Rattle.fed_trace.specs.Effect.{get_change, stage_change, time_of, written_by, begun_by, begins, is_ignored}
 use Rattle.fed_trace.specs.Keyed.{entries_after, last_said}
-use Rattle.fed_trace.specs.Known.{world_at, is_begun, input_to, known_first, with_said, known_in, facts_by, facts_at}
-use Rattle.fed_trace.specs.Row.{effects_of, row_of, with_event, cookies_with, outcome_effects, get_effects, input_effects, is_busy, cookies_from, cookie_effects, load_effects, close_effects, status_effects, set_cookies, set_logins}
-use Rattle.fed_trace.specs.Trace.{Row, Trace, page_at, logins, kept, flags, standing, pending, calls_of, now_at, writes, begun, stage_at, last_in}
+use Rattle.fed_trace.specs.Known.{world_at, is_begun, input_to, with_said, known_in, known_by, known_at}
+use Rattle.fed_trace.specs.Row.{effects_of, row_of, with_event, cookies_with, outcome_effects, begin_effects, input_effects, is_busy}
+use Rattle.fed_trace.specs.Row.{cookies_from, cookie_effects, load_effects, close_effects, status_effects, set_cookies, set_logins}
+use Rattle.fed_trace.specs.Trace.{Row, Trace, page_at, logins, kept, flags, standing, pending, calls_of, now_at, writes, begun, stage_at}
+use Rattle.fed_trace.specs.Trace.{last_in}
+use Rattle.fed_trace.specs.Trace as trace
 use Rattle.fed_trace.specs.OfScript.{start, with_events}
 use Rattle.fed_twin.specs.Tokens.{AreTokens, reply_at, ButToken, Equal, Tokens, OneToken}
 use Rattle.std.specs.Map.{keys_of}
@@ -48,6 +57,7 @@ record SameAll (T U : Trace) : Type 0 where
   kept : standing same_triple kept_change T.rows ≡ standing same_triple kept_change U.rows
   flags : standing same_origin flag_change T.rows ≡ standing same_origin flag_change U.rows
   calls : pending T ≡ pending U
+  gets : trace.gets T ≡ trace.gets U
   taken : begun T.rows ≡ begun U.rows
   written : writes T ≡ writes U
   known : (q : ℕ) → known_in T.header T.rows q ≡ known_in U.header U.rows q
@@ -63,6 +73,7 @@ same_self T =
       kept = refl;
       flags = refl;
       calls = refl;
+      gets = refl;
       taken = refl;
       written = refl;
       known = λ q. refl;
@@ -76,7 +87,8 @@ record SameReads (es es' : List Effect) : Type 0 where
   login : (l : Logins) → entries_after same_origin login_change es l ≡ entries_after same_origin login_change es' l
   kept : (l : List (Triple × ⊤)) → entries_after same_triple kept_change es l ≡ entries_after same_triple kept_change es' l
   flags : (l : List (Origin × ⊤)) → entries_after same_origin flag_change es l ≡ entries_after same_origin flag_change es' l
-  calls : (l : List (ℕ × ℕ)) → entries_after nat_eq call_change es l ≡ entries_after nat_eq call_change es' l
+  calls : (l : List (ℕ × PendingCall)) → entries_after nat_eq call_change es l ≡ entries_after nat_eq call_change es' l
+  gets : (l : List (ℕ × ℕ)) → entries_after nat_eq get_change es l ≡ entries_after nat_eq get_change es' l
   taken : filter_map begun_by es ≡ filter_map begun_by es'
   written : filter_map written_by es ≡ filter_map written_by es'
   begins_it : (q : ℕ) → last_of (begins q) es ≡ last_of (begins q) es'
@@ -92,6 +104,7 @@ reads_same call (Equal es) =
       kept = λ l. refl;
       flags = λ l. refl;
       calls = λ l. refl;
+      gets = λ l. refl;
       taken = refl;
       written = refl;
       begins_it = λ q. refl;
@@ -106,6 +119,7 @@ reads_same call (Tokens page provider auto token token') =
       kept = λ l. refl;
       flags = λ l. refl;
       calls = λ l. refl;
+      gets = λ l. refl;
       taken = refl;
       written = refl;
       begins_it = λ q. refl;
@@ -115,11 +129,12 @@ reads_same call (Tokens page provider auto token token') =
 world_same : (T U : Trace) → SameAll T U → world_at T ≡ world_at U
 world_same T U h =
     ap₂ (λ r l. let w : World = record { rules = r; login = l; kept = kept T; flags = flags T } in w) (ap (λ x. x.rules) h.header) h.login
-    ∙ ap₂ (λ k f. let w : World = record { rules = U.header.rules; login = logins U; kept = k; flags = f } in w) (ap keys_of h.kept) (ap keys_of h.flags)
+    ∙ ap₂ (λ k f. let w : World = record { rules = U.header.rules; login = logins U; kept = k; flags = f } in
+    w) (ap keys_of h.kept) (ap keys_of h.flags)
 
 -- a row more, of events that say the same to calls that go on
 grow_all : (T U : Trace) → SameAll T U → (line line' : ℕ) (e e' : Event) → SameReads (effects_of T e) (effects_of U e')
-    → ((q : ℕ) (ign : Bool) (f : Facts) → with_said (world_at T) ign (input_to q e) f ≡ with_said (world_at T) ign
+    → ((q : ℕ) (ign : Bool) (f : Known) → with_said (world_at T) ign (input_to q e) f ≡ with_said (world_at T) ign
     (input_to q e') f)
     → SameAll (with_event T line e) (with_event U line' e')
 grow_all T U h line line' e e' reads said =
@@ -132,6 +147,7 @@ grow_all T U h line line' e e' reads said =
       kept = ap (entries_after same_triple kept_change (effects_of T e)) h.kept ∙ reads.kept (standing same_triple kept_change U.rows);
       flags = ap (entries_after same_origin flag_change (effects_of T e)) h.flags ∙ reads.flags (standing same_origin flag_change U.rows);
       calls = ap (entries_after nat_eq call_change (effects_of T e)) h.calls ∙ reads.calls (pending U);
+      gets = ap (entries_after nat_eq get_change (effects_of T e)) h.gets ∙ reads.gets (trace.gets U);
       taken = ap₂ (λ xs ys. xs ++ ys) h.taken reads.taken;
       written = ap₂ (λ xs ys. xs ++ ys) h.written reads.written;
       known = λ q.
@@ -141,7 +157,7 @@ grow_all T U h line line' e e' reads said =
           ∙ ap (option_map (with_said (world_at U) (list_any is_ignored (effects_of U e')) (input_to q e'))) (h.known q));
     }
   where
-    same_map : {f g : Facts → Facts} (o : Option Facts) → ((x : Facts) → f x ≡ g x) → option_map f o ≡ option_map g o
+    same_map : {f g : Known → Known} (o : Option Known) → ((x : Known) → f x ≡ g x) → option_map f o ≡ option_map g o
     same_map None k = refl
     same_map (Some x) k = ap Some (k x)
 
@@ -164,15 +180,15 @@ cookies_same T U h (asks.Metadata to client origin) = refl
 all_cookies_same : (T U : Trace) → SameAll T U → cookies_with T ≡ cookies_with U
 all_cookies_same T U h = λ i ask. cookies_same T U h ask i
 
-facts_same : (T U : Trace) → SameAll T U → (q : ℕ) → facts_at T q ≡ facts_at U q
-facts_same T U h q = ap₂ facts_by (h.stage q) (h.known q)
+known_same : (T U : Trace) → SameAll T U → (q : ℕ) → known_at T q ≡ known_at U q
+known_same T U h q = ap₂ known_by (h.stage q) (h.known q)
 
 input_same : (T U : Trace) → SameAll T U → (call : ℕ) (i : Input)
-    → input_effects (world_at T) (cookies_with T) (is_begun T call) call (facts_at T call) i
-    ≡ input_effects (world_at U) (cookies_with U) (is_begun U call) call (facts_at U call) i
+    → input_effects (world_at T) (cookies_with T) (is_begun T call) call (known_at T call) i
+    ≡ input_effects (world_at U) (cookies_with U) (is_begun U call) call (known_at U call) i
 input_same T U h call i =
-    ap₂ (λ w ck. input_effects w ck (is_begun T call) call (facts_at T call) i) (world_same T U h) (all_cookies_same T U h)
-    ∙ ap₂ (λ b f. input_effects (world_at U) (cookies_with U) b call f i) (ap (list_any (nat_eq call)) h.taken) (facts_same T U h call)
+    ap₂ (λ w ck. input_effects w ck (is_begun T call) call (known_at T call) i) (world_same T U h) (all_cookies_same T U h)
+    ∙ ap₂ (λ b f. input_effects (world_at U) (cookies_with U) b call f i) (ap (list_any (nat_eq call)) h.taken) (known_same T U h call)
 
 found_same : (T U : Trace) → SameAll T U → (url : Parts) (fields : List (List ℕ))
     → cookies_from T.header.rules url (now_at T) fields ≡ cookies_from U.header.rules url (now_at U) fields
@@ -188,9 +204,9 @@ effects_same T U h (events.Load page url raw) =
 effects_same T U h (events.ClosePage page) = ap₂ (λ x o. close_effects (calls_of page x) page o) h.calls (h.page page)
 effects_same T U h (events.SetStatus page status) = ap (λ o. status_effects o status) (h.page page)
 effects_same T U h (events.Get page call options) =
-    ap₂ (λ w ck. get_effects w ck (page_at T page) (is_busy page (pending T)) page call options) (world_same T U h)
+    ap₂ (λ w ck. begin_effects w ck (page_at T page) (is_busy page (trace.gets T)) page call (ToGet options)) (world_same T U h)
     (all_cookies_same T U h)
-    ∙ ap₂ (λ o x. get_effects (world_at U) (cookies_with U) o (is_busy page x) page call options) (h.page page) h.calls
+    ∙ ap₂ (λ o x. begin_effects (world_at U) (cookies_with U) o (is_busy page x) page call (ToGet options)) (h.page page) h.gets
 effects_same T U h (events.Abort call) = input_same T U h call inputs.Abort
 effects_same T U h (events.GoOn call) = input_same T U h call inputs.GoOn
 effects_same T U h (events.Cancel call) = input_same T U h call inputs.Cancel
@@ -200,19 +216,19 @@ effects_same T U h (events.Choose call provider account) = input_same T U h call
 -- ---- the row that may differ
 
 given_same : (w : World) (call page : ℕ) (auto : Bool) (place : ℕ) (a b : Answer (List ℕ) TokenStep) → AreTokens a b → (ck : Ask → List ℕ)
-    → ButToken call (outcome_effects w ck call page (finishes (token_given auto place a)))
-    (outcome_effects w ck call page (finishes (token_given auto place b)))
+    → ButToken call (outcome_effects w ck GetCall call page (finishes (token_given auto place a)))
+    (outcome_effects w ck GetCall call page (finishes (token_given auto place b)))
 given_same w call page auto place (Ok t) (Ok t') h ck = Tokens page place auto t t'
 given_same w call page auto place (Err s) (Err s') h ck =
-    subst (λ x. ButToken call (outcome_effects w ck call page (finishes (token_given auto place (Err s))))
-    (outcome_effects w ck call page (finishes (token_given auto place (Err x))))) h (Equal _)
+    subst (λ x. ButToken call (outcome_effects w ck GetCall call page (finishes (token_given auto place (Err s))))
+    (outcome_effects w ck GetCall call page (finishes (token_given auto place (Err x))))) h (Equal _)
 given_same w call page auto place (Ok t) (Err s) h ck = absurd h
 given_same w call page auto place (Err s) (Ok t) h ck = absurd h
 
 reply_same : (w : World) (ck : Ask → List ℕ) (call page : ℕ) (f : Facts) (stage : Stage) (place : ℕ) (raw raw' : List ℕ)
     → ((o : List ℕ) → AreTokens (AssertionOf raw o) (AssertionOf raw' o))
-    → ButToken call (outcome_effects w ck call page (stage_reply w f stage place kinds.Assertion raw))
-    (outcome_effects w ck call page (stage_reply w f stage place kinds.Assertion raw'))
+    → ButToken call (outcome_effects w ck GetCall call page (stage_reply w f stage place kinds.Assertion raw))
+    (outcome_effects w ck GetCall call page (stage_reply w f stage place kinds.Assertion raw'))
 reply_same w ck call page f Reading place raw raw' h = Equal _
 reply_same w ck call page f Listing place raw raw' h = Equal _
 reply_same w ck call page f Mismatch place raw raw' h = Equal _
@@ -222,36 +238,58 @@ reply_same w ck call page f Ended place raw raw' h = Equal _
 reply_same w ck call page f Asserting place raw raw' h = go (provider_at place f.options)
   where
     go : (q : Option ProviderOptions)
-        → ButToken call (outcome_effects w ck call page (assertion_reply f place q raw))
-        (outcome_effects w ck call page (assertion_reply f place q raw'))
+        → ButToken call (outcome_effects w ck GetCall call page (assertion_reply f place q raw))
+        (outcome_effects w ck GetCall call page (assertion_reply f place q raw'))
     go None = Equal _
     go (Some q) =
         given_same w call page f.auto place (AssertionOf raw (origin_text f.origin)) (AssertionOf raw' (origin_text f.origin))
         (h (origin_text f.origin)) ck
 
+-- a disconnect waits for no assertion reply
+disconnect_reply_same : (w : World) (ck : Ask → List ℕ) (call : ℕ) (f : DisconnectFacts) (own : Bool) (stage : Stage) (raw raw' : List ℕ)
+    → ButToken call (outcome_effects w ck DisconnectCall call f.page
+    (provider_reply w (record f { stage = stage }) own kinds.Assertion raw))
+    (outcome_effects w ck DisconnectCall call f.page (provider_reply w (record f { stage = stage }) own kinds.Assertion raw'))
+disconnect_reply_same w ck call f false stage raw raw' = Equal _
+disconnect_reply_same w ck call f true Reading raw raw' = Equal _
+disconnect_reply_same w ck call f true Asserting raw raw' = Equal _
+disconnect_reply_same w ck call f true Listing raw raw' = Equal _
+disconnect_reply_same w ck call f true Mismatch raw raw' = Equal _
+disconnect_reply_same w ck call f true Choosing raw raw' = Equal _
+disconnect_reply_same w ck call f true Prompting raw raw' = Equal _
+disconnect_reply_same w ck call f true Ended raw raw' = Equal _
+
 token_row : (T : Trace) (call place : ℕ) (raw raw' : List ℕ) → ((o : List ℕ) → AreTokens (AssertionOf raw o) (AssertionOf raw' o))
     → ButToken call (effects_of T (events.Reply call place kinds.Assertion raw))
     (effects_of T (events.Reply call place kinds.Assertion raw'))
-token_row T call place raw raw' h = go (is_begun T call) (facts_at T call)
+token_row T call place raw raw' h = go (is_begun T call) (known_at T call)
   where
-    go : (begun : Bool) (facts : Option Facts)
-        → ButToken call (input_effects (world_at T) (cookies_with T) begun call facts (inputs.Reply place kinds.Assertion raw))
-        (input_effects (world_at T) (cookies_with T) begun call facts (inputs.Reply place kinds.Assertion raw'))
-    go false facts = Equal _
+    go : (begun : Bool) (known : Option Known)
+        → ButToken call (input_effects (world_at T) (cookies_with T) begun call known (inputs.Reply place kinds.Assertion raw))
+        (input_effects (world_at T) (cookies_with T) begun call known (inputs.Reply place kinds.Assertion raw'))
+    go false known = Equal _
     go true None = Equal _
-    go true (Some f) = reply_same (world_at T) (cookies_with T) call f.page f f.stage place raw raw' h
+    go true (Some (OfGet f)) = reply_same (world_at T) (cookies_with T) call f.page f f.stage place raw raw' h
+    go true (Some (OfDisconnect f)) =
+        disconnect_reply_same (world_at T) (cookies_with T) call f (place == only_place) f.stage raw raw'
 
 -- an assertion reply says nothing to a call that goes on
-says_nothing : (T : Trace) (call place q : ℕ) (raw raw' : List ℕ) (ign : Bool) (f : Facts)
+says_nothing : (T : Trace) (call place q : ℕ) (raw raw' : List ℕ) (ign : Bool) (f : Known)
     → with_said (world_at T) ign (input_to q (events.Reply call place kinds.Assertion raw)) f
     ≡ with_said (world_at T) ign (input_to q (events.Reply call place kinds.Assertion raw')) f
 says_nothing T call place q raw raw' ign f = go (nat_eq q call) ign
   where
+    known : (ign : Bool) (k : Known) → with_input (world_at T) ign (inputs.Reply place kinds.Assertion raw) k
+        ≡ with_input (world_at T) ign (inputs.Reply place kinds.Assertion raw') k
+    known false (OfGet facts) = refl
+    known true (OfGet facts) = refl
+    known false (OfDisconnect facts) = refl
+    known true (OfDisconnect facts) = refl
+
     go : (own ign : Bool) → with_said (world_at T) ign (cond own (Some (inputs.Reply place kinds.Assertion raw)) None) f
         ≡ with_said (world_at T) ign (cond own (Some (inputs.Reply place kinds.Assertion raw')) None) f
     go false ign = refl
-    go true false = refl
-    go true true = refl
+    go true ign = known ign f
 
 -- ---- the walk
 

@@ -11,7 +11,7 @@ use Rattle.fed_origin.specs.declared.stage.Stage.{Stage}
 use Rattle.fed_origin.specs.declared.stage.Stage.TheVariants as stages
 use Rattle.fed_origin.specs.declared.status.LoginStatus.{LoginStatus}
 use Rattle.fed_origin.specs.declared.status.LoginStatus.TheVariants.{Unknown}
-use Rattle.fed_origin.specs.Origin.{is_trustworthy, same_origin}
+use Rattle.fed_origin.specs.Origin.{same_origin}
 use Rattle.fed_origin.specs.WebUrl.{host_of}
 use Rattle.fed_suffix.specs.Registrable.{party}
 use Rattle.fed_jar.specs.Cookie.{StoredCookie}
@@ -21,17 +21,18 @@ use Rattle.fed_status.specs.Login.{Logins, status_of}
 use Rattle.fed_status.proofs.lists.Same.{same_origin_is}
 use Rattle.fed_consent.specs.declared.table.ask.Ask.{Ask}
 use Rattle.fed_consent.specs.declared.table.ask.Ask.TheVariants as asks
-use Rattle.fed_trace.specs.Effect.{Effect, page_change, login_change, call_change, time_of, written_by, begun_by}
+use Rattle.fed_trace.specs.Begun.{CallKind, GetCall, DisconnectCall, kind_asked, of_get}
+use Rattle.fed_trace.specs.Effect.{Effect, page_change, login_change, get_change, get_begun, time_of, written_by}
 use Rattle.fed_trace.specs.Effect as does
 use Rattle.fed_trace.specs.Keyed.{Change, changed, entries_after, says}
-use Rattle.fed_trace.specs.Known.{is_begun}
-use Rattle.fed_trace.specs.Trace.{Row, Trace, page_at, logins, pending, now_at, writes, standing, all_said, last_in}
-use Rattle.fed_twin.specs.Script.{first_sent, first_requests}
+use Rattle.fed_trace.specs.Trace.{Row, Trace, page_at, logins, gets, now_at, writes, standing, all_said, last_in}
+use Rattle.fed_twin.specs.Script.{first_bytes, first_sent, first_requests}
 use Rattle.fed_twin.specs.Providers.{Providers, is_provider}
-use Rattle.fed_twin.specs.Seen.{Seen, Time, Page, Closed, Cookie, Login, Begin, Ended, Sent, Told, told, told_origin, seen, seen_move, seen_sent, view}
+use Rattle.fed_twin.specs.Seen.{Seen, Time, Page, Closed, Cookie, Login, Begin, Ended, Sent, Told, told, seen, seen_move}
+use Rattle.fed_twin.specs.Seen.{seen_sent, view}
 use Rattle.fed_jar.proofs.parties.Parties.{text_is_of_party_writes}
 use Rattle.fed_twin.proofs.seen.Seen.{last_at, last_in-seen, last_value-seen, standing-seen, all_said-seen}
-use Rattle.fed_twin.specs.Looks.{LooksAreSeen, SameLooks}
+use Rattle.fed_twin.specs.Looks.{LooksAreSeen, gets_begun}
 
 -- ---- readings of what is seen
 
@@ -56,6 +57,17 @@ no_sent f h call provider (asks.Metadata to client origin) cookies = refl
 no_sent f h call provider (asks.Assertion ask) cookies = refl
 no_sent f h call provider (asks.Disconnect to client hint origin) cookies = refl
 
+-- what is said of gets alone is read of what is seen of gets alone
+of_gets : {A B : Type 0} (f : B → Option A) (kind : CallKind) (said : Option A) (look : Option B) → said ≡ option_and_then f look
+    → of_get kind said ≡ option_and_then f (of_get kind look)
+of_gets f GetCall said look h = h
+of_gets f DisconnectCall said look h = refl
+
+no_get : {A B : Type 0} (f : B → Option A) (kind : CallKind) (look : Option B) → None ≡ option_and_then f look
+    → None ≡ option_and_then f (of_get kind look)
+no_get f GetCall look h = h
+no_get f DisconnectCall look h = refl
+
 no_test : {A : Type 0} (f : Seen → Option A) (x : Seen) → f x ≡ None → (b : Bool)
     → None ≡ option_and_then f (cond b (Some x) None)
 no_test f x h true = sym h
@@ -74,9 +86,10 @@ time_is p (does.Page page origin) = refl
 time_is p (does.Closed page) = refl
 time_is p (does.Cookie cookie) = no_test time_seen (Cookie cookie) refl (is_provider p cookie.domain)
 time_is p (does.Login origin status) = no_test time_seen (Login origin status) refl (is_provider p origin.host)
-time_is p (does.Begin b) = refl
-time_is p (does.Move call stage) = no_move time_seen (λ c. refl) call stage
-time_is p (does.Sent call provider ask cookies) = no_sent time_seen (λ c q a k. refl) call provider ask cookies
+time_is p (does.Begin b) = no_get time_seen (kind_asked b.options) (Some (Begin b.call b.page)) refl
+time_is p (does.Move kind call stage) = no_get time_seen kind (seen_move call stage) (no_move time_seen (λ c. refl) call stage)
+time_is p (does.Sent kind call provider ask cookies) =
+    no_get time_seen kind (seen_sent call provider ask cookies) (no_sent time_seen (λ c q a k. refl) call provider ask cookies)
 time_is p (does.Shown call dialog) = refl
 time_is p (does.Window call provider url) = refl
 time_is p (does.Kept triple stays) = refl
@@ -113,9 +126,10 @@ page_is p q (does.Closed page) = go (nat_eq q page)
     go false = refl
 page_is p q (does.Cookie cookie) = no_test (page_seen q) (Cookie cookie) refl (is_provider p cookie.domain)
 page_is p q (does.Login origin status) = no_test (page_seen q) (Login origin status) refl (is_provider p origin.host)
-page_is p q (does.Begin b) = refl
-page_is p q (does.Move call stage) = no_move (page_seen q) (λ c. refl) call stage
-page_is p q (does.Sent call provider ask cookies) = no_sent (page_seen q) (λ c r a k. refl) call provider ask cookies
+page_is p q (does.Begin b) = no_get (page_seen q) (kind_asked b.options) (Some (Begin b.call b.page)) refl
+page_is p q (does.Move kind call stage) = no_get (page_seen q) kind (seen_move call stage) (no_move (page_seen q) (λ c. refl) call stage)
+page_is p q (does.Sent kind call provider ask cookies) =
+    no_get (page_seen q) kind (seen_sent call provider ask cookies) (no_sent (page_seen q) (λ c r a k. refl) call provider ask cookies)
 page_is p q (does.Shown call dialog) = refl
 page_is p q (does.Window call provider url) = refl
 page_is p q (does.Kept triple stays) = refl
@@ -130,7 +144,7 @@ page_same p T U q same =
     ∙ ap (λ v. unwrap_or (last_at (page_seen q) v) None) same
     ∙ sym (last_value-seen (seen p) nat_eq page_change q (told p) (page_seen q) (page_is p q) U.rows)
 
--- ---- pending calls
+-- ---- pending gets
 
 call_seen : Seen → Option (Change ℕ ℕ)
 call_seen (Begin call page) = Some (call, Some page)
@@ -147,16 +161,17 @@ call_moves call stages.Prompting = refl
 call_moves call stages.Asserting = refl
 call_moves call stages.Ended = refl
 
-call_is : (p : Providers) (e : Effect) → call_change e ≡ option_and_then call_seen (seen p e)
+call_is : (p : Providers) (e : Effect) → get_change e ≡ option_and_then call_seen (seen p e)
 unfolding call_seen
 call_is p (does.Time time) = refl
 call_is p (does.Page page origin) = refl
 call_is p (does.Closed page) = refl
 call_is p (does.Cookie cookie) = no_test call_seen (Cookie cookie) refl (is_provider p cookie.domain)
 call_is p (does.Login origin status) = no_test call_seen (Login origin status) refl (is_provider p origin.host)
-call_is p (does.Begin b) = refl
-call_is p (does.Move call stage) = call_moves call stage
-call_is p (does.Sent call provider ask cookies) = no_sent call_seen (λ c r a k. refl) call provider ask cookies
+call_is p (does.Begin b) = of_gets call_seen (kind_asked b.options) (Some (b.call, Some b.page)) (Some (Begin b.call b.page)) refl
+call_is p (does.Move kind call stage) = of_gets call_seen kind (does.unless_ended call stage) (seen_move call stage) (call_moves call stage)
+call_is p (does.Sent kind call provider ask cookies) =
+    no_get call_seen kind (seen_sent call provider ask cookies) (no_sent call_seen (λ c r a k. refl) call provider ask cookies)
 call_is p (does.Shown call dialog) = refl
 call_is p (does.Window call provider url) = refl
 call_is p (does.Kept triple stays) = refl
@@ -164,27 +179,28 @@ call_is p (does.Flag origin stays) = refl
 call_is p (does.Result call page finish) = refl
 call_is p (does.Ignored why) = refl
 
-pub pending_same : (p : Providers) (T U : Trace) → view p T.rows ≡ view p U.rows → pending T ≡ pending U
-pending_same p T U same =
-    standing-seen (seen p) nat_eq call_change call_seen (call_is p) T.rows ∙ ap (λ v. entries_after nat_eq call_seen v []) same
-    ∙ sym (standing-seen (seen p) nat_eq call_change call_seen (call_is p) U.rows)
+pub gets_same : (p : Providers) (T U : Trace) → view p T.rows ≡ view p U.rows → gets T ≡ gets U
+gets_same p T U same =
+    standing-seen (seen p) nat_eq get_change call_seen (call_is p) T.rows ∙ ap (λ v. entries_after nat_eq call_seen v []) same
+    ∙ sym (standing-seen (seen p) nat_eq get_change call_seen (call_is p) U.rows)
 
--- ---- calls that began
+-- ---- gets that began
 
 begun_seen : Seen → Option ℕ
 begun_seen (Begin call page) = Some call
 begun_seen _ = None
 
-begun_is : (p : Providers) (e : Effect) → begun_by e ≡ option_and_then begun_seen (seen p e)
+begun_is : (p : Providers) (e : Effect) → get_begun e ≡ option_and_then begun_seen (seen p e)
 unfolding begun_seen
 begun_is p (does.Time time) = refl
 begun_is p (does.Page page origin) = refl
 begun_is p (does.Closed page) = refl
 begun_is p (does.Cookie cookie) = no_test begun_seen (Cookie cookie) refl (is_provider p cookie.domain)
 begun_is p (does.Login origin status) = no_test begun_seen (Login origin status) refl (is_provider p origin.host)
-begun_is p (does.Begin b) = refl
-begun_is p (does.Move call stage) = no_move begun_seen (λ c. refl) call stage
-begun_is p (does.Sent call provider ask cookies) = no_sent begun_seen (λ c r a k. refl) call provider ask cookies
+begun_is p (does.Begin b) = of_gets begun_seen (kind_asked b.options) (Some b.call) (Some (Begin b.call b.page)) refl
+begun_is p (does.Move kind call stage) = no_get begun_seen kind (seen_move call stage) (no_move begun_seen (λ c. refl) call stage)
+begun_is p (does.Sent kind call provider ask cookies) =
+    no_get begun_seen kind (seen_sent call provider ask cookies) (no_sent begun_seen (λ c r a k. refl) call provider ask cookies)
 begun_is p (does.Shown call dialog) = refl
 begun_is p (does.Window call provider url) = refl
 begun_is p (does.Kept triple stays) = refl
@@ -192,20 +208,19 @@ begun_is p (does.Flag origin stays) = refl
 begun_is p (does.Result call page finish) = refl
 begun_is p (does.Ignored why) = refl
 
-pub is_begun_same : (p : Providers) (T U : Trace) (call : ℕ) → view p T.rows ≡ view p U.rows → is_begun T call ≡ is_begun U call
-is_begun_same p T U call same =
-    ap (list_any (nat_eq call))
-    (all_said-seen (seen p) begun_by begun_seen (begun_is p) T.rows ∙ ap (filter_map begun_seen) same ∙ sym
-    (all_said-seen (seen p) begun_by begun_seen (begun_is p) U.rows))
+begun_same : (p : Providers) (T U : Trace) → view p T.rows ≡ view p U.rows → gets_begun T.rows ≡ gets_begun U.rows
+begun_same p T U same =
+    all_said-seen (seen p) get_begun begun_seen (begun_is p) T.rows ∙ ap (filter_map begun_seen) same
+    ∙ sym (all_said-seen (seen p) get_begun begun_seen (begun_is p) U.rows)
 
 -- ---- what is sent
 
 first_seen : Seen → Option (List ℕ)
-first_seen (Sent call provider ask cookies) = first_sent (does.Sent call provider ask cookies)
+first_seen (Sent call provider ask cookies) = first_bytes ask cookies
 first_seen _ = None
 
 first_asks : (call provider : ℕ) (ask : Ask) (cookies : List ℕ)
-    → first_sent (does.Sent call provider ask cookies) ≡ option_and_then first_seen (seen_sent call provider ask cookies)
+    → first_bytes ask cookies ≡ option_and_then first_seen (seen_sent call provider ask cookies)
 unfolding first_seen
 first_asks call provider (asks.WellKnown to) cookies = refl
 first_asks call provider (asks.Config to) cookies = refl
@@ -221,9 +236,10 @@ first_is p (does.Page page origin) = refl
 first_is p (does.Closed page) = refl
 first_is p (does.Cookie cookie) = no_test first_seen (Cookie cookie) refl (is_provider p cookie.domain)
 first_is p (does.Login origin status) = no_test first_seen (Login origin status) refl (is_provider p origin.host)
-first_is p (does.Begin b) = refl
-first_is p (does.Move call stage) = no_move first_seen (λ c. refl) call stage
-first_is p (does.Sent call provider ask cookies) = first_asks call provider ask cookies
+first_is p (does.Begin b) = no_get first_seen (kind_asked b.options) (Some (Begin b.call b.page)) refl
+first_is p (does.Move kind call stage) = no_get first_seen kind (seen_move call stage) (no_move first_seen (λ c. refl) call stage)
+first_is p (does.Sent kind call provider ask cookies) =
+    of_gets first_seen kind (first_bytes ask cookies) (seen_sent call provider ask cookies) (first_asks call provider ask cookies)
 first_is p (does.Shown call dialog) = refl
 first_is p (does.Window call provider url) = refl
 first_is p (does.Kept triple stays) = refl
@@ -262,9 +278,10 @@ cookie_is p (does.Cookie cookie) = go (is_provider p cookie.domain)
     go true = refl
     go false = refl
 cookie_is p (does.Login origin status) = no_test cookie_seen (Login origin status) refl (is_provider p origin.host)
-cookie_is p (does.Begin b) = refl
-cookie_is p (does.Move call stage) = no_move cookie_seen (λ c. refl) call stage
-cookie_is p (does.Sent call provider ask cookies) = no_sent cookie_seen (λ c r a k. refl) call provider ask cookies
+cookie_is p (does.Begin b) = no_get cookie_seen (kind_asked b.options) (Some (Begin b.call b.page)) refl
+cookie_is p (does.Move kind call stage) = no_get cookie_seen kind (seen_move call stage) (no_move cookie_seen (λ c. refl) call stage)
+cookie_is p (does.Sent kind call provider ask cookies) =
+    no_get cookie_seen kind (seen_sent call provider ask cookies) (no_sent cookie_seen (λ c r a k. refl) call provider ask cookies)
 cookie_is p (does.Shown call dialog) = refl
 cookie_is p (does.Window call provider url) = refl
 cookie_is p (does.Kept triple stays) = refl
@@ -287,8 +304,8 @@ their_writes p (does.Page page origin ∷ es) = their_writes p es
 their_writes p (does.Closed page ∷ es) = their_writes p es
 their_writes p (does.Login origin status ∷ es) = their_writes p es
 their_writes p (does.Begin b ∷ es) = their_writes p es
-their_writes p (does.Move call stage ∷ es) = their_writes p es
-their_writes p (does.Sent call provider ask cookies ∷ es) = their_writes p es
+their_writes p (does.Move kind call stage ∷ es) = their_writes p es
+their_writes p (does.Sent kind call provider ask cookies ∷ es) = their_writes p es
 their_writes p (does.Shown call dialog ∷ es) = their_writes p es
 their_writes p (does.Window call provider url ∷ es) = their_writes p es
 their_writes p (does.Kept triple stays ∷ es) = their_writes p es
@@ -377,9 +394,10 @@ login_is p (does.Login origin status) = go (is_provider p origin.host)
     go : (b : Bool) → cond b (Some (origin, Some status)) None ≡ option_and_then login_seen (cond b (Some (Login origin status)) None)
     go true = refl
     go false = refl
-login_is p (does.Begin b) = refl
-login_is p (does.Move call stage) = no_move login_seen (λ c. refl) call stage
-login_is p (does.Sent call provider ask cookies) = no_sent login_seen (λ c r a k. refl) call provider ask cookies
+login_is p (does.Begin b) = no_get login_seen (kind_asked b.options) (Some (Begin b.call b.page)) refl
+login_is p (does.Move kind call stage) = no_get login_seen kind (seen_move call stage) (no_move login_seen (λ c. refl) call stage)
+login_is p (does.Sent kind call provider ask cookies) =
+    no_get login_seen kind (seen_sent call provider ask cookies) (no_sent login_seen (λ c r a k. refl) call provider ask cookies)
 login_is p (does.Shown call dialog) = refl
 login_is p (does.Window call provider url) = refl
 login_is p (does.Kept triple stays) = refl
@@ -447,8 +465,8 @@ their_entries p (does.Page page origin ∷ effects) es = their_entries p effects
 their_entries p (does.Closed page ∷ effects) es = their_entries p effects es
 their_entries p (does.Cookie cookie ∷ effects) es = their_entries p effects es
 their_entries p (does.Begin b ∷ effects) es = their_entries p effects es
-their_entries p (does.Move call stage ∷ effects) es = their_entries p effects es
-their_entries p (does.Sent call provider ask cookies ∷ effects) es = their_entries p effects es
+their_entries p (does.Move kind call stage ∷ effects) es = their_entries p effects es
+their_entries p (does.Sent kind call provider ask cookies ∷ effects) es = their_entries p effects es
 their_entries p (does.Shown call dialog ∷ effects) es = their_entries p effects es
 their_entries p (does.Window call provider url ∷ effects) es = their_entries p effects es
 their_entries p (does.Kept triple stays ∷ effects) es = their_entries p effects es
@@ -503,8 +521,8 @@ looks_are_seen_lem p T U header same =
     record {
       now = now_same p T U header same;
       pages = λ page. page_same p T U page same;
-      pending = pending_same p T U same;
-      begun = λ call. is_begun_same p T U call same;
+      gets = gets_same p T U same;
+      begun = begun_same p T U same;
       cookies = λ to now provider. text_same p T U to now provider same;
       statuses = λ origin provider. status_same p T U origin provider same;
       requests = sign_in_same p T U same;

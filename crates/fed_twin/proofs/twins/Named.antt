@@ -1,5 +1,6 @@
 -- The origins of a page that stands in both worlds were named together.
-use Rattle.std.proofs.Common.{◌≡◌, ℕ, Bool, true, false, nat_eq, cond, List, [], ◌∷◌, ◌++◌, Option, Some, None, IfSome, refl, sym, ap, ap₂, subst, ◌∙◌, arith}
+use Rattle.std.proofs.Common.{◌≡◌, ℕ, Bool, true, false, nat_eq, cond, List, [], ◌∷◌, ◌++◌, Option, Some, None, IfSome, refl, sym, ap, ap₂}
+use Rattle.std.proofs.Common.{subst, ◌∙◌, arith}
 use Rattle.std.proofs.lemmas.Bool.Decides.{nat_tests}
 use Rattle.std.specs.Prelude.{unwrap_or}
 use Rattle.std.specs.Option.{option_or}
@@ -18,7 +19,8 @@ use Rattle.fed_trace.proofs.happens.Happens.{pages_left}
 use Rattle.fed_trace.proofs.effects.Outcome.{last_said_after}
 use Rattle.fed_trace.proofs.calls.Pending.{ends_silent, load_rest_silent}
 use Rattle.fed_trace.proofs.effects.Silent.{last_said_silent}
-use Rattle.fed_twin.specs.Pairs.{Alike, Haves, Times, Loads, FarLoads, Closes, Statuses, Gets, Aborts, Goings, Cancels, Choices, WellKnowns, Configs, AccountLists, Assertions, Disconnects, Pairs, Start, Both, Left, Right}
+use Rattle.fed_twin.specs.Pairs.{Alike, Haves, Times, Loads, FarLoads, Closes, Statuses, Gets, Aborts, Goings, Cancels, Choices, WellKnowns}
+use Rattle.fed_twin.specs.Pairs.{Configs, AccountLists, Assertions, Disconnects, Pairs, Start, Both, Left, Right}
 use Rattle.fed_twin.specs.Script.{is_kept}
 use Rattle.fed_twin.specs.Providers.{Providers}
 use Rattle.fed_twin.specs.Twin.{origin_named, both_named, AreOneToOne}
@@ -44,7 +46,7 @@ page_loads T line page url raw q h =
     let rest = cookie_effects found ++ login_effects (origin_of url) (set_logins raw) in
     ap (λ o. unwrap_or o (page_at T q))
     (last_said_after nat_eq page_change q (ends_of (pending_of T page)) (Page page (origin_of url) ∷ rest)
-    (ends_silent page_change (λ c. refl) (pending_of T page))
+    (ends_silent page_change (λ n c. refl) (pending_of T page))
     ∙ ap (λ o. option_or o (says nat_eq q (Some (page, Some (origin_of url)))))
     (last_said_silent nat_eq page_change q rest
     (load_rest_silent page_change (λ c. refl) (λ o s. refl) found (origin_of url) (set_logins raw)))
@@ -64,7 +66,7 @@ page_closes T line page q h = go (page_at T page) refl
         ap (λ o. unwrap_or (last_said nat_eq page_change q (close_effects (pending_of T page) page o)) (page_at T q)) is
         ∙ ap (λ o. unwrap_or o (page_at T q))
         (last_said_after nat_eq page_change q (ends_of (pending_of T page)) (Closed page ∷ [])
-        (ends_silent page_change (λ c. refl) (pending_of T page))
+        (ends_silent page_change (λ n c. refl) (pending_of T page))
         ∙ ap (λ b. cond b (Some None) None) h)
 
 -- ---- pairs of pages

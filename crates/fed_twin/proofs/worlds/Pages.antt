@@ -1,11 +1,11 @@
 -- Events that name no call keep the worlds the same.
-use Rattle.std.proofs.Common.{◌≡◌, ℕ, Bool, true, false, nat_eq, ◌⊎◌, inl, inr, List, [], ◌∷◌, ◌++◌, map, Option, Some, None, refl, sym, ap, ap₂, subst, ◌∙◌}
+use Rattle.std.proofs.Common.{◌≡◌, ℕ, Bool, true, false, cond, List, [], ◌∷◌, ◌++◌, map, Option, Some, None, refl, sym, ap}
+use Rattle.std.proofs.Common.{ap₂, subst, ◌∙◌}
 use Rattle.std.proofs.lemmas.List.Elements.{filter_map-append}
-use Rattle.std.specs.Prelude.{option_map, option_and_then, if◌then◌else◌}
+use Rattle.std.specs.Prelude.{◌==◌, filter, option_map, option_and_then, if◌then◌else◌}
 use Rattle.std.specs.List.{filter_map, cons_option}
 use Rattle.url.specs.Parts.{Parts}
 use Rattle.fed_origin.specs.declared.origin.Origin.{Origin}
-use Rattle.fed_origin.specs.declared.stage.Stage.TheVariants.{Ended}
 use Rattle.fed_origin.specs.declared.status.LoginStatus.{LoginStatus}
 use Rattle.fed_origin.specs.Origin.{is_trustworthy}
 use Rattle.fed_origin.specs.WebUrl.{host_of, origin_of}
@@ -15,21 +15,29 @@ use Rattle.fed_jar.specs.Cookie.{StoredCookie}
 use Rattle.fed_jar.specs.Store as store
 use Rattle.fed_jar.proofs.parties.Parties.{stored_party}
 use Rattle.fed_call.specs.Facts.{Facts}
+use Rattle.fed_script.specs.declared.event.Event.{Event}
 use Rattle.fed_script.specs.declared.event.Event.TheVariants as events
 use Rattle.fed_script.specs.declared.event.Have.{Have}
-use Rattle.fed_trace.specs.Effect.{Page, Closed, Cookie, stage_change}
-use Rattle.fed_trace.specs.Keyed.{last_said}
-use Rattle.fed_trace.specs.Known.{facts_at}
-use Rattle.fed_trace.specs.Row.{with_event, ends_of, load_effects, close_effects, cookie_from, cookies_from, cookie_effects, login_effects, have_cookies, have_logins, set_cookies, set_logins, status_effects, standing_status}
-use Rattle.fed_trace.specs.Trace.{Trace, page_at, pending_of, calls_of, now_at}
+use Rattle.fed_trace.specs.Begun.{CallKind, GetCall, DisconnectCall, of_get}
+use Rattle.fed_trace.specs.Call.{OfGet}
+use Rattle.fed_trace.specs.Effect.{Effect, PendingCall, Page, Closed, Cookie, call_change}
+use Rattle.fed_trace.specs.Known.{known_at, facts_at}
+use Rattle.fed_trace.specs.Row.{IsRun, with_event, ends_of, close_effects, cookie_from, cookies_from, cookie_effects}
+use Rattle.fed_trace.specs.Row.{login_effects, have_cookies, have_logins, set_cookies, set_logins, status_effects, standing_status}
+use Rattle.fed_trace.specs.Trace.{Trace, page_at, pending, pending_of, by_kind, calls_of, now_at}
+use Rattle.fed_trace.proofs.calls.Gets.{gets_among, has_get, get_is_among, among_is_get}
+use Rattle.fed_trace.proofs.calls.Pending.{is_among}
+use Rattle.fed_trace.proofs.happens.Taken.{is_get}
+use Rattle.fed_trace.proofs.keyed.Keyed.{distinct_standing}
+use Rattle.fed_trace.proofs.runs.Gets.{known_kind, gets_are}
 use Rattle.fed_twin.specs.Providers.{Providers, is_provider}
-use Rattle.fed_twin.specs.Seen.{told_origin, seen, told}
+use Rattle.fed_twin.specs.Seen.{told_origin, seen, told, view}
 use Rattle.fed_twin.specs.Seen as views
 use Rattle.fed_twin.specs.Same.{SameCall, SameWorlds}
 use Rattle.fed_twin.specs.Twin.{AreFar}
-use Rattle.fed_twin.proofs.calls.Facts.{facts_left, facts_load, facts_close, facts_ignored, said_ends}
+use Rattle.fed_twin.proofs.calls.Facts.{EndsThere, facts_left, facts_load, facts_close, facts_ignored}
 use Rattle.fed_twin.proofs.worlds.Grow.{grow}
-use Rattle.fed_twin.proofs.seen.Look.{now_same, page_same, pending_same, same_party}
+use Rattle.fed_twin.proofs.seen.Look.{now_same, page_same, gets_same, same_party}
 
 -- a call that both leave is the same
 pub call_left : (p : Providers) (T U : Trace) → SameWorlds p T U → (q : ℕ) (f f' : Option Facts) → f ≡ facts_at T q
@@ -40,8 +48,77 @@ call_left p T U h q f f' e e' = subst (λ x. SameCall p x f') (sym e) (subst (Sa
 pub call_over : (p : Providers) (f f' : Option Facts) → f ≡ None → f' ≡ None → SameCall p f f'
 call_over p f f' e e' = subst (λ x. SameCall p x f') (sym e) (subst (SameCall p None) (sym e') tt)
 
-pendings : (p : Providers) (T U : Trace) → SameWorlds p T U → (page : ℕ) → pending_of T page ≡ pending_of U page
-pendings p T U h page = ap (calls_of page) (pending_same p T U h.seen)
+-- the worlds are traces of runs
+pub record AreRuns (T U : Trace) : Type 0 where
+  pub first : IsRun T.header T.rows
+  pub second : IsRun U.header U.rows
+
+-- ---- calls that end with their page
+
+-- a get that is pending on the page in one world is so in the other
+among_both : (p : Providers) (T U : Trace) → IsRun T.header T.rows → IsRun U.header U.rows → view p T.rows ≡ view p U.rows
+    → (page q : ℕ) (f : Facts) → facts_at T q ≡ Some f
+    → is_among q (pending_of T page) ≡ true → is_among q (pending_of U page) ≡ true
+among_both p T U run run' same page q f found among =
+    get_is_among q page (pending U)
+    (ap (has_get q page) (gets_are U.header U.rows run' ∙ sym (gets_same p T U same) ∙ sym (gets_are T.header T.rows run))
+    ∙ among_is_get q page (pending T) (distinct_standing call_change T.rows) (known_kind T q (OfGet f) (is_get (known_at T q) f found))
+    among)
+
+-- calls that end with their page in both worlds
+ended_same : (p : Providers) (T U : Trace) → SameWorlds p T U → AreRuns T U → (line line' page : ℕ) (event event' : Event) (q : ℕ)
+    → EndsThere T line event page q → EndsThere U line' event' page q
+    → SameCall p (facts_at (with_event T line event) q) (facts_at (with_event U line' event') q)
+ended_same p T U h runs line line' page event event' q ends ends' =
+    go (is_among q (pending_of T page)) (is_among q (pending_of U page)) refl refl (facts_at T q) (facts_at U q) refl refl (h.calls q)
+  where
+    none_or : {f g : Option Facts} → f ≡ None → g ≡ None → SameCall p f g
+    none_or is is' = call_over p _ _ is is'
+
+    go : (b b' : Bool) → is_among q (pending_of T page) ≡ b → is_among q (pending_of U page) ≡ b' → (f f' : Option Facts) → facts_at T q ≡ f
+        → facts_at U q ≡ f' → SameCall p f f'
+        → SameCall p (facts_at (with_event T line event) q) (facts_at (with_event U line' event') q)
+    go true true is is' f f' found found' same = none_or (ends.there is) (ends'.there is')
+    go false false is is' f f' found found' same = call_left p T U h q _ _ (ends.elsewhere is) (ends'.elsewhere is')
+    go true false is is' None None found found' same = none_or (ends.there is) (ends'.elsewhere is' ∙ found')
+    go true false is is' None (Some f') found found' same = absurd same
+    go true false is is' (Some f) None found found' same = absurd same
+    go true false is is' (Some f) (Some f') found found' same =
+        let no : false ≡ true = sym is' ∙ among_both p T U runs.first runs.second h.seen page q f found is in absurd (cc)
+    go false true is is' None None found found' same = none_or (ends.elsewhere is ∙ found) (ends'.there is')
+    go false true is is' None (Some f') found found' same = absurd same
+    go false true is is' (Some f) None found found' same = absurd same
+    go false true is is' (Some f) (Some f') found found' same =
+        let no : false ≡ true = sym is ∙ among_both p U T runs.second runs.first (sym h.seen) page q f' found' is' in absurd (cc)
+
+-- of the calls of a page that end, only its gets are seen
+seen_ends : (p : Providers) (page : ℕ) (es : List (ℕ × PendingCall))
+    → filter_map (seen p) (ends_of (calls_of page es)) ≡ map (λ get. views.Ended get.0) (filter (λ get. get.1 == page) (gets_among es))
+seen_ends p page [] = refl
+seen_ends p page (e ∷ es) = go (seen_ends p page es) (e.1.page == page) refl e.1.kind
+  where
+    go : filter_map (seen p) (ends_of (calls_of page es)) ≡ map (λ get. views.Ended get.0) (filter (λ get. get.1 == page) (gets_among es))
+        → (here : Bool) → (e.1.page == page) ≡ here → (kind : CallKind)
+        → filter_map (seen p) (ends_of (map by_kind (cond here ((e.0, record e.1 { kind = kind }) ∷ filter (λ call. call.1.page == page) es)
+        (filter (λ call. call.1.page == page) es))))
+        ≡ map (λ get. views.Ended get.0) (filter (λ get. get.1 == page) (cons_option (of_get kind (Some (e.0, e.1.page))) (gets_among es)))
+    go rest true at GetCall =
+        ap (λ xs. views.Ended e.0 ∷ xs) rest
+        ∙ sym (ap (λ b. map (λ get. views.Ended get.0) (cond b ((e.0, e.1.page) ∷ filter (λ get. get.1 == page) (gets_among es))
+        (filter (λ get. get.1 == page) (gets_among es)))) at)
+    go rest true at DisconnectCall = rest
+    go rest false at GetCall =
+        rest ∙ sym (ap (λ b. map (λ get. views.Ended get.0) (cond b ((e.0, e.1.page) ∷ filter (λ get. get.1 == page) (gets_among es))
+        (filter (λ get. get.1 == page) (gets_among es)))) at)
+    go rest false at DisconnectCall = rest
+
+same_ends : (p : Providers) (T U : Trace) → SameWorlds p T U → AreRuns T U → (page : ℕ)
+    → filter_map (seen p) (ends_of (pending_of T page)) ≡ filter_map (seen p) (ends_of (pending_of U page))
+same_ends p T U h runs page =
+    seen_ends p page (pending T)
+    ∙ ap (λ gs. map (λ get. views.Ended get.0) (filter (λ get. get.1 == page) gs))
+    (gets_are T.header T.rows runs.first ∙ gets_same p T U h.seen ∙ sym (gets_are U.header U.rows runs.second))
+    ∙ sym (seen_ends p page (pending U))
 
 -- ---- events of no page
 
@@ -101,24 +178,9 @@ step_status p T U h line line' page status =
 
 -- ---- pages that close
 
--- calls that end with their page in both worlds
-ended_same : (p : Providers) (T U : Trace) → SameWorlds p T U → (q : ℕ) (calls calls' : List ℕ) → calls ≡ calls'
-    → (f f' : Option Facts)
-    → ((last_said nat_eq stage_change q (ends_of calls) ≡ None → f ≡ facts_at T q) ×
-    (last_said nat_eq stage_change q (ends_of calls) ≡ Some (Some Ended) → f ≡ None))
-    → ((last_said nat_eq stage_change q (ends_of calls') ≡ None → f' ≡ facts_at U q) ×
-    (last_said nat_eq stage_change q (ends_of calls') ≡ Some (Some Ended) → f' ≡ None))
-    → SameCall p f f'
-ended_same p T U h q calls calls' e f f' is is' = go (said_ends q calls)
-  where
-    go : (last_said nat_eq stage_change q (ends_of calls) ≡ None) ⊎
-        (last_said nat_eq stage_change q (ends_of calls) ≡ Some (Some Ended)) → SameCall p f f'
-    go (inl k) = call_left p T U h q f f' (is.0 k) (is'.0 (ap (λ cs. last_said nat_eq stage_change q (ends_of cs)) (sym e) ∙ k))
-    go (inr k) = call_over p f f' (is.1 k) (is'.1 (ap (λ cs. last_said nat_eq stage_change q (ends_of cs)) (sym e) ∙ k))
-
-pub step_close : (p : Providers) (T U : Trace) → SameWorlds p T U → (line line' page : ℕ)
+pub step_close : (p : Providers) (T U : Trace) → SameWorlds p T U → AreRuns T U → (line line' page : ℕ)
     → SameWorlds p (with_event T line (events.ClosePage page)) (with_event U line' (events.ClosePage page))
-step_close p T U h line line' page = go (page_at T page) (page_at U page) refl refl (page_same p T U page h.seen)
+step_close p T U h runs line line' page = go (page_at T page) (page_at U page) refl refl (page_same p T U page h.seen)
   where
     go : (o u : Option Origin) → page_at T page ≡ o → page_at U page ≡ u
         → option_map (told p) (page_at T page) ≡ option_map (told p) (page_at U page)
@@ -128,14 +190,16 @@ step_close p T U h line line' page = go (page_at T page) (page_at U page) refl r
         let none' = ap (close_effects (pending_of U page) page) is' in
         grow p T U h line line' (events.ClosePage page) (events.ClosePage page)
         (ap (filter_map (seen p)) none ∙ sym (ap (filter_map (seen p)) none'))
-        (λ q. call_left p T U h q _ _ (facts_ignored T line (events.ClosePage page) q _ none (λ f. refl)) (facts_ignored U line'
-        (events.ClosePage page) q _ none' (λ f. refl)))
+        (λ q. call_left p T U h q _ _ (facts_ignored T line (events.ClosePage page) q _ none (λ k. refl)) (facts_ignored U line'
+        (events.ClosePage page) q _ none' (λ k. refl)))
     go (Some o) (Some u) is is' e =
         grow p T U h line line' (events.ClosePage page) (events.ClosePage page)
         (ap (λ x. filter_map (seen p) (close_effects (pending_of T page) page x)) is
-        ∙ ap (λ cs. filter_map (seen p) (ends_of cs ++ Closed page ∷ [])) (pendings p T U h page)
+        ∙ filter_map-append (seen p) (ends_of (pending_of T page)) (Closed page ∷ [])
+        ∙ ap (λ xs. xs ++ views.Closed page ∷ []) (same_ends p T U h runs page)
+        ∙ sym (filter_map-append (seen p) (ends_of (pending_of U page)) (Closed page ∷ []))
         ∙ sym (ap (λ x. filter_map (seen p) (close_effects (pending_of U page) page x)) is'))
-        (λ q. ended_same p T U h q (pending_of T page) (pending_of U page) (pendings p T U h page) _ _ (facts_close T line page q o is)
+        (λ q. ended_same p T U h runs line line' page (events.ClosePage page) (events.ClosePage page) q (facts_close T line page q o is)
         (facts_close U line' page q u is'))
     go None (Some u) is is' e =
         absurd (let no : None ≡ Some (told p u) = sym (ap (option_map (told p)) is) ∙ e ∙ ap (option_map (told p)) is' in cc)
@@ -144,28 +208,35 @@ step_close p T U h line line' page = go (page_at T page) (page_at U page) refl r
 
 -- ---- loads
 
-load_calls : (p : Providers) (T U : Trace) → SameWorlds p T U
+load_calls : (p : Providers) (T U : Trace) → SameWorlds p T U → AreRuns T U
     → (line line' page : ℕ) (url url' : Parts) (raw raw' : Option (List ℕ)) (q : ℕ)
     → SameCall p (facts_at (with_event T line (events.Load page url raw)) q)
     (facts_at (with_event U line' (events.Load page url' raw')) q)
-load_calls p T U h line line' page url url' raw raw' q =
-    ended_same p T U h q (pending_of T page) (pending_of U page) (pendings p T U h page) _ _ (facts_load T line page url raw q)
+load_calls p T U h runs line line' page url url' raw raw' q =
+    ended_same p T U h runs line line' page (events.Load page url raw) (events.Load page url' raw') q (facts_load T line page url raw q)
     (facts_load U line' page url' raw' q)
 
-pub step_load : (p : Providers) (T U : Trace) → SameWorlds p T U → (line line' page : ℕ) (url : Parts) (raw : Option (List ℕ))
+-- what is seen of a load: the ends of gets, and what comes after
+load_seen : (p : Providers) (T U : Trace) → SameWorlds p T U → AreRuns T U → (page : ℕ) (rest rest' : List Effect)
+    → filter_map (seen p) rest ≡ filter_map (seen p) rest'
+    → filter_map (seen p) (ends_of (pending_of T page) ++ rest) ≡ filter_map (seen p) (ends_of (pending_of U page) ++ rest')
+load_seen p T U h runs page rest rest' same =
+    filter_map-append (seen p) (ends_of (pending_of T page)) rest
+    ∙ ap₂ (λ xs ys. xs ++ ys) (same_ends p T U h runs page) same
+    ∙ sym (filter_map-append (seen p) (ends_of (pending_of U page)) rest')
+
+pub step_load : (p : Providers) (T U : Trace) → SameWorlds p T U → AreRuns T U → (line line' page : ℕ) (url : Parts) (raw : Option (List ℕ))
     → SameWorlds p (with_event T line (events.Load page url raw)) (with_event U line' (events.Load page url raw))
-step_load p T U h line line' page url raw =
+step_load p T U h runs line line' page url raw =
     grow p T U h line line' (events.Load page url raw) (events.Load page url raw)
-    (ap (λ cs. filter_map (seen p)
-    (load_effects cs page url (cookies_from T.header.rules url (now_at T) (set_cookies raw))
-    (set_logins raw))) (pendings p T U h page)
-    ∙ ap (λ r. filter_map (seen p)
-    (load_effects (pending_of U page) page url (cookies_from r url (now_at T) (set_cookies raw)) (set_logins raw))) (h.rules
-    ∙ sym h.rules')
-    ∙ ap (λ n. filter_map (seen p)
-    (load_effects (pending_of U page) page url (cookies_from U.header.rules url n (set_cookies raw))
-    (set_logins raw))) (now_same p T U h.now h.seen))
-    (load_calls p T U h line line' page url url raw raw)
+    (load_seen p T U h runs page (after (cookies_from T.header.rules url (now_at T) (set_cookies raw)))
+    (after (cookies_from U.header.rules url (now_at U) (set_cookies raw)))
+    (ap (λ r. filter_map (seen p) (after (cookies_from r url (now_at T) (set_cookies raw)))) (h.rules ∙ sym h.rules')
+    ∙ ap (λ n. filter_map (seen p) (after (cookies_from U.header.rules url n (set_cookies raw)))) (now_same p T U h.now h.seen)))
+    (load_calls p T U h runs line line' page url url raw raw)
+  where
+    after : List StoredCookie → List Effect
+    after cookies = Page page (origin_of url) ∷ (cookie_effects cookies ++ login_effects (origin_of url) (set_logins raw))
 
 -- a load of no provider's party: only the page is seen, and that it is trustworthy
 
@@ -214,34 +285,33 @@ far_logins p origin (status ∷ statuses) far =
     ap (λ b. cons_option (if b then Some (views.Login origin status) else None)
     (filter_map (seen p) (login_effects origin statuses))) far ∙ far_logins p origin statuses far
 
-far_load : (p : Providers) (calls : List ℕ) (page : ℕ) (url : Parts) (now : ℕ) (fields : List (List ℕ))
+far_load : (p : Providers) (page : ℕ) (url : Parts) (now : ℕ) (fields : List (List ℕ))
     (statuses : List LoginStatus) → is_provider p (host_of url) ≡ false
-    → filter_map (seen p) (load_effects calls page url (cookies_from p.rules url now fields) statuses)
-    ≡ filter_map (seen p) (ends_of calls) ++ views.Page page (is_trustworthy (origin_of url)) None ∷ []
-far_load p calls page url now fields statuses far =
+    → filter_map (seen p) (Page page (origin_of url)
+    ∷ (cookie_effects (cookies_from p.rules url now fields) ++ login_effects (origin_of url) statuses))
+    ≡ views.Page page (is_trustworthy (origin_of url)) None ∷ []
+far_load p page url now fields statuses far =
     let cookies = cookies_from p.rules url now fields in
     let rest : filter_map (seen p) (cookie_effects cookies ++ login_effects (origin_of url) statuses) ≡ [] =
     filter_map-append (seen p) (cookie_effects cookies) (login_effects (origin_of url) statuses)
     ∙ ap (λ xs. xs ++ filter_map (seen p) (login_effects (origin_of url) statuses)) (far_cookies p url now fields far)
     ∙ far_logins p (origin_of url) statuses far in
-    filter_map-append (seen p) (ends_of calls)
-    (Page page (origin_of url) ∷ (cookie_effects cookies ++ login_effects (origin_of url) statuses))
-    ∙ ap (λ xs. filter_map (seen p) (ends_of calls) ++ views.Page page (is_trustworthy (origin_of url))
-    (told_origin p (origin_of url)) ∷ xs) rest
-    ∙ ap (λ b. filter_map (seen p) (ends_of calls) ++ views.Page page (is_trustworthy (origin_of url))
-    (if b then Some (origin_of url) else None) ∷ []) far
+    ap (λ xs. views.Page page (is_trustworthy (origin_of url)) (told_origin p (origin_of url)) ∷ xs) rest
+    ∙ ap (λ b. views.Page page (is_trustworthy (origin_of url)) (if b then Some (origin_of url) else None) ∷ []) far
 
-pub step_far_load : (p : Providers) (T U : Trace) → SameWorlds p T U
+pub step_far_load : (p : Providers) (T U : Trace) → SameWorlds p T U → AreRuns T U
     → (line line' page : ℕ) (url url' : Parts) (raw raw' : Option (List ℕ)) → AreFar p url url'
     → SameWorlds p (with_event T line (events.Load page url raw)) (with_event U line' (events.Load page url' raw'))
-step_far_load p T U h line line' page url url' raw raw' far =
+step_far_load p T U h runs line line' page url url' raw raw' far =
     grow p T U h line line' (events.Load page url raw) (events.Load page url' raw')
-    (ap (λ r. filter_map (seen p)
-    (load_effects (pending_of T page) page url (cookies_from r url (now_at T) (set_cookies raw)) (set_logins raw))) h.rules
-    ∙ far_load p (pending_of T page) page url (now_at T) (set_cookies raw) (set_logins raw) far.far
-    ∙ ap₂ (λ cs b. filter_map (seen p) (ends_of cs) ++ views.Page page b None ∷ []) (pendings p T U h page) far.trust
-    ∙ sym (far_load p (pending_of U page) page url' (now_at U) (set_cookies raw') (set_logins raw') far.far')
-    ∙ ap (λ r. filter_map (seen p)
-    (load_effects (pending_of U page) page url' (cookies_from r url' (now_at U) (set_cookies raw'))
-    (set_logins raw'))) (sym h.rules'))
-    (load_calls p T U h line line' page url url' raw raw')
+    (load_seen p T U h runs page (after url (cookies_from T.header.rules url (now_at T) (set_cookies raw)) (set_logins raw))
+    (after url' (cookies_from U.header.rules url' (now_at U) (set_cookies raw')) (set_logins raw'))
+    (ap (λ r. filter_map (seen p) (after url (cookies_from r url (now_at T) (set_cookies raw)) (set_logins raw))) h.rules
+    ∙ far_load p page url (now_at T) (set_cookies raw) (set_logins raw) far.far
+    ∙ ap (λ b. views.Page page b None ∷ []) far.trust
+    ∙ sym (far_load p page url' (now_at U) (set_cookies raw') (set_logins raw') far.far')
+    ∙ ap (λ r. filter_map (seen p) (after url' (cookies_from r url' (now_at U) (set_cookies raw')) (set_logins raw'))) (sym h.rules')))
+    (load_calls p T U h runs line line' page url url' raw raw')
+  where
+    after : Parts → List StoredCookie → List LoginStatus → List Effect
+    after url cookies statuses = Page page (origin_of url) ∷ (cookie_effects cookies ++ login_effects (origin_of url) statuses)

@@ -1,7 +1,8 @@
 -- Events of calls keep the worlds the same.
-use Rattle.std.proofs.Common.{◌≡◌, ℕ, Bool, true, false, nat_eq, cond, ◌⊎◌, inl, inr, List, [], ◌∷◌, Option, Some, None, length, refl, sym, ap, ap₂, subst, ◌∙◌, arith}
+use Rattle.std.proofs.Common.{◌≡◌, ℕ, Bool, true, false, nat_eq, cond, ◌⊎◌, inl, inr, List, [], ◌∷◌, Option, Some, None, length, refl, sym}
+use Rattle.std.proofs.Common.{ap, subst, ◌∙◌, arith}
 use Rattle.std.proofs.lemmas.Bool.Decides.{nat_tests}
-use Rattle.std.specs.Prelude.{option_map, is_some}
+use Rattle.std.specs.Prelude.{option_map, option_and_then, is_some}
 use Rattle.std.specs.Option.{option_or}
 use Rattle.std.specs.List.{filter_map, list_any}
 use Rattle.fed_origin.specs.declared.options.GetOptions.{GetOptions}
@@ -11,45 +12,46 @@ use Rattle.fed_origin.specs.declared.stage.ReplyKind.TheVariants as kinds
 use Rattle.fed_origin.specs.declared.stage.Stage.{Stage}
 use Rattle.fed_origin.specs.declared.stage.Stage.TheVariants.{Reading, Prompting, Ended}
 use Rattle.fed_origin.specs.Origin.{is_trustworthy}
-use Rattle.fed_status.specs.Shared.{World}
 use Rattle.fed_consent.specs.declared.table.input.Input.{Input}
 use Rattle.fed_consent.specs.declared.table.input.Input.TheVariants as inputs
-use Rattle.fed_call.specs.Facts.{Facts, at_stage, facts_after}
+use Rattle.fed_call.specs.Facts.{Facts, at_stage, fresh, facts_after}
 use Rattle.fed_consent.specs.Outcomes.{Outcome}
-use Rattle.fed_call.specs.Row.{call_row, input_row, stage_reply}
+use Rattle.fed_call.specs.Row.{input_row, stage_reply}
 use Rattle.fed_call.specs.DialogRows.{chose, went_on, cancelled}
 use Rattle.fed_consent.specs.Failures.{plain}
 use Rattle.fed_consent.specs.declared.table.failure.FailStep.TheVariants as steps
-use Rattle.fed_consent.specs.declared.table.why.Why.TheVariants.{NoCall, CallEnded}
+use Rattle.fed_consent.specs.declared.table.why.Why.TheVariants.{NoCall}
 use Rattle.fed_script.specs.declared.event.Event.{Event}
 use Rattle.fed_script.specs.declared.event.Event.TheVariants as events
-use Rattle.fed_trace.specs.Begun.{Begun}
+use Rattle.fed_trace.specs.Begun.{Begun, GetCall, ToGet}
+use Rattle.fed_trace.specs.Call.{get_facts, get_outcome}
 use Rattle.fed_trace.specs.OfCall.{replaces}
 use Rattle.fed_trace.specs.Effect.{Effect, Begin, Ignored, last_of, stage_change, begins, is_ignored}
 use Rattle.fed_trace.specs.Keyed.{last_said}
-use Rattle.fed_trace.specs.Known.{world_at, is_begun, input_to, known_first, with_said, facts_at}
-use Rattle.fed_trace.specs.Row.{effects_of, with_event, cookies_with, outcome_effects, get_outcome, get_effects, standing_get, input_effects, page_of, is_busy}
-use Rattle.fed_trace.specs.Trace.{Trace, page_at, pending}
-use Rattle.fed_trace.proofs.happens.Over.{still_over}
-use Rattle.fed_trace.proofs.happens.First.{FirstTurn, FailsFirst, ReadsFirst, first_turn, facts_begun}
+use Rattle.fed_trace.specs.Known.{world_at, is_begun, input_to, with_said, known_at, facts_at}
+use Rattle.fed_trace.specs.Row.{effects_of, with_event, cookies_with, outcome_effects, begin_effects, standing_call, input_effects, is_busy}
+use Rattle.fed_trace.specs.Trace.{Trace, page_at, gets}
+use Rattle.fed_trace.proofs.happens.First.{FirstTurn, FailsFirst, ReadsFirst, first_turn, known_begun}
 use Rattle.fed_trace.proofs.happens.Ends.{Takes, event_for}
 use Rattle.fed_trace.proofs.effects.Outcome.{moves_no_other}
 use Rattle.fed_trace.proofs.happens.Says.{own, outcome_begins}
-use Rattle.fed_trace.proofs.known.Known.{facts_same}
-use Rattle.fed_trace.proofs.happens.Taken.{Meets, does_at, facts_taken}
+use Rattle.fed_trace.proofs.happens.Gets.{facts_same, others_after}
+use Rattle.fed_trace.proofs.known.Known.{ignored_says}
+use Rattle.fed_trace.proofs.happens.Taken.{Meets, does_at, facts_of_get, facts_taken}
 use Rattle.fed_twin.specs.Script.{names}
 use Rattle.fed_twin.specs.Providers.{Providers}
 use Rattle.fed_twin.specs.Seen.{seen, told}
 use Rattle.fed_twin.specs.Seen as views
 use Rattle.fed_twin.specs.Same.{SameOptions, SameFacts, SameCall, SameWorlds}
 use Rattle.fed_twin.proofs.calls.Call.{AgreeWorlds, Keeps, after_at, keeps_fails, told_effect, configured}
-use Rattle.fed_twin.proofs.calls.Facts.{is_get, facts_left, facts_ignored}
+use Rattle.fed_twin.proofs.calls.Facts.{is_get, facts_left, facts_ignored, others_unseen, get_is_begun}
 use Rattle.fed_twin.proofs.calls.Get.{get_same, own_get}
 use Rattle.fed_twin.proofs.worlds.Grow.{grow, grow_alone}
-use Rattle.fed_twin.proofs.seen.Look.{page_same, pending_same, is_begun_same}
+use Rattle.fed_twin.proofs.seen.Look.{page_same, gets_same}
 use Rattle.fed_twin.proofs.calls.Outcome.{seen_outcome, unseen_outcome, quiet_outcome, cookies_agree, worlds_agree}
-use Rattle.fed_twin.proofs.worlds.Pages.{call_left}
-use Rattle.fed_twin.proofs.calls.Row.{IsQuiet, Unseen, reply_wellknown, reply_config, reply_accounts, reply_assertion, reply_disconnect, chose_by, cancelled_by, still_went, keeps_still, unseen_reply}
+use Rattle.fed_twin.proofs.worlds.Pages.{call_left, call_over}
+use Rattle.fed_twin.proofs.calls.Row.{IsQuiet, Unseen, reply_wellknown, reply_config, reply_accounts, reply_assertion, reply_disconnect}
+use Rattle.fed_twin.proofs.calls.Row.{chose_by, cancelled_by, still_went, keeps_still, unseen_reply}
 
 -- ---- a get
 
@@ -60,89 +62,114 @@ get_ignored : (T : Trace) (line page call : ℕ) (options : GetOptions) (q : ℕ
     → facts_at (with_event T line (events.Get page call options)) q ≡ facts_at T q
 get_ignored T line page call options q effect is m b =
     facts_same T line (events.Get page call options) q (ap (last_said nat_eq stage_change q) is ∙ m)
-    (ap (last_of (begins q)) is ∙ b) (λ f. refl)
+    (ap (last_of (begins q)) is ∙ b) (λ k. refl)
 
--- a get leaves other calls
-get_other : (T : Trace) (line : ℕ) (b : Begun) (o : Outcome) (q : ℕ)
-    → effects_of T (events.Get b.page b.call b.options) ≡ Begin b ∷ outcome_effects (world_at T) (cookies_with T) b.call b.page o
-    → nat_eq q b.call ≡ false → facts_at (with_event T line (events.Get b.page b.call b.options)) q ≡ facts_at T q
-get_other T line b o q is ne =
-    facts_same T line (events.Get b.page b.call b.options) q
-    (ap (last_said nat_eq stage_change q) is ∙ ap (λ x. option_or x None) (moves_no_other (world_at T) (cookies_with T) b.call b.page o q ne))
-    (ap (last_of (begins q)) is ∙ ap (λ x. option_or x (cond (nat_eq q b.call) (Some b) None))
-    (outcome_begins (world_at T) (cookies_with T) b.call b.page q o) ∙ ap (λ t. cond t (Some b) None) ne)
-    (λ f. refl)
+-- a call of a get, as it begins
+get_begun : ℕ → ℕ → Origin → GetOptions → Begun
+get_begun page call origin options = record { call = call; page = page; origin = origin; options = ToGet options }
 
--- what is known of a call that begins is the same
-first_facts : (p : Providers) (b b' : Begun) → SameOptions p b.options b'.options → (stage : Stage)
+module _ (T : Trace) (line page call : ℕ) (origin : Origin) (options : GetOptions) where
+  abbrev the_get : Event
+  the_get = events.Get page call options
+
+  -- what a get does that is taken
+  abbrev Does : Outcome → Type 0
+  Does o =
+      effects_of T the_get ≡ Begin (get_begun page call origin options) ∷ outcome_effects (world_at T) (cookies_with T) GetCall call page o
+
+  -- it leaves other calls
+  get_other : (o : Outcome) (q : ℕ) → Does o → nat_eq q call ≡ false → facts_at (with_event T line the_get) q ≡ facts_at T q
+  unfolding get_begun
+  get_other o q is ne =
+      facts_same T line the_get q
+      (ap (last_said nat_eq stage_change q) is ∙ ap (λ x. option_or x None) (moves_no_other (world_at T) (cookies_with T) GetCall call page
+      o q ne))
+      (ap (last_of (begins q)) is ∙ ap (λ x. option_or x (cond (nat_eq q call) (Some (get_begun page call origin options)) None))
+      (outcome_begins (world_at T) (cookies_with T) GetCall call page q o)
+      ∙ ap (λ t. cond t (Some (get_begun page call origin options)) None) ne)
+      (λ k. refl)
+
+  -- and begins as a fresh one
+  get_facts_begun : (o : Outcome) (stage : Stage) → Does o → o.stage ≡ Some stage
+      → facts_at (with_event T line the_get) call ≡ at_stage stage (fresh call page origin options)
+  unfolding get_begun
+  get_facts_begun o stage is at =
+      ap (option_and_then get_facts) (known_begun T line the_get (get_begun page call origin options) o stage is at)
+      ∙ facts_of_get (at_stage stage (fresh call page origin options))
+
+-- what is known of a get that begins is the same
+first_facts : (p : Providers) (call page page' : ℕ) (origin origin' : Origin) (options options' : GetOptions)
+    → SameOptions p options options' → (stage : Stage)
     → (stage ≡ Ended) ⊎ (stage ≡ Reading)
-    → SameCall p (at_stage stage (known_first b)) (at_stage stage (known_first b'))
-first_facts p b b' h stage (inl e) = subst (λ st. SameCall p (at_stage st (known_first b)) (at_stage st (known_first b'))) (sym e) tt
-first_facts p b b' h stage (inr e) =
-    subst (λ st. SameCall p (at_stage st (known_first b)) (at_stage st (known_first b'))) (sym e)
-    (after_at p (known_first b) (known_first b') Reading (record { options = h; heard = refl; config = refl; known = tt; listed = tt })
+    → SameCall p (at_stage stage (fresh call page origin options)) (at_stage stage (fresh call page' origin' options'))
+first_facts p call page page' origin origin' options options' h stage (inl e) =
+    subst (λ st. SameCall p (at_stage st (fresh call page origin options)) (at_stage st (fresh call page' origin' options'))) (sym e) tt
+first_facts p call page page' origin origin' options options' h stage (inr e) =
+    subst (λ st. SameCall p (at_stage st (fresh call page origin options)) (at_stage st (fresh call page' origin' options'))) (sym e)
+    (after_at p (fresh call page origin options) (fresh call page' origin' options') Reading
+    (record { options = h; heard = refl; config = refl; known = tt; listed = tt })
     (inr (refl, inl refl)))
 
 first_stage : (o : Outcome) → FirstTurn o → (stage : Stage) × (o.stage ≡ Some stage) × ((stage ≡ Ended) ⊎ (stage ≡ Reading))
 first_stage o (FailsFirst failure ended asks gives) = (Ended, ended, inl refl)
 first_stage o (ReadsFirst reading asks gives) = (Reading, reading, inr refl)
 
-begun_as : Trace → ℕ → ℕ → Origin → GetOptions → Begun
-begun_as T page call origin options = record { call = call; page = page; origin = origin; options = options }
-
 -- both gets are taken
-taken_get : (p : Providers) (T U : Trace) → SameWorlds p T U → (line line' : ℕ) (b b' : Begun) → b.call ≡ b'.call
-    → b.page ≡ b'.page → SameOptions p b.options b'.options
-    → length b.options.providers ≡ 1 → (busy : Bool)
-    → effects_of T (events.Get b.page b.call b.options)
-    ≡ Begin b ∷ outcome_effects (world_at T) (cookies_with T) b.call b.page (get_outcome (world_at T) busy b.origin b.options)
-    → effects_of U (events.Get b'.page b'.call b'.options)
-    ≡ Begin b' ∷ outcome_effects (world_at U) (cookies_with U) b'.call b'.page (get_outcome (world_at U) busy b'.origin b'.options)
-    → SameWorlds p (with_event T line (events.Get b.page b.call b.options)) (with_event U line' (events.Get b'.page b'.call b'.options))
-taken_get p T U h line line' b b' call page options one busy is is' =
-    grow p T U h line line' (events.Get b.page b.call b.options) (events.Get b'.page b'.call b'.options)
+taken_get : (p : Providers) (T U : Trace) → SameWorlds p T U → (line line' page call : ℕ) (o u : Origin) (options options' : GetOptions)
+    → SameOptions p options options' → length options.providers ≡ 1 → (busy : Bool)
+    → Does T line page call o options (get_outcome (world_at T) busy o options)
+    → Does U line' page call u options' (get_outcome (world_at U) busy u options')
+    → SameWorlds p (with_event T line (events.Get page call options)) (with_event U line' (events.Get page call options'))
+unfolding get_begun
+taken_get p T U h line line' page call o u options options' same one busy is is' =
+    grow p T U h line line' (events.Get page call options) (events.Get page call options')
     (ap (filter_map (seen p)) is ∙ seen_same ∙ sym (ap (filter_map (seen p)) is'))
-    (λ q. calls q (nat_eq q b.call) refl)
+    (λ q. calls q (nat_eq q call) refl)
   where
-    o : Outcome
-    o = get_outcome (world_at T) busy b.origin b.options
+    first : Outcome
+    first = get_outcome (world_at T) busy o options
 
-    o' : Outcome
-    o' = get_outcome (world_at U) busy b'.origin b'.options
+    first' : Outcome
+    first' = get_outcome (world_at U) busy u options'
 
-    one_outcome : o ≡ o'
-    one_outcome = get_same p (world_at T) (world_at U) (worlds_agree p T U h) busy b.origin b'.origin b.options b'.options options
+    one_outcome : first ≡ first'
+    one_outcome = get_same p (world_at T) (world_at U) (worlds_agree p T U h) busy o u options options' same
 
-    seen_same : filter_map (seen p) (Begin b ∷ outcome_effects (world_at T) (cookies_with T) b.call b.page o)
-        ≡ filter_map (seen p) (Begin b' ∷ outcome_effects (world_at U) (cookies_with U) b'.call b'.page o')
+    seen_same : filter_map (seen p) (Begin (get_begun page call o options)
+        ∷ outcome_effects (world_at T) (cookies_with T) GetCall call page first)
+        ≡ filter_map (seen p) (Begin (get_begun page call u options')
+        ∷ outcome_effects (world_at U) (cookies_with U) GetCall call page first')
     seen_same =
-        ap (λ xs. views.Begin b.call b.page ∷ xs)
-        (seen_outcome p (world_at T) (world_at U) (cookies_with T) (cookies_with U) (cookies_agree p T U h) b.call b.page b'.page o o'
-        (record { stage = ap (λ x. x.stage) one_outcome; told = ap (λ x. filter_map told_effect x.effects) one_outcome; own = own_get p (world_at T) busy b.origin b.options }))
-        ∙ ap₂ (λ c g. views.Begin c g ∷ filter_map (seen p) (outcome_effects (world_at U) (cookies_with U) c b'.page o')) call page
+        ap (λ xs. views.Begin call page ∷ xs)
+        (seen_outcome p (world_at T) (world_at U) (cookies_with T) (cookies_with U) (cookies_agree p T U h) call page page first first'
+        (record {
+          stage = ap (λ x. x.stage) one_outcome;
+          told = ap (λ x. filter_map told_effect x.effects) one_outcome;
+          own =
+              own_get p (world_at T) busy o options;
+        }))
 
-    calls : (q : ℕ) (own : Bool) → nat_eq q b.call ≡ own
-        → SameCall p (facts_at (with_event T line (events.Get b.page b.call b.options)) q)
-        (facts_at (with_event U line' (events.Get b'.page b'.call b'.options)) q)
+    calls : (q : ℕ) (own : Bool) → nat_eq q call ≡ own
+        → SameCall p (facts_at (with_event T line (events.Get page call options)) q)
+        (facts_at (with_event U line' (events.Get page call options')) q)
     calls q false ne =
-        call_left p T U h q _ _ (get_other T line b o q is ne) (get_other U line' b' o' q is' (ap (nat_eq q) (sym call) ∙ ne))
+        call_left p T U h q _ _ (get_other T line page call o options first q is ne)
+        (get_other U line' page call u options' first' q is' ne)
     calls q true key =
-        let same : b.call ≡ q = grind (arith, nat_tests, key) in
-        let first = first_stage o (first_turn (world_at T) busy b.origin b.options one) in
-        let left = facts_begun T line (events.Get b.page b.call b.options) b o first.0 is first.1 in
-        let right = facts_begun U line' (events.Get b'.page b'.call b'.options) b' o' first.0 is'
-        (ap (λ x. x.stage) (sym one_outcome) ∙ first.1) in
-        subst (λ c. SameCall p (facts_at (with_event T line (events.Get b.page b.call b.options)) c)
-        (facts_at (with_event U line' (events.Get b'.page b'.call b'.options)) q)) same
-        (subst (λ c. SameCall p (facts_at (with_event T line (events.Get b.page b.call b.options)) b.call)
-        (facts_at (with_event U line' (events.Get b'.page b'.call b'.options)) c)) (sym call ∙ same)
-        (subst (λ x. SameCall p x (facts_at (with_event U line' (events.Get b'.page b'.call b'.options)) b'.call)) (sym left)
-        (subst (λ x. SameCall p (at_stage first.0 (known_first b)) x) (sym right) (first_facts p b b' options first.0 first.2))))
+        let key_is : call ≡ q = grind (arith, nat_tests, key) in
+        let stage = first_stage first (first_turn (world_at T) busy o (ToGet options) one) in
+        let left = get_facts_begun T line page call o options first stage.0 is stage.1 in
+        let right = get_facts_begun U line' page call u options' first' stage.0 is' (ap (λ x. x.stage) (sym one_outcome) ∙ stage.1) in
+        subst (λ c. SameCall p (facts_at (with_event T line (events.Get page call options)) c)
+        (facts_at (with_event U line' (events.Get page call options')) c)) key_is
+        (subst (λ x. SameCall p x (facts_at (with_event U line' (events.Get page call options')) call)) (sym left)
+        (subst (λ x. SameCall p (at_stage stage.0 (fresh call page o options)) x) (sym right)
+        (first_facts p call page page o u options options' same stage.0 stage.2)))
 
 pub step_get : (p : Providers) (T U : Trace) → SameWorlds p T U → (line line' page call : ℕ) (options options' : GetOptions)
     → SameOptions p options options' → length options.providers ≡ 1
     → SameWorlds p (with_event T line (events.Get page call options)) (with_event U line' (events.Get page call options'))
-unfolding begun_as
+unfolding get_begun
 step_get p T U h line line' page call options options' same one =
     go (page_at T page) (page_at U page) refl refl (page_same p T U page h.seen)
   where
@@ -153,15 +180,15 @@ step_get p T U h line line' page call options options' same one =
     e' = events.Get page call options'
 
     by : (o : Option Origin) → page_at T page ≡ o
-        → effects_of T e ≡ get_effects (world_at T) (cookies_with T) o (is_busy page (pending T)) page call options
-    by o is = ap (λ x. get_effects (world_at T) (cookies_with T) x (is_busy page (pending T)) page call options) is
+        → effects_of T e ≡ begin_effects (world_at T) (cookies_with T) o (is_busy page (gets T)) page call (ToGet options)
+    by o is = ap (λ x. begin_effects (world_at T) (cookies_with T) x (is_busy page (gets T)) page call (ToGet options)) is
 
     by' : (o : Option Origin) → page_at U page ≡ o
-        → effects_of U e' ≡ get_effects (world_at U) (cookies_with U) o (is_busy page (pending U)) page call options'
-    by' o is = ap (λ x. get_effects (world_at U) (cookies_with U) x (is_busy page (pending U)) page call options') is
+        → effects_of U e' ≡ begin_effects (world_at U) (cookies_with U) o (is_busy page (gets U)) page call (ToGet options')
+    by' o is = ap (λ x. begin_effects (world_at U) (cookies_with U) x (is_busy page (gets U)) page call (ToGet options')) is
 
-    busy_same : is_busy page (pending T) ≡ is_busy page (pending U)
-    busy_same = ap (is_busy page) (pending_same p T U h.seen)
+    busy_same : is_busy page (gets T) ≡ is_busy page (gets U)
+    busy_same = ap (is_busy page) (gets_same p T U h.seen)
 
     trusted : (o u : Origin) → page_at T page ≡ Some o → page_at U page ≡ Some u → (a b : Bool) → is_trustworthy o ≡ a
         → is_trustworthy u ≡ b → a ≡ b
@@ -170,20 +197,20 @@ step_get p T U h line line' page call options options' same one =
     trusted o u is is' false true t t' same_trust = absurd (cc)
     trusted o u is is' false false t t' same_trust =
         let none = by (Some o) is
-        ∙ ap (λ x. standing_get (world_at T) (cookies_with T) x (is_busy page (pending T)) (begun_as T page call o options)) t in
+        ∙ ap (λ x. standing_call (world_at T) (cookies_with T) x (is_busy page (gets T)) (get_begun page call o options)) t in
         let none' = by' (Some u) is'
-        ∙ ap (λ x. standing_get (world_at U) (cookies_with U) x (is_busy page (pending U)) (begun_as U page call u options')) t' in
+        ∙ ap (λ x. standing_call (world_at U) (cookies_with U) x (is_busy page (gets U)) (get_begun page call u options')) t' in
         grow p T U h line line' e e' (ap (filter_map (seen p)) none ∙ sym (ap (filter_map (seen p)) none'))
         (λ q. call_left p T U h q _ _ (get_ignored T line page call options q _ none refl refl)
         (get_ignored U line' page call options' q _ none' refl refl))
     trusted o u is is' true true t t' same_trust =
-        taken_get p T U h line line' (begun_as T page call o options) (begun_as U page call u options') refl refl same one
-        (is_busy page (pending T))
-        (by (Some o) is ∙ ap (λ x. standing_get (world_at T) (cookies_with T) x (is_busy page (pending T))
-        (begun_as T page call o options)) t)
-        (by' (Some u) is' ∙ ap (λ x. standing_get (world_at U) (cookies_with U) x (is_busy page (pending U))
-        (begun_as U page call u options')) t'
-        ∙ ap (λ x. Begin (begun_as U page call u options') ∷ outcome_effects (world_at U) (cookies_with U) call page
+        taken_get p T U h line line' page call o u options options' same one
+        (is_busy page (gets T))
+        (by (Some o) is ∙ ap (λ x. standing_call (world_at T) (cookies_with T) x (is_busy page (gets T))
+        (get_begun page call o options)) t)
+        (by' (Some u) is' ∙ ap (λ x. standing_call (world_at U) (cookies_with U) x (is_busy page (gets U))
+        (get_begun page call u options')) t'
+        ∙ ap (λ x. Begin (get_begun page call u options') ∷ outcome_effects (world_at U) (cookies_with U) GetCall call page
         (get_outcome (world_at U) x u options')) (sym busy_same))
 
     go : (o u : Option Origin) → page_at T page ≡ o → page_at U page ≡ u
@@ -211,7 +238,7 @@ pub record IsInput (event : Event) (call : ℕ) (i : Input) : Type 0 where
   pub said : (q : ℕ) → input_to q event ≡ cond (nat_eq q call) (Some i) None
   pub is_event : Some event ≡ event_for call i
   pub effects : (T : Trace)
-      → effects_of T event ≡ input_effects (world_at T) (cookies_with T) (is_begun T call) call (facts_at T call) i
+      → effects_of T event ≡ input_effects (world_at T) (cookies_with T) (is_begun T call) call (known_at T call) i
   pub stands : (page : ℕ) → replaces page event ≡ false
   pub no_get : is_get event ≡ false
 
@@ -221,24 +248,6 @@ other_left : (T : Trace) (line : ℕ) (event : Event) (call : ℕ) (i : Input) �
     → facts_at (with_event T line event) q ≡ facts_at T q
 other_left T line event call i is q ne = facts_left T line event q (is.said q ∙ ap (λ b. cond b (Some i) None) ne) is.stands is.no_get
 
-ignored_says : (world : World) (input : Option Input) (f : Facts) → with_said world true input f ≡ f
-ignored_says world None f = refl
-ignored_says world (Some input) f = refl
-
--- the call never began, and nothing is done
-unbegun_effects : (T : Trace) (event : Event) (call : ℕ) (i : Input) → IsInput event call i → is_begun T call ≡ false
-    → effects_of T event ≡ Ignored NoCall ∷ []
-unbegun_effects T event call i is none =
-    is.effects T ∙ ap (λ b. input_effects (world_at T) (cookies_with T) b call (facts_at T call) i) none
-
-unbegun_left : (T : Trace) (line : ℕ) (event : Event) (call : ℕ) (i : Input) → IsInput event call i → is_begun T call ≡ false
-    → (q : ℕ)
-    → facts_at (with_event T line event) q ≡ facts_at T q
-unbegun_left T line event call i is none q =
-    facts_ignored T line event q NoCall (unbegun_effects T event call i is none)
-    (λ f. ap (λ es. with_said (world_at T) (list_any is_ignored es) (input_to q event) f)
-    (unbegun_effects T event call i is none) ∙ ignored_says (world_at T) (input_to q event) f)
-
 -- the call takes it
 takes : (T : Trace) (event : Event) (call : ℕ) (i : Input) → IsInput event call i → is_begun T call ≡ true → Takes T event call
 takes T event call i is begun =
@@ -247,8 +256,33 @@ takes T event call i is begun =
       input = i;
       is_event = is.is_event;
       input_is = is.said call ∙ ap (λ b. cond b (Some i) None) (own call);
-      effects = is.effects T ∙ ap (λ b. input_effects (world_at T) (cookies_with T) b call (facts_at T call) i) begun;
+      effects = is.effects T ∙ ap (λ b. input_effects (world_at T) (cookies_with T) b call (known_at T call) i) begun;
     }
+
+-- an input to a call that is no get that goes on: nothing is seen of it, and the call is none afterwards
+record IsOther (p : Providers) (T : Trace) (line : ℕ) (event : Event) (call : ℕ) : Type 0 where
+  unseen : filter_map (seen p) (effects_of T event) ≡ []
+  after : facts_at (with_event T line event) call ≡ None
+
+other_input : (p : Providers) (T : Trace) (line : ℕ) (event : Event) (call : ℕ) (i : Input) → IsInput event call i → facts_at T call ≡ None
+    → IsOther p T line event call
+other_input p T line event call i is none = go (is_begun T call) refl
+  where
+    go : (begun : Bool) → is_begun T call ≡ begun → IsOther p T line event call
+    go true begun =
+        let t = takes T event call i is begun in
+        record { unseen = others_unseen p T event call t none; after = others_after T line event call t none }
+    go false begun =
+        let effects : effects_of T event ≡ Ignored NoCall ∷ [] =
+        is.effects T ∙ ap (λ b. input_effects (world_at T) (cookies_with T) b call (known_at T call) i) begun in
+        record {
+          unseen = ap (filter_map (seen p)) effects;
+          after =
+              facts_ignored T line event call NoCall effects
+              (λ k. ap (λ es. with_said (world_at T) (list_any is_ignored es) (input_to call event) k) effects
+              ∙ ignored_says (world_at T) (input_to call event) k)
+              ∙ none;
+        }
 
 -- what a row of the table owes
 abbrev pub OwesRow : Providers → Trace → Trace → Input → Input → Type 0
@@ -262,87 +296,62 @@ pub step_input : (p : Providers) (T U : Trace) → SameWorlds p T U
     → list_any names (effects_of T event) ≡ false → list_any names (effects_of U event') ≡ false
     → SameWorlds p (with_event T line event) (with_event U line' event')
 unfolding takes
-step_input p T U h line line' event event' call i i' is is' row quiet quiet' = go (is_begun T call) refl
+step_input p T U h line line' event event' call i i' is is' row quiet quiet' =
+    known (facts_at T call) (facts_at U call) refl refl (h.calls call)
   where
-    others : (q : ℕ) → nat_eq q call ≡ false
+    -- the call that the event names, and others
+    each : SameCall p (facts_at (with_event T line event) call) (facts_at (with_event U line' event') call) → (q : ℕ)
         → SameCall p (facts_at (with_event T line event) q) (facts_at (with_event U line' event') q)
-    others q ne = call_left p T U h q _ _ (other_left T line event call i is q ne) (other_left U line' event' call i' is' q ne)
+    each here q = go (nat_eq q call) refl
+      where
+        go : (own : Bool) → nat_eq q call ≡ own → SameCall p (facts_at (with_event T line event) q) (facts_at (with_event U line' event') q)
+        go false ne = call_left p T U h q _ _ (other_left T line event call i is q ne) (other_left U line' event' call i' is' q ne)
+        go true key =
+            let key_is : call ≡ q = grind (arith, nat_tests, key) in
+            subst (λ c. SameCall p (facts_at (with_event T line event) c) (facts_at (with_event U line' event') c)) key_is here
 
     -- by what is known of the call
-    known : is_begun T call ≡ true → is_begun U call ≡ true → (o o' : Option Facts) → facts_at T call ≡ o
-        → facts_at U call ≡ o' → SameCall p o o'
+    known : (o o' : Option Facts) → facts_at T call ≡ o → facts_at U call ≡ o' → SameCall p o o'
         → SameWorlds p (with_event T line event) (with_event U line' event')
-    known begun begun' None (Some f') found found' same = absurd same
-    known begun begun' (Some f) None found found' same = absurd same
-    known begun begun' None None found found' same =
-        grow p T U h line line' event event' (ap (filter_map (seen p)) none ∙ sym (ap (filter_map (seen p)) none'))
-        (λ q. over q (nat_eq q call) refl)
-      where
-        t : Takes T event call
-        t = takes T event call i is begun
-
-        t' : Takes U event' call
-        t' = takes U event' call i' is' begun'
-
-        none : effects_of T event ≡ Ignored CallEnded ∷ []
-        none = t.effects ∙ ap (λ o. outcome_effects (world_at T) (cookies_with T) call (page_of o) (call_row (world_at T) o i)) found
-
-        none' : effects_of U event' ≡ Ignored CallEnded ∷ []
-        none' = t'.effects ∙ ap (λ o. outcome_effects (world_at U) (cookies_with U) call (page_of o) (call_row (world_at U) o i')) found'
-
-        over : (q : ℕ) (own : Bool) → nat_eq q call ≡ own
-            → SameCall p (facts_at (with_event T line event) q) (facts_at (with_event U line' event') q)
-        over q false ne = others q ne
-        over q true key =
-            let key_is : call ≡ q = grind (arith, nat_tests, key) in
-            subst (λ c. SameCall p (facts_at (with_event T line event) c) (facts_at (with_event U line' event') c)) key_is
-            (subst (λ x. SameCall p x (facts_at (with_event U line' event') call)) (sym (still_over T line event call t found))
-            (subst (SameCall p None) (sym (still_over U line' event' call t' found')) tt))
-    known begun begun' (Some f) (Some f') found found' same =
+    known None (Some f') found found' same = absurd same
+    known (Some f) None found found' same = absurd same
+    known None None found found' same =
+        let other = other_input p T line event call i is found in
+        let other' = other_input p U line' event' call i' is' found' in
+        grow p T U h line line' event event' (other.unseen ∙ sym other'.unseen) (each (call_over p _ _ other.after other'.after))
+    known (Some f) (Some f') found found' same =
         grow p T U h line line' event event'
         (ap (filter_map (seen p)) does
-        ∙ seen_outcome p (world_at T) (world_at U) (cookies_with T) (cookies_with U) (cookies_agree p T U h) call f.page f'.page (input_row (world_at T) f i)
+        ∙ seen_outcome p (world_at T) (world_at U) (cookies_with T) (cookies_with U) (cookies_agree p T U h) call f.page f'.page
+        (input_row (world_at T) f i)
         (input_row (world_at U) f' i') kept.outcome
         ∙ sym (ap (filter_map (seen p)) does'))
-        (λ q. after q (nat_eq q call) refl)
+        (each after)
       where
         m : Meets T event call f
-        m = record { takes = takes T event call i is begun; found = found }
+        m = record { takes = takes T event call i is (get_is_begun T call f found); found = found }
 
         m' : Meets U event' call f'
-        m' = record { takes = takes U event' call i' is' begun'; found = found' }
+        m' = record { takes = takes U event' call i' is' (get_is_begun U call f' found'); found = found' }
 
-        does : effects_of T event ≡ outcome_effects (world_at T) (cookies_with T) call f.page (input_row (world_at T) f i)
+        does : effects_of T event ≡ outcome_effects (world_at T) (cookies_with T) GetCall call f.page (input_row (world_at T) f i)
         does = does_at T event call f m
 
-        does' : effects_of U event' ≡ outcome_effects (world_at U) (cookies_with U) call f'.page (input_row (world_at U) f' i')
+        does' : effects_of U event' ≡ outcome_effects (world_at U) (cookies_with U) GetCall call f'.page (input_row (world_at U) f' i')
         does' = does_at U event' call f' m'
 
         kept : Keeps p (world_at T) (world_at U) f f' i i' (input_row (world_at T) f i) (input_row (world_at U) f' i')
         kept =
             row f f' same
             (quiet_outcome (world_at T) (cookies_with T) call f.page (input_row (world_at T) f i) (sym (ap (list_any names) does) ∙ quiet))
-            (quiet_outcome (world_at U) (cookies_with U) call f'.page (input_row (world_at U) f' i') (sym (ap (list_any names) does') ∙ quiet'))
+            (quiet_outcome (world_at U) (cookies_with U) call f'.page (input_row (world_at U) f' i') (sym (ap (list_any names) does')
+            ∙ quiet'))
 
-        after : (q : ℕ) (own : Bool) → nat_eq q call ≡ own
-            → SameCall p (facts_at (with_event T line event) q) (facts_at (with_event U line' event') q)
-        after q false ne = others q ne
-        after q true key =
-            let key_is : call ≡ q = grind (arith, nat_tests, key) in
-            subst (λ c. SameCall p (facts_at (with_event T line event) c) (facts_at (with_event U line' event') c)) key_is
-            (subst (λ x. SameCall p x (facts_at (with_event U line' event') call)) (sym (facts_taken T line event call f m))
+        after : SameCall p (facts_at (with_event T line event) call) (facts_at (with_event U line' event') call)
+        after =
+            subst (λ x. SameCall p x (facts_at (with_event U line' event') call)) (sym (facts_taken T line event call f m))
             (subst (SameCall p (facts_after (world_at T) f i (input_row (world_at T) f i)))
-            (sym (facts_taken U line' event' call f' m')) kept.after))
-
-    go : (begun : Bool) → is_begun T call ≡ begun → SameWorlds p (with_event T line event) (with_event U line' event')
-    go false none =
-        let none' = sym (is_begun_same p T U call h.seen) ∙ none in
-        grow p T U h line line' event event'
-        (ap (filter_map (seen p)) (unbegun_effects T event call i is none) ∙ sym
-        (ap (filter_map (seen p)) (unbegun_effects U event' call i' is' none')))
-        (λ q. call_left p T U h q _ _ (unbegun_left T line event call i is none q) (unbegun_left U line' event' call i' is' none' q))
-    go true begun =
-        known begun (sym (is_begun_same p T U call h.seen) ∙ begun) (facts_at T call) (facts_at U call) refl refl (h.calls call)
+            (sym (facts_taken U line' event' call f' m')) kept.after)
 
 -- ---- what each row of the table owes
 
@@ -433,7 +442,7 @@ is_abort call = record { said = λ q. refl; is_event = refl; effects = λ T. ref
 pub step_metadata : (p : Providers) (T U : Trace) → SameWorlds p T U → (line call place : ℕ) (raw : List ℕ)
     → SameWorlds p (with_event T line (events.Reply call place kinds.Metadata raw)) U
 unfolding takes
-step_metadata p T U h line call place raw = go (is_begun T call) refl
+step_metadata p T U h line call place raw = known (facts_at T call) (facts_at U call) refl refl (h.calls call)
   where
     event : Event
     event = events.Reply call place kinds.Metadata raw
@@ -444,56 +453,37 @@ step_metadata p T U h line call place raw = go (is_begun T call) refl
     is : IsInput event call i
     is = is_reply call place kinds.Metadata raw
 
-    -- a call that it leaves
-    left_alone : (q : ℕ) → facts_at (with_event T line event) q ≡ facts_at T q
+    -- the call that it names, and others
+    each : SameCall p (facts_at (with_event T line event) call) (facts_at U call) → (q : ℕ)
         → SameCall p (facts_at (with_event T line event) q) (facts_at U q)
-    left_alone q e = subst (λ x. SameCall p x (facts_at U q)) (sym e) (h.calls q)
-
-    known : is_begun T call ≡ true → (o : Option Facts) (g : Option Facts) → facts_at T call ≡ o → facts_at U call ≡ g
-        → SameCall p o g
-        → SameWorlds p (with_event T line event) U
-    known begun None g found found' same =
-        grow_alone p T U h line event
-        (ap (filter_map (seen p))
-        (t.effects ∙ ap (λ o. outcome_effects (world_at T) (cookies_with T) call (page_of o) (call_row (world_at T) o i)) found))
-        (λ q. over q (nat_eq q call) refl)
+    each here q = go (nat_eq q call) refl
       where
-        t : Takes T event call
-        t = takes T event call i is begun
-
-        over : (q : ℕ) (own : Bool) → nat_eq q call ≡ own → SameCall p (facts_at (with_event T line event) q) (facts_at U q)
-        over q false ne = left_alone q (other_left T line event call i is q ne)
-        over q true key =
+        go : (own : Bool) → nat_eq q call ≡ own → SameCall p (facts_at (with_event T line event) q) (facts_at U q)
+        go false ne = subst (λ x. SameCall p x (facts_at U q)) (sym (other_left T line event call i is q ne)) (h.calls q)
+        go true key =
             let key_is : call ≡ q = grind (arith, nat_tests, key) in
-            subst (λ c. SameCall p (facts_at (with_event T line event) c) (facts_at U c)) key_is
-            (left_alone call (still_over T line event call t found ∙ sym found))
-    known begun (Some f) None found found' same = absurd same
-    known begun (Some f) (Some g) found found' same =
+            subst (λ c. SameCall p (facts_at (with_event T line event) c) (facts_at U c)) key_is here
+
+    known : (o : Option Facts) (g : Option Facts) → facts_at T call ≡ o → facts_at U call ≡ g → SameCall p o g
+        → SameWorlds p (with_event T line event) U
+    known (Some f) None found found' same = absurd same
+    known None (Some g) found found' same = absurd same
+    known None None found found' same =
+        let other = other_input p T line event call i is found in
+        grow_alone p T U h line event other.unseen (each (call_over p _ _ other.after found'))
+    known (Some f) (Some g) found found' same =
         grow_alone p T U h line event
-        (ap (filter_map (seen p)) does ∙ unseen_outcome p (world_at T) (cookies_with T) call f.page
+        (ap (filter_map (seen p)) (does_at T event call f m) ∙ unseen_outcome p (world_at T) (cookies_with T) call f.page
         (input_row (world_at T) f i) unseen.told unseen.stays)
-        (λ q. after q (nat_eq q call) refl)
+        (each after)
       where
         m : Meets T event call f
-        m = record { takes = takes T event call i is begun; found = found }
-
-        does : effects_of T event ≡ outcome_effects (world_at T) (cookies_with T) call f.page (input_row (world_at T) f i)
-        does = does_at T event call f m
+        m = record { takes = takes T event call i is (get_is_begun T call f found); found = found }
 
         unseen : Unseen p (world_at T) f i (input_row (world_at T) f i) g
         unseen = unseen_reply p (world_at T) f g same place raw f.stage refl
 
-        after : (q : ℕ) (own : Bool) → nat_eq q call ≡ own → SameCall p (facts_at (with_event T line event) q) (facts_at U q)
-        after q false ne = left_alone q (other_left T line event call i is q ne)
-        after q true key =
-            let key_is : call ≡ q = grind (arith, nat_tests, key) in
-            subst (λ c. SameCall p (facts_at (with_event T line event) c) (facts_at U c)) key_is
-            (subst (λ x. SameCall p x (facts_at U call)) (sym (facts_taken T line event call f m))
-            (subst (SameCall p (facts_after (world_at T) f i (input_row (world_at T) f i))) (sym found') unseen.after))
-
-    go : (begun : Bool) → is_begun T call ≡ begun → SameWorlds p (with_event T line event) U
-    go false none =
-        grow_alone p T U h line event
-        (ap (filter_map (seen p))
-        (unbegun_effects T event call i is none)) (λ q. left_alone q (unbegun_left T line event call i is none q))
-    go true begun = known begun (facts_at T call) (facts_at U call) refl refl (h.calls call)
+        after : SameCall p (facts_at (with_event T line event) call) (facts_at U call)
+        after =
+            subst (λ x. SameCall p x (facts_at U call)) (sym (facts_taken T line event call f m))
+            (subst (SameCall p (facts_after (world_at T) f i (input_row (world_at T) f i))) (sym found') unseen.after)

@@ -1,5 +1,6 @@
 -- Two traces that grow together stay the same, as far as providers can tell, until either asks for a token.
-use Rattle.std.proofs.Common.{◌≡◌, ℕ, zero, suc, Bool, true, false, cond, ◌||◌, ◌⊎◌, inl, inr, List, [], ◌∷◌, ◌++◌, map, zip, length, Option, refl, sym, ap, subst, arith}
+use Rattle.std.proofs.Common.{◌≡◌, ℕ, zero, suc, Bool, true, false, cond, ◌||◌, ◌⊎◌, inl, inr, List, [], ◌∷◌, ◌++◌, map, zip, length}
+use Rattle.std.proofs.Common.{Option, refl, sym, ap, subst, arith}
 use Rattle.std.proofs.lemmas.Slice.Eq.{bytes_eq-Decides}
 use Rattle.std.specs.Prelude.{bytes_eq, if◌then◌else◌}
 use Rattle.std.specs.List.{list_any, AllByRecursion, AllZip}
@@ -13,57 +14,62 @@ use Rattle.fed_consent.specs.declared.table.input.Input.TheVariants as inputs
 use Rattle.fed_script.specs.declared.event.Event.{Event}
 use Rattle.fed_script.specs.declared.event.Event.TheVariants as events
 use Rattle.fed_script.specs.declared.event.Numbered.{Numbered}
-use Rattle.fed_script.specs.Script.{Script, AreRead}
+use Rattle.fed_script.specs.Script.{Script, AreRead, IsRead}
 use Rattle.fed_script.specs.Used.{UsedState, unused, used_after, HasOneProvider}
-use Rattle.fed_trace.specs.Row.{effects_of, with_event}
+use Rattle.fed_trace.specs.Row.{IsRun, effects_of, with_event}
 use Rattle.fed_trace.specs.Trace.{Trace}
 use Rattle.fed_trace.specs.OfScript.{start, with_events}
+use Rattle.fed_trace.proofs.runs.Scripts.{script_runs}
 use Rattle.fed_twin.specs.Script.{is_kept, kept_events, up_to, trace_to, names, AreQuiet}
 use Rattle.fed_twin.specs.Providers.{Providers, is_provider}
 use Rattle.fed_twin.specs.Same.{SameProvider, SameOptions, SameWorlds}
-use Rattle.fed_twin.specs.Pairs.{Alike, Haves, Times, Loads, FarLoads, Closes, Statuses, Gets, Aborts, Goings, Cancels, Choices, WellKnowns, Configs, AccountLists, Assertions, Disconnects, Pairs, Start, Both, Left, Right}
+use Rattle.fed_twin.specs.Pairs.{Alike, Haves, Times, Loads, FarLoads, Closes, Statuses, Gets, Aborts, Goings, Cancels, Choices, WellKnowns}
+use Rattle.fed_twin.specs.Pairs.{Configs, AccountLists, Assertions, Disconnects, Pairs, Start, Both, Left, Right}
 use Rattle.fed_twin.specs.Twin.{kind_of, SharesProvider, SharesBytes, SharesMembers, SharesLoad, AreFar, configs_in, configs, providers_of}
 use Rattle.fed_twin.specs.Laws.{TwoWorlds}
 use Rattle.fed_twin.proofs.worlds.Flip.{flip_worlds}
 use Rattle.fed_twin.proofs.seen.Look.{sign_in_same}
-use Rattle.fed_twin.proofs.worlds.Pages.{step_have, step_at, step_status, step_close, step_load, step_far_load}
-use Rattle.fed_twin.proofs.worlds.Steps.{step_get, step_input, step_metadata, row_wellknown, row_config, row_accounts, row_assertion, row_disconnect, row_choose, row_go_on, row_cancel, row_abort, is_reply, is_choose, is_go_on, is_cancel, is_abort}
+use Rattle.fed_twin.proofs.worlds.Pages.{AreRuns, step_have, step_at, step_status, step_close, step_load, step_far_load}
+use Rattle.fed_twin.proofs.worlds.Steps.{step_get, step_input, step_metadata, row_wellknown, row_config, row_accounts, row_assertion}
+use Rattle.fed_twin.proofs.worlds.Steps.{row_disconnect, row_choose, row_go_on, row_cancel, row_abort, is_reply, is_choose, is_go_on}
+use Rattle.fed_twin.proofs.worlds.Steps.{is_cancel, is_abort}
 
 -- ---- one row more
 
-step_alike : (p : Providers) (T U : Trace) → SameWorlds p T U → (line line' : ℕ) {event event' : Event} → Alike p event event'
+step_alike : (p : Providers) (T U : Trace) → SameWorlds p T U → AreRuns T U → (line line' : ℕ) {event event' : Event} → Alike p event event'
     → list_any names (effects_of T event) ≡ false → list_any names (effects_of U event') ≡ false
     → SameWorlds p (with_event T line event) (with_event U line' event')
-step_alike p T U h line line' (Haves have) q q' = step_have p T U h line line' have
-step_alike p T U h line line' (Times time) q q' = step_at p T U h line line' time
-step_alike p T U h line line' (Loads page url raw) q q' = step_load p T U h line line' page url raw
-step_alike p T U h line line' (FarLoads page url url' raw raw' far) q q' = step_far_load p T U h line line' page url url' raw raw' far
-step_alike p T U h line line' (Closes page) q q' = step_close p T U h line line' page
-step_alike p T U h line line' (Statuses page status) q q' = step_status p T U h line line' page status
-step_alike p T U h line line' (Gets page call options options' same one) q q' =
+step_alike p T U h runs line line' (Haves have) q q' = step_have p T U h line line' have
+step_alike p T U h runs line line' (Times time) q q' = step_at p T U h line line' time
+step_alike p T U h runs line line' (Loads page url raw) q q' = step_load p T U h runs line line' page url raw
+step_alike p T U h runs line line' (FarLoads page url url' raw raw' far) q q' =
+    step_far_load p T U h runs line line' page url url' raw raw' far
+step_alike p T U h runs line line' (Closes page) q q' = step_close p T U h runs line line' page
+step_alike p T U h runs line line' (Statuses page status) q q' = step_status p T U h line line' page status
+step_alike p T U h runs line line' (Gets page call options options' same one) q q' =
     step_get p T U h line line' page call options options' same one
-step_alike p T U h line line' (Aborts call) q q' =
+step_alike p T U h runs line line' (Aborts call) q q' =
     step_input p T U h line line' _ _ call inputs.Abort inputs.Abort (is_abort call) (is_abort call) (row_abort p T U h) q q'
-step_alike p T U h line line' (Goings call) q q' =
+step_alike p T U h runs line line' (Goings call) q q' =
     step_input p T U h line line' _ _ call inputs.GoOn inputs.GoOn (is_go_on call) (is_go_on call) (row_go_on p T U h) q q'
-step_alike p T U h line line' (Cancels call) q q' =
+step_alike p T U h runs line line' (Cancels call) q q' =
     step_input p T U h line line' _ _ call inputs.Cancel inputs.Cancel (is_cancel call) (is_cancel call) (row_cancel p T U h) q q'
-step_alike p T U h line line' (Choices call place id) q q' =
+step_alike p T U h runs line line' (Choices call place id) q q' =
     step_input p T U h line line' _ _ call (inputs.Choose place id) (inputs.Choose place id) (is_choose call place id)
     (is_choose call place id) (row_choose p T U h place id) q q'
-step_alike p T U h line line' (WellKnowns call place raw) q q' =
+step_alike p T U h runs line line' (WellKnowns call place raw) q q' =
     step_input p T U h line line' _ _ call (inputs.Reply place kinds.WellKnown raw) (inputs.Reply place kinds.WellKnown raw)
     (is_reply call place kinds.WellKnown raw) (is_reply call place kinds.WellKnown raw) (row_wellknown p T U h place raw) q q'
-step_alike p T U h line line' (Configs call place raw) q q' =
+step_alike p T U h runs line line' (Configs call place raw) q q' =
     step_input p T U h line line' _ _ call (inputs.Reply place kinds.Config raw) (inputs.Reply place kinds.Config raw)
     (is_reply call place kinds.Config raw) (is_reply call place kinds.Config raw) (row_config p T U h place raw) q q'
-step_alike p T U h line line' (AccountLists call place raw) q q' =
+step_alike p T U h runs line line' (AccountLists call place raw) q q' =
     step_input p T U h line line' _ _ call (inputs.Reply place kinds.Accounts raw) (inputs.Reply place kinds.Accounts raw)
     (is_reply call place kinds.Accounts raw) (is_reply call place kinds.Accounts raw) (row_accounts p T U h place raw) q q'
-step_alike p T U h line line' (Assertions call place raw raw') q q' =
+step_alike p T U h runs line line' (Assertions call place raw raw') q q' =
     step_input p T U h line line' _ _ call (inputs.Reply place kinds.Assertion raw) (inputs.Reply place kinds.Assertion raw')
     (is_reply call place kinds.Assertion raw) (is_reply call place kinds.Assertion raw') (row_assertion p T U h place raw raw') q q'
-step_alike p T U h line line' (Disconnects call place raw raw') q q' =
+step_alike p T U h runs line line' (Disconnects call place raw raw') q q' =
     step_input p T U h line line' _ _ call (inputs.Reply place kinds.Disconnect raw) (inputs.Reply place kinds.Disconnect raw')
     (is_reply call place kinds.Disconnect raw) (is_reply call place kinds.Disconnect raw') (row_disconnect p T U h place raw raw') q q'
 
@@ -88,12 +94,25 @@ step_alone p T U h line (events.Choose call place id) out = absurd (cc)
 step_alone p T U h line (events.SetStatus page status) out = absurd (cc)
 
 -- the induction
-pub stay_same : (p : Providers) {T U : Trace} → Pairs p (Alike p) T U → AreQuiet T.rows → AreQuiet U.rows → SameWorlds p T U
-stay_same p (Start a b rules rules' now) q q' = record { rules = rules; rules' = rules'; now = now; seen = refl; calls = λ call. tt }
-stay_same p (Both T U line line' event event' alike pairs) q q' = step_alike p T U (stay_same p pairs q.1 q'.1) line line' alike q.0 q'.0
-stay_same p (Left T U line event out pairs) q q' = step_alone p T U (stay_same p pairs q.1 q') line event out
-stay_same p (Right T U line event out pairs) q q' =
-    flip_worlds p (with_event U line event) T (step_alone p U T (flip_worlds p T U (stay_same p pairs q q'.1)) line event out)
+pub stay_same : (p : Providers) {T U : Trace} → Pairs p (Alike p) T U → AreQuiet T.rows → AreQuiet U.rows → IsRun T.header T.rows
+    → IsRun U.header U.rows → SameWorlds p T U
+stay_same p (Start a b rules rules' now) q q' run run' =
+    record { rules = rules; rules' = rules'; now = now; seen = refl; calls = λ call. tt }
+stay_same p (Both T U line line' event event' alike pairs) q q' run run' =
+    step_alike p T U (stay_same p pairs q.1 q'.1 run.2 run'.2) (record { first = run.2; second = run'.2 }) line line' alike q.0 q'.0
+stay_same p (Left T U line event out pairs) q q' run run' = step_alone p T U (stay_same p pairs q.1 q' run.2 run') line event out
+stay_same p (Right T U line event out pairs) q q' run run' =
+    flip_worlds p (with_event U line event) T (step_alone p U T (flip_worlds p T U (stay_same p pairs q q'.1 run run'.2)) line event out)
+
+-- the events of a readable script up to a kept one are readable
+read_to : (k : ℕ) (used : UsedState) (ns : List Numbered) → AreRead used ns → AreRead used (up_to k ns)
+read_to zero used ns read = tt
+read_to (suc k) used [] read = tt
+read_to (suc k) used (n ∷ ns) read = (read.0, read_to (if is_kept n.event then k else suc k) (used_after n.event used) ns read.1)
+
+-- so their trace is a run
+pub run_to : (s : Script) → IsRead s → (k : ℕ) → IsRun (trace_to s k).header (trace_to s k).rows
+run_to s read k = script_runs (record { header = s.header; events = up_to k s.events }) (read_to k (unused s.header.now) s.events read)
 
 -- ---- scripts that go together make such traces
 
@@ -243,7 +262,12 @@ alike_events p (events.ClosePage page) (events.ClosePage page') kind h load good
     subst (λ x. Alike p (events.ClosePage page) (events.ClosePage x)) h (Closes page)
 alike_events p (events.Get page call options) (events.Get page' call' options') kind h load good =
     let same : SameOptions p options options' =
-    record { mediation = h.2.mediation; mode = h.2.mode; providers = same_providers p options.providers options'.providers h.2.providers good.known } in
+    record {
+      mediation = h.2.mediation;
+      mode = h.2.mode;
+      providers =
+          same_providers p options.providers options'.providers h.2.providers good.known;
+    } in
     subst (λ x. Alike p (events.Get page call options) (events.Get x call' options')) h.0
     (subst (λ x. Alike p (events.Get page call options) (events.Get page x options')) h.1 (Gets page call options options' same good.one))
 alike_events p (events.Abort call) (events.Abort call') kind h load good =
@@ -296,4 +320,4 @@ two_worlds_lem a b read read' twin k quiet quiet' =
     (each_event (λ url. is_provider p (host_of url) ≡ true) a.events (configs_known a b))) in
     let pairs = go_together p (Alike p) a.events b.events alike k (start a.header) (start b.header)
     (Start a.header b.header refl (sym twin.rules) twin.now) in
-    sign_in_same p (trace_to a k) (trace_to b k) (stay_same p pairs quiet quiet').seen
+    sign_in_same p (trace_to a k) (trace_to b k) (stay_same p pairs quiet quiet' (run_to a read k) (run_to b read' k)).seen

@@ -1,5 +1,6 @@
 -- The transcripts of two halves that are twins.
-use Rattle.std.proofs.Common.{◌≡◌, ◌∙◌, ℕ, zero, suc, Bool, true, false, List, [], ◌∷◌, ◌++◌, Some, None, Result, Ok, Err, refl, sym, ap, ap₂, append_assoc, append-nil}
+use Rattle.std.proofs.Common.{◌≡◌, ◌∙◌, ℕ, zero, suc, Bool, true, false, List, [], ◌∷◌, ◌++◌, Some, None, Result, Ok, Err, refl, sym, ap}
+use Rattle.std.proofs.Common.{ap₂, append_assoc, append-nil}
 use Rattle.std.proofs.lemmas.Grind.{flat_map-append}
 use Rattle.std.proofs.lemmas.List.Elements.{filter_map-append}
 use Rattle.std.specs.List.{list_any, filter_map, cons_option, before_first, after_first}
@@ -17,11 +18,13 @@ use Rattle.fed_trace.specs.Effect.{Effect}
 use Rattle.fed_trace.specs.Effect as does
 use Rattle.fed_trace.specs.OfScript.{start, with_events, trace_of}
 use Rattle.fed_trace.specs.Records.{records, records_in, record_of}
-use Rattle.fed_trace.specs.Row.{row_of, with_event}
+use Rattle.fed_script.specs.declared.event.Header.{Header}
+use Rattle.fed_trace.specs.Row.{IsRun, row_of, with_event}
 use Rattle.fed_trace.specs.Trace.{Row, Trace}
 use Rattle.fed_print.specs.Lines.{line_of, record_line, text_of}
 use Rattle.fed_twin.specs.Script.{is_kept, up_to, trace_to, first_bytes, first_sent, first_requests}
-use Rattle.fed_twin.proofs.worlds.Worlds.{two_worlds_lem}
+use Rattle.fed_twin.proofs.compared.Sends.{first_any, sends_gets}
+use Rattle.fed_twin.proofs.worlds.Worlds.{run_to, two_worlds_lem}
 use Rattle.fedcm.specs.Alike.{sign_in_bytes, sign_in_request, sign_in_requests, records_to, Begins, AreHalves, HalvesRunAlike}
 use Rattle.fedcm.specs.Run.{rows_text, script_text}
 use Rattle.fedcm.specs.Text.{end_members}
@@ -129,7 +132,7 @@ same_bytes (asks.Disconnect to client hint origin) cookies = refl
 
 -- the records of effects have the requests that the effects send
 same_sent : (line : ℕ) (effects : List Effect)
-    → filter_map sign_in_request (filter_map (record_of line) effects) ≡ filter_map first_sent effects
+    → filter_map sign_in_request (filter_map (record_of line) effects) ≡ filter_map first_any effects
 same_sent line [] = refl
 same_sent line (does.Time time ∷ es) = same_sent line es
 same_sent line (does.Page page origin ∷ es) = same_sent line es
@@ -137,8 +140,8 @@ same_sent line (does.Closed page ∷ es) = same_sent line es
 same_sent line (does.Cookie cookie ∷ es) = same_sent line es
 same_sent line (does.Login origin status ∷ es) = same_sent line es
 same_sent line (does.Begin begun ∷ es) = same_sent line es
-same_sent line (does.Move call stage ∷ es) = same_sent line es
-same_sent line (does.Sent call provider ask cookies ∷ es) = ap₂ cons_option (same_bytes ask cookies) (same_sent line es)
+same_sent line (does.Move kind call stage ∷ es) = same_sent line es
+same_sent line (does.Sent kind call provider ask cookies ∷ es) = ap₂ cons_option (same_bytes ask cookies) (same_sent line es)
 same_sent line (does.Shown call dialog ∷ es) = same_sent line es
 same_sent line (does.Window call provider url ∷ es) = same_sent line es
 same_sent line (does.Kept triple stays ∷ es) = same_sent line es
@@ -146,12 +149,15 @@ same_sent line (does.Flag origin stays ∷ es) = same_sent line es
 same_sent line (does.Result call page finish ∷ es) = same_sent line es
 same_sent line (does.Ignored why ∷ es) = same_sent line es
 
--- the records of rows have the requests that the rows send
-same_requests : (rows : List Row) → sign_in_requests (records_in rows) ≡ first_requests rows
-same_requests [] = refl
-same_requests (row ∷ rows) =
+-- the records of a run's rows have the requests that its gets send
+same_requests : (header : Header) (rows : List Row) → IsRun header rows → sign_in_requests (records_in rows) ≡ first_requests rows
+same_requests header [] run = refl
+same_requests header (row ∷ rows) run =
+    let T : Trace = record { header = header; rows = rows } in
     filter_map-append sign_in_request (records_in rows) (records row)
-    ∙ ap₂ ◌++◌ (same_requests rows) (same_sent row.line row.effects)
+    ∙ ap₂ ◌++◌ (same_requests header rows run.2)
+    (same_sent row.line row.effects ∙ ap (filter_map first_any) run.0 ∙ sym (sends_gets T run.2 row.event)
+    ∙ ap (filter_map first_sent) (sym run.0))
 
 -- ---- the law
 
@@ -166,5 +172,7 @@ halves_run_alike_lem bytes first second pair quiet reads halves twin is_quiet =
     record {
       begins = record { rest = begin.rest; is = ap script_text are.0 ∙ begin.is };
       begins' = record { rest = begin'.rest; is = ap script_text are.1 ∙ begin'.is };
-      alike = same_requests (trace_to a quiet).rows ∙ same ∙ sym (same_requests (trace_to b quiet).rows);
+      alike =
+          same_requests (trace_to a quiet).header (trace_to a quiet).rows (run_to a (readable first a are.0) quiet) ∙ same
+          ∙ sym (same_requests (trace_to b quiet).header (trace_to b quiet).rows (run_to b (readable second b are.1) quiet));
     }

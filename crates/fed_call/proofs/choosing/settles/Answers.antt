@@ -12,12 +12,15 @@ pub returns-in-Err-clause-effects : goal.returns-in-Err-clause-effects
 returns-in-Err-clause-effects c =
     let back = no_choice c.args.picked c.in-Err.picked (sym c.proceed.ensures ∙ c.in-Err.is) in
     rw back.1
-    (subst (λ pick. IfOk c.asks_about.result (λ r. r.1 ≡ (prompts (world_of c.args.shared.now) (configured c.args.begun c.args.config Choosing) c.args.place c.args.begun.provider pick.candidate).effects))
+    (subst (λ pick. IfOk c.asks_about.result (λ r. r.1
+    ≡ (prompts (world_of c.args.shared.now) (configured c.args.begun c.args.config Choosing) c.args.place c.args.begun.provider
+    pick.candidate).effects))
     back.0 c.asks_about.ensures.effects)
 
 pub returns-in-Err-clause-state : goal.returns-in-Err-clause-state
 returns-in-Err-clause-state c =
     let back = no_choice c.args.picked c.in-Err.picked (sym c.proceed.ensures ∙ c.in-Err.is) in
     rw back.1
-    (rw back.1 at (subst (λ pick. IfOk c.asks_about.result (λ r. facts_of r.0 ≡ at_stage Prompting (with_candidate pick.candidate (configured c.args.begun c.args.config Choosing))))
+    (rw back.1 at (subst (λ pick. IfOk c.asks_about.result (λ r. facts_of r.0
+    ≡ at_stage Prompting (with_candidate pick.candidate (configured c.args.begun c.args.config Choosing))))
     back.0 c.asks_about.ensures.state))

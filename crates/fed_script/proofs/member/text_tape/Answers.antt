@@ -9,13 +9,15 @@ use Rattle.fed_script.proofs.member.text_tape.Goals as goal
 pub returns-then-are_in_range : goal.returns-then-are_in_range
 returns-then-are_in_range c =
     ap (or_cause NotJson)
-    (read-tape c.args.text.now c.in-Ok.tape (map node_token c.nodes.result.now) c.in-Ok.ensures.ok.0 c.in-Ok.ensures.ok.1 c.nodes.ensures.tokens true
+    (read-tape c.args.text.now c.in-Ok.tape (map node_token c.nodes.result.now) c.in-Ok.ensures.ok.0 c.in-Ok.ensures.ok.1
+    c.nodes.ensures.tokens true
     c.if-are_in_range.ensures)
 
 pub returns-in-Ok : goal.returns-in-Ok
 returns-in-Ok c =
     ap (or_cause NotJson)
-    (read-tape c.args.text.now c.in-Ok.tape (map node_token c.nodes.result.now) c.in-Ok.ensures.ok.0 c.in-Ok.ensures.ok.1 c.nodes.ensures.tokens false
+    (read-tape c.args.text.now c.in-Ok.tape (map node_token c.nodes.result.now) c.in-Ok.ensures.ok.0 c.in-Ok.ensures.ok.1
+    c.nodes.ensures.tokens false
     c.if-are_in_range.ensures)
 
 pub returns-in-Err-Invalid : goal.returns-in-Err-Invalid

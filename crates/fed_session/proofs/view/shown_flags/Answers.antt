@@ -8,6 +8,8 @@ loop-place-preserved c =
     elim c.match-item.branch [
       | in-Some+in_ok-copy+in_ok-push w ↦
           w.shown-is ∙ w.in_ok-push.ensures.ok ∙ ap (λ xs. xs ++ w.in_ok-copy.field-0 ∷ []) c.loop-place.invariant
-          ∙ ap (λ o. take c.loop-place.place c.args.flags.now ++ o ∷ []) w.in_ok-copy.ensures ∙ sym (take_next c.args.flags.now c.loop-place.place _ (sym w.in-Some.ensures.value))
-      | in_default w ↦ w.shown-is ∙ c.loop-place.invariant ∙ sym (take_none c.args.flags.now c.loop-place.place (sym w.in_default.ensures.value))
+          ∙ ap (λ o. take c.loop-place.place c.args.flags.now ++ o ∷ []) w.in_ok-copy.ensures
+          ∙ sym (take_next c.args.flags.now c.loop-place.place _ (sym w.in-Some.ensures.value))
+      | in_default w ↦ w.shown-is ∙ c.loop-place.invariant
+          ∙ sym (take_none c.args.flags.now c.loop-place.place (sym w.in_default.ensures.value))
     ]

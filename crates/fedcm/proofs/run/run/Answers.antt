@@ -15,5 +15,7 @@ returns-in-Ok-clause-text g c =
 
 pub returns-in-Err-Step-clause-text : goal.returns-in-Err-Step-clause-text
 returns-in-Err-Step-clause-text g c =
-    let is = run_text-bad_header c.args.bytes.now c.in-Some.first.now _ c.in-Err-Step.cause c.in-Some.ensures.lines (rw c.in-Err-Step.field-0-is at c.in-Err-Step.ensures) in
+    let is =
+    run_text-bad_header c.args.bytes.now c.in-Some.first.now _ c.in-Err-Step.cause c.in-Some.ensures.lines
+    (rw c.in-Err-Step.field-0-is at c.in-Err-Step.ensures) in
     IfOk-weaker c.no_header-in-Err-Step.result _ _ (λ ran h. h.0 ∙ sym is) (rw c.in-Err-Step.field-0-is at c.no_header-in-Err-Step.ensures)

@@ -12,5 +12,6 @@ pub returns : goal.returns
 returns g c =
     let at = starts c.args.header c.in_ok-session.ensures c.new-used.ensures in
     each_ok _ _ c.run_lines.result
-    (λ ran goes. goes (start c.args.header) at ∙ ap (λ u. outcome (start c.args.header) (events_of u 2 (lines_of c.args.lines.now))) c.new-used.ensures)
+    (λ ran goes. goes (start c.args.header) at ∙ ap (λ u. outcome (start c.args.header)
+    (events_of u 2 (lines_of c.args.lines.now))) c.new-used.ensures)
     c.run_lines.ensures

@@ -8,7 +8,8 @@ use Rattle.fedcm.proofs.run.take_lines.Given as goal
 abbrev pub invariant-loop-line : goal.invariant-loop-line
 invariant-loop-line g l = record {
   goes : (T : Trace) → IsAt l.fn.session l.fn.used l.fn.text.items T
-      → GoesAs l.session l.used l.text.items (events_of l.used l.number (lines_of l.rest)) (outcome T (events_of l.fn.used 2 (lines_of l.fn.lines)));
+      → GoesAs l.session l.used l.text.items (events_of l.used l.number (lines_of l.rest))
+      (outcome T (events_of l.fn.used 2 (lines_of l.fn.lines)));
   number : l.number + length l.rest ≤ length l.fn.lines + 2;
 }
 

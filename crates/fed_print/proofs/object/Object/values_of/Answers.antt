@@ -15,5 +15,12 @@ loop-object-preserved c =
     let value = Object c.in-Some.object.members in
     let seen : view value ≡ object (members_of c.in-Some.object) = view-Object c.in-Some.object.members in
     let items = c.in_ok-push.ensures.items in
-    let none = push_has_no_float c.loop-object.values.items value c.loop-object.invariant.1 (rw seen c.in-Some.object.no_float) in
-    (rw (items, map-append view c.loop-object.values.items (value ∷ []), append_assoc (map view c.loop-object.values.items) (map view (value ∷ [])), seen) left, subst (λ vs. items_have_float (items_view vs) ≡ false) (sym items) none)
+    let none = push_has_no_float c.loop-object.values.items value c.loop-object.invariant.1 (rw seen c.in-Some.object.no_float) in (
+      rw (
+        items,
+        map-append view c.loop-object.values.items (value ∷ []),
+        append_assoc (map view c.loop-object.values.items) (map view (value ∷ [])),
+        seen,
+      ) left,
+      subst (λ vs. items_have_float (items_view vs) ≡ false) (sym items) none,
+    )

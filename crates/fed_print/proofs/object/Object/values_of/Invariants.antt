@@ -9,5 +9,6 @@ use Rattle.fed_print.proofs.object.Object.values_of.Given as goal
 -- the values so far, and the objects that are left
 abbrev pub invariant-loop-object : goal.invariant-loop-object
 invariant-loop-object l =
-    (map view l.values.items ++ map object (map members_of (into_iter_items l.object-iterator)) ≡ map object (map members_of l.fn.objects.items))
+    (map view l.values.items ++ map object (map members_of (into_iter_items l.object-iterator))
+    ≡ map object (map members_of l.fn.objects.items))
     × (items_have_float (items_view l.values.items) ≡ false)

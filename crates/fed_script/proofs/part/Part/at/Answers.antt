@@ -10,8 +10,10 @@ invariant_of-result c = found-value (find.at c.args.place) c.self.inside.element
 pub returns-in-Some : goal.returns-in-Some
 returns-in-Some c =
     rw (← c.self.view_is)
-    (found-data (find.at c.args.place) (at c.args.place) (at-data_of c.args.place) c.self.inside.element c.in-Some.element c.self.invariant c.in-Some.ensures)
+    (found-data (find.at c.args.place) (at c.args.place) (at-data_of c.args.place) c.self.inside.element c.in-Some.element c.self.invariant
+    c.in-Some.ensures)
 
 pub returns-in-None : goal.returns-in-None
 returns-in-None c =
-    rw (← c.self.view_is) (found-none (find.at c.args.place) (at c.args.place) (at-data_of c.args.place) c.self.inside.element c.self.invariant c.in-None.ensures)
+    rw (← c.self.view_is) (found-none (find.at c.args.place) (at c.args.place) (at-data_of c.args.place) c.self.inside.element
+    c.self.invariant c.in-None.ensures)

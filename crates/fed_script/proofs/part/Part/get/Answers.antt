@@ -10,8 +10,10 @@ invariant_of-result c = found-value (find.get c.args.name.now) c.self.inside.ele
 pub returns-in-Some : goal.returns-in-Some
 returns-in-Some c =
     rw (← c.self.view_is)
-    (found-data (find.get c.args.name.now) (get c.args.name.now) (get-data_of c.args.name.now) c.self.inside.element c.in-Some.element c.self.invariant c.in-Some.ensures)
+    (found-data (find.get c.args.name.now) (get c.args.name.now) (get-data_of c.args.name.now) c.self.inside.element c.in-Some.element
+    c.self.invariant c.in-Some.ensures)
 
 pub returns-in-None : goal.returns-in-None
 returns-in-None c =
-    rw (← c.self.view_is) (found-none (find.get c.args.name.now) (get c.args.name.now) (get-data_of c.args.name.now) c.self.inside.element c.self.invariant c.in-None.ensures)
+    rw (← c.self.view_is) (found-none (find.get c.args.name.now) (get c.args.name.now) (get-data_of c.args.name.now) c.self.inside.element
+    c.self.invariant c.in-None.ensures)

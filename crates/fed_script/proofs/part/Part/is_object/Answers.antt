@@ -8,5 +8,6 @@ use Rattle.fed_script.proofs.part.Part.is_object.Goals as goal
 pub returns : goal.returns
 returns c =
     rw (← c.self.view_is)
-    (seen c.is_some.result (λ j. is_some (find.as_object j)) (λ d. is_some (as_object d)) is_object-data_of c.self.inside.element c.self.invariant
+    (seen c.is_some.result (λ j. is_some (find.as_object j)) (λ d. is_some (as_object d)) is_object-data_of c.self.inside.element
+    c.self.invariant
     (λ j h. c.is_some.ensures ∙ opens c.members.result j (c.members.ensures j h)))

@@ -13,5 +13,6 @@ returns-clause-row c = λ T h.
     let one = brings T c.args.event.now c.in-Some.call c.in-Some.input is in (
       c.in_ok-outs.ensures.outs ∙ input_records _ T c.args.line c.args.event.now c.in-Some.call c.in-Some.input before one,
       stands_after _ _ T c.args.line c.args.event.now before one.new refl refl
-          (owes_input _ _ T c.args.line c.args.event.now c.in-Some.call c.in-Some.input before one c.in_ok-outs.ensures.sight c.in_ok-outs.ensures.pages c.in_ok-outs.ensures.calls),
+          (owes_input _ _ T c.args.line c.args.event.now c.in-Some.call c.in-Some.input before one c.in_ok-outs.ensures.sight
+          c.in_ok-outs.ensures.pages c.in_ok-outs.ensures.calls),
     )

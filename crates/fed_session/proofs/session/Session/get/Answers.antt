@@ -1,17 +1,22 @@
 use Rattle.std.proofs.Common.{◌≡◌, ◌∙◌, sym, subst, refl, nat_eq, None}
 use Rattle.std.specs.Map.{lookup}
 use Rattle.fed_script.specs.declared.event.Event.TheVariants as events
+use Rattle.fed_trace.specs.Begun.{ToGet}
 use Rattle.fed_session.specs.Session.{State, Stands}
 use Rattle.fed_session.specs.StepParts.{revived}
-use Rattle.fed_session.proofs.events.Get.{owes_get, get_records-stand, is_new}
+use Rattle.fed_session.proofs.events.Begin.{BeginsBy, owes_begin, begin_records-stand, is_new}
 use Rattle.fed_session.proofs.stands.Stands.{stands_after}
 use Rattle.fed_session.proofs.session.Session.get.Goals as goal
 
 pub returns-clause-row : goal.returns-clause-row
 returns-clause-row c = λ T h.
     let before = subst (λ (s : State). Stands (revived s) T) (sym c.self.view_is) h in
-    let fresh = subst (λ (s : State). lookup (nat_eq c.args.call) s.calls ≡ None) (sym c.self.view_is) c.requires.fresh in (
-      c.in_ok-outs.ensures.outs ∙ get_records-stand _ T c.args.line c.args.page c.args.call c.args.options.now before,
-      stands_after _ _ T c.args.line (events.Get c.args.page c.args.call c.args.options.now) before (is_new _ T c.args.call before fresh, c.requires.one) refl refl
-          (owes_get _ _ T c.args.line c.args.page c.args.call c.args.options.now before fresh c.requires.one refl c.in_ok-outs.ensures.pages c.in_ok-outs.ensures.calls),
+    let fresh = subst (λ (s : State). lookup (nat_eq c.args.call) s.calls ≡ None) (sym c.self.view_is) c.requires.fresh in
+    let event = events.Get c.args.page c.args.call c.args.options.now in
+    let begins : BeginsBy T event c.args.page c.args.call (ToGet c.args.options.now) = record { effects = refl; inputs = λ q k. refl } in (
+      c.in_ok-outs.ensures.outs ∙ begin_records-stand _ T c.args.line event c.args.page c.args.call (ToGet c.args.options.now) before
+          begins,
+      stands_after _ _ T c.args.line event before (is_new _ T c.args.call before fresh, c.requires.one) refl refl
+          (owes_begin _ _ T c.args.line event c.args.page c.args.call (ToGet c.args.options.now) before begins fresh c.requires.one refl
+          c.in_ok-outs.ensures.pages c.in_ok-outs.ensures.calls),
     )

@@ -12,5 +12,6 @@ returns-clause-row c = λ T line h.
     let before = subst (λ (s : State). Stands (revived s) T) (sym c.self.view_is) h in (
       c.new.ensures ∙ load_records T line c.args.page c.args.url.now c.args.raw.now,
       stands_after _ _ T line (events.Load c.args.page c.args.url.now c.args.raw.now) before tt refl refl
-          (owes_load _ _ T line c.args.page c.args.url.now c.args.raw.now before c.in_ok-take_head.ensures c.in_ok-load.ensures.pages c.in_ok-load.ensures.calls),
+          (owes_load _ _ T line c.args.page c.args.url.now c.args.raw.now before c.in_ok-take_head.ensures c.in_ok-load.ensures.pages
+          c.in_ok-load.ensures.calls),
     )

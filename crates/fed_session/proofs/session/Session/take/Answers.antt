@@ -19,7 +19,8 @@ returns-in_ok-outs-in-ClosePage-clause-row c =
     let before = subst (λ (s : State). Stands (revived s) T) (sym c.self-in-ClosePage.view_is) h in (
       c.in_ok-outs-in-ClosePage.ensures.outs ∙ close_records-stand _ T c.args.line c.in-ClosePage.page before,
       stands_after _ _ T c.args.line (events.ClosePage c.in-ClosePage.page) before tt refl refl
-          (owes_close _ _ T c.args.line c.in-ClosePage.page before refl c.in_ok-outs-in-ClosePage.ensures.pages c.in_ok-outs-in-ClosePage.ensures.calls),
+          (owes_close _ _ T c.args.line c.in-ClosePage.page before refl c.in_ok-outs-in-ClosePage.ensures.pages
+          c.in_ok-outs-in-ClosePage.ensures.calls),
     ))
 
 pub returns-in_ok-outs-in-SetStatus-clause-row : goal.returns-in_ok-outs-in-SetStatus-clause-row
@@ -29,5 +30,6 @@ returns-in_ok-outs-in-SetStatus-clause-row c =
     let before = subst (λ (s : State). Stands (revived s) T) (sym c.self-in-SetStatus.view_is) h in (
       c.in_ok-outs-in-SetStatus.ensures.outs ∙ status_records-stand _ T c.args.line c.in-SetStatus.page c.in-SetStatus.status before,
       stands_after _ _ T c.args.line (events.SetStatus c.in-SetStatus.page c.in-SetStatus.status) before tt refl refl
-          (owes_status _ _ T c.args.line c.in-SetStatus.page c.in-SetStatus.status before refl c.in_ok-outs-in-SetStatus.ensures.login refl refl),
+          (owes_status _ _ T c.args.line c.in-SetStatus.page c.in-SetStatus.status before refl c.in_ok-outs-in-SetStatus.ensures.login refl
+          refl),
     ))

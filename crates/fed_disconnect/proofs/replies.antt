@@ -1,0 +1,2 @@
+-- Replies that are taken, and those that are not.
+pub mod Heard
