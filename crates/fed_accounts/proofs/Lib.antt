@@ -1,1 +1,3 @@
 pub mod ids
+pub mod lists
+pub mod reselection

@@ -1,3 +1,4 @@
--- Accounts and their ids.
-pub mod Distinct
+-- Accounts by their ids.
 pub mod Firsts
+pub mod Distinct
+pub mod Kept

@@ -1,9 +1,13 @@
 -- The accounts that the hints of a call ask for (FedCM, "login_hint" and "domain_hint").
-use Rattle.std.specs.Prelude.{ℕ, Bool, true, not, ◌&&◌, ◌==◌, List, [], ◌∷◌, length, filter, codes, bytes_eq, Option, Some, None, Result, Ok, Err, if◌then◌else◌}
+use Rattle.std.specs.Prelude.{ℕ, Bool, true, not, ◌&&◌, ◌==◌, List, [], ◌∷◌, length, filter, codes, bytes_eq, Option, Some}
+use Rattle.std.specs.Prelude.{None, Result}
+use Rattle.std.specs.Prelude.{Ok, Err, if◌then◌else◌}
 use Rattle.fed_accounts.specs.declared.account.Account.{Account}
 use Rattle.fed_accounts.specs.declared.step.AccountsStep.{AccountsStep}
 use Rattle.fed_accounts.specs.declared.step.AccountsStep.TheVariants.{HintsNone}
+use Rattle.fed_reply.specs.Steps.{◌>>=◌}
 use Rattle.fed_accounts.specs.Connection.{has_text}
+use Rattle.fed_accounts.specs.Read.{AccountsOf}
 
 -- the login hint, where it is given, is one of the account's
 abbrev pub has_login : Option (List ℕ) → Account → Bool
@@ -29,3 +33,9 @@ some_left (a ∷ accounts) = Ok (a ∷ accounts)
 -- the accounts that both hints ask for, in their order, or the step where there is none
 unfoldable pub Hinted : List Account → Option (List ℕ) → Option (List ℕ) → Result (List Account) AccountsStep
 Hinted accounts login domain = some_left (filter (is_hinted login domain) accounts)
+
+-- the accounts in the reply `raw` that both hints ask for, or the first step
+unfoldable pub HintedOf : List ℕ → Option (List ℕ) → Option (List ℕ) → Result (List Account) AccountsStep
+HintedOf raw login domain = do
+  accounts ← AccountsOf raw
+  Hinted accounts login domain

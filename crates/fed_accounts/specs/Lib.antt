@@ -1,4 +1,6 @@
 pub mod Accounts
 pub mod Connection
-pub mod Hints
 pub mod Read
+pub mod Hints
+pub mod Entry
+pub mod Kept

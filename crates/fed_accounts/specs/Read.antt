@@ -1,6 +1,5 @@
 -- The accounts in a reply of the accounts endpoint (FedCM, "The accounts list endpoint").
 use Rattle.std.specs.Prelude.{ℕ, List, [], ◌∷◌, codes, Option, Some, None, ok_or, Result, Ok, Err}
-use Rattle.std.specs.Option.{option_copied}
 use Rattle.serde_json.specs.Data.{Data, Items, no_items, item}
 use Rattle.serde_json.specs.Find.{as_str}
 use Rattle.fed_reply.specs.declared.member.Member.{Member}
@@ -10,7 +9,6 @@ use Rattle.fed_reply.specs.Json.{ReplyJsonOf}
 use Rattle.fed_reply.specs.Members.{text_under, list_under}
 use Rattle.fed_reply.specs.Shape.{required, optional}
 use Rattle.fed_accounts.specs.declared.account.Account.{Account}
-use Rattle.fed_accounts.specs.declared.read.Texts.{Texts}
 use Rattle.fed_accounts.specs.declared.step.AccountsStep.{AccountsStep}
 use Rattle.fed_accounts.specs.declared.step.AccountsStep.TheVariants.{Reply, Shape, Empty}
 use Rattle.fed_accounts.specs.Accounts.{first_of_each_id}
@@ -49,17 +47,6 @@ pub record AccountTexts : Type 0 where
   pub email : List ℕ
   pub given_name : Option (List ℕ)
   pub picture : Option (List ℕ)
-
--- the texts that the code holds
-abbrev pub seen : Texts → AccountTexts
-seen texts =
-    record {
-      id = texts.id.now;
-      name = texts.name.now;
-      email = texts.email.now;
-      given_name = option_copied texts.given_name;
-      picture = option_copied texts.picture;
-    }
 
 -- the texts of an entry, or the step where one is missing or no text
 unfoldable pub texts_of : Data → Result AccountTexts AccountsStep

@@ -4,7 +4,7 @@
 mod account;
 mod accounts;
 mod connection;
-mod firsts;
+mod entry;
 mod hints;
 mod read;
 mod step;
@@ -13,7 +13,7 @@ pub use account::Account;
 pub use accounts::Accounts;
 pub use connection::{connected, eligible, reselect};
 pub use hints::keep_hinted;
-pub use read::read_accounts;
+pub use read::{read_accounts, read_hinted};
 pub use step::AccountsStep;
 
 #[cfg(test)]

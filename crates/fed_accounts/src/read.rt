@@ -1,188 +1,123 @@
 //! Reading the accounts of a provider.
-ghost use Rattle.std.specs.Prelude.{◌≡◌, IfOk};
+ghost use Rattle.std.specs.Prelude.{◌≡◌, ◌++◌, ◌∷◌, [], filter, IfOk, OnOk};
+ghost use Rattle.std.specs.List.{IsDistinct};
 ghost use Rattle.std.specs.Option.{option_copied};
-ghost use Rattle.std.specs.Result.{result_map_both};
-ghost use Rattle.serde_json.specs.View.{view, items_view};
+ghost use Rattle.fed_json.specs.Part.{items_at};
 ghost use Rattle.fed_io.specs.Fault.{Answers};
-ghost use Rattle.fed_reply.specs.Members.{member_map, text_under, list_under};
-ghost use Rattle.fed_reply.specs.Shape.{required, optional};
+ghost use Rattle.fed_accounts.specs.Accounts.{same_id};
+ghost use Rattle.fed_accounts.specs.Hints as hints;
+ghost use Rattle.fed_accounts.specs.Entry as seen;
+ghost use Rattle.fed_accounts.specs.Kept as kept_spec;
 ghost use Rattle.fed_accounts.specs.Read as spec;
 
-use crate::firsts::first_of_each_id;
+use crate::entry::{Entry, read_entry};
 use crate::{Account, Accounts, AccountsStep};
-use fed_io::{Fault, Items, NoRoom, Text, text_of};
-use fed_reply::{Member, list_member, read_json, text_member};
-use serde_json::Value;
+use fed_io::{Fault, Items, NoRoom, Text};
+use fed_json::{Entries, Part};
+use fed_reply::{JsonBuffer, Member, list_member, read_json};
+use indexmap::IndexSet;
 use std::alloc::Global;
 
 /// Reads the accounts in a reply of the accounts endpoint (FedCM, "The accounts list endpoint"). Of
 /// several accounts with one id the first stays. The steps are `Reply`, `Shape` where the value is
 /// no list of accounts under `accounts`, and `Empty` where the list has no entry.
-#[tactic(auto, unfolding(crate::specs::Read::AccountsOf))]
 pub fn read_accounts(alloc: Global, raw: &[u8]) -> Result<Accounts, Fault<AccountsStep>>
     ensures { Answers result (spec.AccountsOf raw.now) }
 {
-    let file = match read_json(alloc, raw) {
-        Ok(file) => file,
+    read_hinted(alloc, raw, None, None)
+}
+
+/// Reads the accounts in a reply of the accounts endpoint that the hints of a call ask for, as `read_accounts` and then
+/// `keep_hinted` do. Only accounts that are kept are copied.
+#[tactic(auto, unfolding(crate::specs::Hints::HintedOf, crate::specs::Read::AccountsOf))]
+pub fn read_hinted(
+    alloc: Global,
+    raw: &[u8],
+    login: Option<&Text>,
+    domain: Option<&Text>,
+) -> Result<Accounts, Fault<AccountsStep>>
+    ensures { Answers result (hints.HintedOf raw.now (option_copied login.entry) (option_copied domain.entry)) }
+{
+    let mut buffer = JsonBuffer::new(alloc);
+    let tape = match read_json(alloc, raw, &mut buffer) {
+        Ok(tape) => tape,
         Err(Fault::Step(step)) => return Err(Fault::Step(AccountsStep::Reply(step))),
         Err(Fault::NoRoom) => return Err(Fault::NoRoom),
     };
-    match list_member(&file, "accounts") {
-        Member::Is(entries) => match read_entries(alloc, entries) {
-            Ok(accounts) => with_some(alloc, accounts),
+    match list_member(&Part::of(&tape), "accounts") {
+        Member::Is(entries) => match keep_entries(alloc, entries, login, domain) {
+            Ok(kept) => settled(kept),
             Err(fault) => Err(fault),
         },
         Member::Absent | Member::Wrong => Err(Fault::Step(AccountsStep::Shape)),
     }
 }
 
-// The first account of each id, where there is one.
-fn with_some(alloc: Global, accounts: Items<Account>) -> Result<Accounts, Fault<AccountsStep>>
-    ensures { Answers result (spec.with_some accounts) }
+// What is kept of the entries of a list.
+#[derive(Drop)]
+struct Kept {
+    // Whether there is an entry.
+    some: bool,
+    // Of the first accounts of each id those that the hints ask for.
+    accounts: Items<Account>,
+}
+
+// The accounts, where there is an entry and some are kept.
+fn settled(kept: Kept) -> Result<Accounts, Fault<AccountsStep>>
+    requires { IsDistinct same_id kept.accounts }
+    ensures { Answers result (kept_spec.settled kept) }
 {
-    if accounts.len() == 0 {
+    if !kept.some {
         return Err(Fault::Step(AccountsStep::Empty));
     }
-    Ok(Accounts::new(first_of_each_id(alloc, accounts)?))
+    if kept.accounts.len() == 0 {
+        return Err(Fault::Step(AccountsStep::HintsNone));
+    }
+    let Kept { some: _, accounts } = kept;
+    Ok(Accounts::new(accounts))
 }
 
-// The accounts of the entries.
-fn read_entries(alloc: Global, entries: &[Value]) -> Result<Items<Account>, Fault<AccountsStep>>
-    ensures { Answers result (spec.each spec.account_of (items_view entries.now)) }
+// What is kept of the entries. An id is looked up in a set, so that this takes linear time.
+fn keep_entries(
+    alloc: Global,
+    mut entries: Entries<'_, '_>,
+    login: Option<&Text>,
+    domain: Option<&Text>,
+) -> Result<Kept, Fault<AccountsStep>>
+    ensures answer { Answers result
+        (kept_spec.kept_entries (option_copied login.entry) (option_copied domain.entry) (items_at entries.entry)) }
+    ensures distinct { IfOk result (λ kept. IsDistinct same_id kept.accounts) }
 {
+    let mut ids = IndexSet::new(alloc);
     let mut accounts = Items::new(alloc);
-    for entry in entries {
-        match read_account(alloc, entry) {
-            Ok(account) => accounts.push(account)?,
-            Err(fault) => return Err(fault),
+    while let Some(entry) = entries.next() {
+        let entry = match read_entry(&entry) {
+            Ok(entry) => entry,
+            Err(step) => return Err(Fault::Step(step)),
+        };
+        if ids.insert(entry.id)? {
+            keep(alloc, &entry, login, domain, &mut accounts)?;
         }
     }
-    Ok(accounts)
-}
-
-// The texts of an account.
-#[derive(Drop)]
-struct Texts<'a> {
-    id: &'a str,
-    name: &'a str,
-    email: &'a str,
-    given_name: Option<&'a str>,
-    picture: Option<&'a str>,
-}
-
-// The account of an entry.
-#[tactic(auto, unfolding(crate::specs::Read::account_of))]
-fn read_account(alloc: Global, entry: &Value) -> Result<Account, Fault<AccountsStep>>
-    ensures { Answers result (spec.account_of (view entry.now)) }
-{
-    match read_texts(entry) {
-        Ok(texts) => read_lists(alloc, &texts, entry),
-        Err(step) => Err(Fault::Step(step)),
-    }
-}
-
-// The texts of the members.
-#[tactic(auto, unfolding(crate::specs::Read::texts_of))]
-fn read_texts(entry: &Value) -> Result<Texts<'_>, AccountsStep>
-    ensures { result_map_both spec.seen (λ e. e) result ≡ spec.texts_of (view entry.now) }
-{
-    let id = required_text(entry, "id")?;
-    let name = required_text(entry, "name")?;
-    let email = required_text(entry, "email")?;
-    let given_name = optional_text(entry, "given_name")?;
-    let picture = optional_text(entry, "picture")?;
-    Ok(Texts {
-        id,
-        name,
-        email,
-        given_name,
-        picture,
+    Ok(Kept {
+        some: ids.len() != 0,
+        accounts,
     })
 }
 
-// A text that has to be there.
-fn required_text<'a>(entry: &'a Value, name: &str) -> Result<&'a str, AccountsStep>
-    ensures { result_map_both (λ text. text.now) (λ e. e) result ≡ required AccountsStep.Shape (text_under name.now (view entry.now)) }
-{
-    match text_member(entry, name) {
-        Member::Is(text) => Ok(text),
-        Member::Absent | Member::Wrong => Err(AccountsStep::Shape),
-    }
-}
-
-// A text that may be left out.
-fn optional_text<'a>(entry: &'a Value, name: &str) -> Result<Option<&'a str>, AccountsStep>
-    ensures { result_map_both option_copied (λ e. e) result ≡ optional AccountsStep.Shape (text_under name.now (view entry.now)) }
-{
-    match text_member(entry, name) {
-        Member::Is(text) => Ok(Some(text)),
-        Member::Absent => Ok(None),
-        Member::Wrong => Err(AccountsStep::Shape),
-    }
-}
-
-// The account with those texts, and with the lists of the entry.
-#[tactic(auto, unfolding(crate::specs::Read::with_lists))]
-fn read_lists(
+// Keeps a copy of the account, where the hints ask for it.
+fn keep(
     alloc: Global,
-    texts: &Texts<'_>,
-    entry: &Value,
-) -> Result<Account, Fault<AccountsStep>>
-    ensures { Answers result (spec.with_lists (spec.seen texts.now) (view entry.now)) }
+    entry: &Entry<'_, '_>,
+    login: Option<&Text>,
+    domain: Option<&Text>,
+    kept: &mut Items<Account>,
+) -> Result<(), NoRoom>
+    ensures { OnOk result (kept.new ≡ kept.old ++ filter (hints.is_hinted (option_copied login.entry)
+        (option_copied domain.entry)) (seen.account entry.now ∷ [])) }
 {
-    let approved = optional_list(alloc, list_member(entry, "approved_clients"))?;
-    let login_hints = hints(alloc, list_member(entry, "login_hints"))?;
-    let domain_hints = hints(alloc, list_member(entry, "domain_hints"))?;
-    Ok(Account {
-        id: Text::of(alloc, texts.id)?,
-        name: Text::of(alloc, texts.name)?,
-        email: Text::of(alloc, texts.email)?,
-        given_name: text_of(alloc, texts.given_name)?,
-        picture: text_of(alloc, texts.picture)?,
-        approved,
-        login_hints,
-        domain_hints,
-    })
-}
-
-// A list of texts that may be left out.
-fn optional_list(
-    alloc: Global,
-    list: Member<&Vec<Value>>,
-) -> Result<Option<Items<Text>>, Fault<AccountsStep>>
-    ensures { Answers result (spec.optional_list (member_map (λ items. items_view items.now.items) list.entry)) }
-{
-    match list {
-        Member::Is(items) => match read_list(alloc, items) {
-            Ok(texts) => Ok(Some(texts)),
-            Err(fault) => Err(fault),
-        },
-        Member::Absent => Ok(None),
-        Member::Wrong => Err(Fault::Step(AccountsStep::Shape)),
+    if entry.is_hinted(login, domain) {
+        kept.push(entry.copy(alloc)?)?;
     }
-}
-
-// A list of texts, which is empty where it is left out.
-fn hints(alloc: Global, list: Member<&Vec<Value>>) -> Result<Items<Text>, Fault<AccountsStep>>
-    ensures { Answers result (spec.list_or_empty (member_map (λ items. items_view items.now.items) list.entry)) }
-{
-    match list {
-        Member::Is(items) => read_list(alloc, items),
-        Member::Absent => Ok(Items::new(alloc)),
-        Member::Wrong => Err(Fault::Step(AccountsStep::Shape)),
-    }
-}
-
-// The texts of a list, each item of which is a text.
-fn read_list(alloc: Global, items: &[Value]) -> Result<Items<Text>, Fault<AccountsStep>>
-    ensures { Answers result (spec.each spec.text_of (items_view items.now)) }
-{
-    let mut texts = Items::new(alloc);
-    for item in items {
-        match item.as_str() {
-            Some(text) => texts.push(Text::of(alloc, text)?)?,
-            None => return Err(Fault::Step(AccountsStep::Shape)),
-        }
-    }
-    Ok(texts)
+    Ok(())
 }

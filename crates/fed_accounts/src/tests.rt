@@ -1,6 +1,7 @@
 //! Lists of accounts as they come, and which accounts a call is about.
 use crate::{
-    Account, Accounts, AccountsStep, connected, eligible, keep_hinted, read_accounts, reselect,
+    Account, Accounts, AccountsStep, connected, eligible, keep_hinted, read_accounts, read_hinted,
+    reselect,
 };
 use fed_io::{Fault, NoRoom, Text};
 use fed_origin::Mediation;
@@ -133,12 +134,28 @@ fn shown(alloc: Global, answer: Result<Accounts, Fault<AccountsStep>>) -> Result
     }
 }
 
+// A reply with a list.
+fn reply_with(alloc: Global, list: &str) -> Result<String, AllocError> {
+    format!(in alloc;
+        "HTTP/1.1 200 OK\r\nContent-Type: application/json\r\n\r\n{{\"accounts\":{list}}}"
+    )
+}
+
 // The accounts that a list gives.
 fn read_list(alloc: Global, list: &str) -> Result<Accounts, Fault<AccountsStep>> {
-    let raw = format!(in alloc;
-        "HTTP/1.1 200 OK\r\nContent-Type: application/json\r\n\r\n{{\"accounts\":{list}}}"
-    )?;
+    let raw = reply_with(alloc, list)?;
     read_accounts(alloc, raw.as_bytes())
+}
+
+// The ids that a list gives with these hints, or the name of the step.
+fn hinted_ids(
+    alloc: Global,
+    list: &str,
+    login: Option<&Text>,
+    domain: Option<&Text>,
+) -> Result<String, Fail> {
+    let raw = reply_with(alloc, list)?;
+    shown(alloc, read_hinted(alloc, raw.as_bytes(), login, domain))
 }
 
 // The parts of a line round its first bar.
@@ -203,6 +220,8 @@ fn hint_line(rt: &impl Abort, alloc: Global, line: &str) -> Result<(), Fail> {
     let (login, domain) = parts(hints)?;
     let login = hint_of(alloc, login)?;
     let domain = hint_of(alloc, domain)?;
+    let read = hinted_ids(alloc, HINTED, login.as_ref(), domain.as_ref())?;
+    assert_eq!(rt; read.as_str(), wanted, "read by {line}");
     let accounts = read_list(alloc, HINTED)?;
     let kept = keep_hinted(alloc, accounts, login.as_ref(), domain.as_ref());
     let found = shown(alloc, kept)?;

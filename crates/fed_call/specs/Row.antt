@@ -8,7 +8,7 @@ use Rattle.fed_consent.specs.declared.table.failure.FailStep.TheVariants as step
 use Rattle.fed_consent.specs.declared.table.input.Input.{Input}
 use Rattle.fed_consent.specs.declared.table.input.Input.TheVariants as inputs
 use Rattle.fed_consent.specs.declared.table.why.Why.TheVariants.{CallEnded, NotWaited, NotOffered}
-use Rattle.fed_call.specs.Facts.{Facts, provider_at}
+use Rattle.fed_call.specs.Facts.{Facts, facts_after, provider_at}
 use Rattle.fed_consent.specs.Outcomes.{Outcome, fails, ignored}
 use Rattle.fed_consent.specs.Failures.{plain}
 pub use Rattle.fed_call.specs.ReadingRows.{start_row}
@@ -41,6 +41,10 @@ input_row world facts _ = ignored NotOffered
 abbrev pub call_row : World → Option Facts → Input → Outcome
 call_row world None input = ignored CallEnded
 call_row world (Some facts) input = input_row world facts input
+
+-- what is known of a call after an input
+abbrev pub input_facts : World → Facts → Input → Option Facts
+input_facts world facts input = facts_after world facts input (input_row world facts input)
 
 -- ---- for private clauses
 

@@ -4,8 +4,8 @@ ghost use Rattle.fed_consent.specs.declared.table.input.Input.TheVariants as inp
 ghost use Rattle.fed_consent.specs.Consent.{assertion_fields};
 ghost use Rattle.fed_call.specs.AssertingRows as spec;
 ghost use Rattle.fed_call.specs.Begun.{options_of};
-ghost use Rattle.fed_call.specs.Facts.{facts_after, provider_at};
-ghost use Rattle.fed_call.specs.Row.{input_row, stage_reply};
+ghost use Rattle.fed_call.specs.Facts.{provider_at};
+ghost use Rattle.fed_call.specs.Row.{input_facts, input_row, stage_reply};
 ghost use Rattle.fed_call.specs.State.{begun_facts, facts_of, asserting_facts};
 ghost use Rattle.fed_origin.specs.Origin.{origin_text};
 ghost use Rattle.fed_status.specs.Shared.{world_of};
@@ -55,8 +55,7 @@ impl Asserting {
         shared: &Shared<'_>,
     ) -> Result<(CallState, Items<Effect>), NoRoom>
         ensures effects { IfOk result (λ r. r.1 ≡ (input_row (world_of shared.now) (asserting_facts self) input.now).effects) }
-        ensures state { IfOk result (λ r. facts_of r.0 ≡ facts_after (world_of shared.now) (asserting_facts self) input.now (input_row
-            (world_of shared.now) (asserting_facts self) input.now)) }
+        ensures state { IfOk result (λ r. facts_of r.0 ≡ input_facts (world_of shared.now) (asserting_facts self) input.now) }
     {
         match input {
             Input::Reply {
@@ -85,8 +84,8 @@ impl Asserting {
     ) -> Result<(CallState, Items<Effect>), NoRoom>
         ensures effects { IfOk result (λ r. r.1 ≡ (stage_reply (world_of shared.now) (asserting_facts self) Stage.Asserting place kind
             raw.now).effects) }
-        ensures state { IfOk result (λ r. facts_of r.0 ≡ facts_after (world_of shared.now) (asserting_facts self) (inputs.Reply place kind
-            raw.now) (stage_reply (world_of shared.now) (asserting_facts self) Stage.Asserting place kind raw.now)) }
+        ensures state { IfOk result (λ r. facts_of r.0
+            ≡ input_facts (world_of shared.now) (asserting_facts self) (inputs.Reply place kind raw.now)) }
     {
         match kind {
             ReplyKind::Assertion => self.assertion_reply(alloc, shared, place, raw),
@@ -109,9 +108,8 @@ impl Asserting {
         ensures effects { IfOk result (λ r. r.1 ≡ (spec.assertion_reply (asserting_facts self) place
             (provider_at place (options_of self.begun))
             raw.now).effects) }
-        ensures state { IfOk result (λ r. facts_of r.0 ≡ facts_after (world_of shared.now) (asserting_facts self) (inputs.Reply place
-            ReplyKind.Assertion raw.now) (spec.assertion_reply (asserting_facts self) place (provider_at place (options_of self.begun))
-            raw.now)) }
+        ensures state { IfOk result (λ r. facts_of r.0
+            ≡ input_facts (world_of shared.now) (asserting_facts self) (inputs.Reply place ReplyKind.Assertion raw.now)) }
     {
         if self.begun.has(place) {
             return self.answered(alloc, place, raw);

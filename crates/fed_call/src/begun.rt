@@ -45,8 +45,7 @@ impl Model for Call {
       origin = c.origin;
       mediation = c.mediation;
       mode = c.mode;
-      activation =
-          c.activation;
+      activation = c.activation;
       context = c.context;
       provider = c.provider;
     } };

@@ -4,9 +4,9 @@ ghost use Rattle.fed_consent.specs.declared.table.input.Input.TheVariants as inp
 ghost use Rattle.fed_consent.specs.Consent.{chosen};
 ghost use Rattle.fed_call.specs.Begun.{options_of};
 ghost use Rattle.fed_call.specs.DialogRows as spec;
-ghost use Rattle.fed_call.specs.Facts.{at_stage, facts_after, provider_at, with_candidate, with_choice};
+ghost use Rattle.fed_call.specs.Facts.{at_stage, provider_at, with_candidate, with_choice};
 ghost use Rattle.fed_call.specs.ListingRows.{prompts, prompt_effect};
-ghost use Rattle.fed_call.specs.Row.{input_row};
+ghost use Rattle.fed_call.specs.Row.{input_facts, input_row};
 ghost use Rattle.fed_call.specs.State.{begun_facts, choosing_facts, configured, facts_of};
 ghost use Rattle.fed_status.specs.Shared.{world_of};
 
@@ -48,8 +48,7 @@ impl Choosing {
         shared: &Shared<'_>,
     ) -> Result<(CallState, Items<Effect>), NoRoom>
         ensures effects { IfOk result (λ r. r.1 ≡ (input_row (world_of shared.now) (choosing_facts self) input.now).effects) }
-        ensures state { IfOk result (λ r. facts_of r.0 ≡ facts_after (world_of shared.now) (choosing_facts self) input.now (input_row
-            (world_of shared.now) (choosing_facts self) input.now)) }
+        ensures state { IfOk result (λ r. facts_of r.0 ≡ input_facts (world_of shared.now) (choosing_facts self) input.now) }
     {
         match input {
             Input::Choose { provider, account } => self.choose(alloc, shared, *provider, account),
@@ -74,9 +73,8 @@ impl Choosing {
     ) -> Result<(CallState, Items<Effect>), NoRoom>
         ensures effects { IfOk result (λ r. r.1 ≡ (spec.choice (world_of shared.now) (choosing_facts self) place
             (provider_at place (options_of self.begun)) (chosen id.now self.chooser.listed)).effects) }
-        ensures state { IfOk result (λ r. facts_of r.0 ≡ facts_after (world_of shared.now) (choosing_facts self) (inputs.Choose place
-            id.now) (spec.choice (world_of shared.now) (choosing_facts self) place (provider_at place (options_of self.begun))
-            (chosen id.now self.chooser.listed))) }
+        ensures state { IfOk result (λ r. facts_of r.0
+            ≡ input_facts (world_of shared.now) (choosing_facts self) (inputs.Choose place id.now)) }
     {
         if self.begun.has(place) {
             return self.choose_account(alloc, shared, place, id);
@@ -92,10 +90,11 @@ impl Choosing {
         place: u32,
         id: &Text,
     ) -> Result<(CallState, Items<Effect>), NoRoom>
-        ensures effects { IfOk result (λ r. r.1 ≡ (spec.choice (world_of shared.now) (choosing_facts self) place (Some self.begun.provider)
+        ensures effects { IfOk result (λ r. r.1
+            ≡ (spec.choice (world_of shared.now) (choosing_facts self) place (Some self.begun.provider)
             (chosen id.now self.chooser.listed)).effects) }
-        ensures state { IfOk result (λ r. facts_of r.0 ≡ at_stage (unwrap_or
-            (spec.choice (world_of shared.now) (choosing_facts self) place (Some self.begun.provider)
+        ensures state { IfOk result (λ r. facts_of r.0
+            ≡ at_stage (unwrap_or (spec.choice (world_of shared.now) (choosing_facts self) place (Some self.begun.provider)
             (chosen id.now self.chooser.listed)).stage Stage.Choosing)
             (with_choice (chosen id.now self.chooser.listed) (choosing_facts self))) }
     {
@@ -130,9 +129,10 @@ fn settles(
     ensures effects { IfOk result (λ r. r.1 ≡ (spec.settles (world_of shared.now) (configured begun config Stage.Choosing) place
         begun.provider
         picked.candidate picked.candidate.connected).effects) }
-    ensures state { IfOk result (λ r. facts_of r.0 ≡ at_stage (unwrap_or
-        (spec.settles (world_of shared.now) (configured begun config Stage.Choosing) place begun.provider picked.candidate
-        picked.candidate.connected).stage Stage.Choosing) (with_candidate picked.candidate (configured begun config Stage.Choosing))) }
+    ensures state { IfOk result (λ r. facts_of r.0
+        ≡ at_stage (unwrap_or (spec.settles (world_of shared.now) (configured begun config Stage.Choosing) place begun.provider
+        picked.candidate picked.candidate.connected).stage Stage.Choosing)
+        (with_candidate picked.candidate (configured begun config Stage.Choosing))) }
 {
     let account = picked.account().copy(alloc)?;
     match picked.proceed() {
@@ -151,10 +151,10 @@ fn asks_about(
     picked: Picked,
 ) -> Result<(CallState, Items<Effect>), NoRoom>
     requires { picked.candidate.connected ≡ false }
-    ensures effects { IfOk result (λ r. r.1 ≡ (prompts (world_of shared.now) (configured begun config Stage.Choosing) place begun.provider
-        picked.candidate).effects) }
-    ensures state { IfOk result (λ r. facts_of r.0 ≡ at_stage Stage.Prompting (with_candidate picked.candidate
-        (configured begun config Stage.Choosing))) }
+    ensures effects { IfOk result (λ r. r.1
+        ≡ (prompts (world_of shared.now) (configured begun config Stage.Choosing) place begun.provider picked.candidate).effects) }
+    ensures state { IfOk result (λ r. facts_of r.0
+        ≡ at_stage Stage.Prompting (with_candidate picked.candidate (configured begun config Stage.Choosing))) }
 {
     let prompt = picked.prompt(config.metadata.is_some());
     let effects = prompt_shown(alloc, shared, &begun, place, &prompt, &config)?;

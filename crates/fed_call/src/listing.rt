@@ -2,11 +2,11 @@
 ghost use Rattle.std.specs.Prelude.{◌≡◌, ◌<◌, ◌≤◌, ◌∷◌, [], Some, IfOk, length, map, unwrap_or};
 ghost use Rattle.fed_origin.specs.WebUrl.{origin_of};
 ghost use Rattle.fed_consent.specs.declared.table.input.Input.TheVariants as inputs;
-ghost use Rattle.fed_call.specs.Accounts.{connects, needs_metadata};
+ghost use Rattle.fed_call.specs.Accounts.{connects};
 ghost use Rattle.fed_call.specs.Begun.{options_of};
-ghost use Rattle.fed_call.specs.Facts.{facts_after, at_stage, provider_at, with_accounts, with_listing};
+ghost use Rattle.fed_call.specs.Facts.{at_stage, provider_at, with_accounts, with_listing};
 ghost use Rattle.fed_call.specs.ListingRows as spec;
-ghost use Rattle.fed_call.specs.Row.{input_row, stage_reply};
+ghost use Rattle.fed_call.specs.Row.{input_facts, input_row, stage_reply};
 ghost use Rattle.fed_call.specs.State.{begun_facts, facts_of, listing_facts};
 ghost use Rattle.fed_status.specs.Login.{status_of};
 ghost use Rattle.fed_status.specs.Shared.{world_of};
@@ -47,8 +47,7 @@ impl Listing {
         shared: &Shared<'_>,
     ) -> Result<(CallState, Items<Effect>), NoRoom>
         ensures effects { IfOk result (λ r. r.1 ≡ (input_row (world_of shared.now) (listing_facts self) input.now).effects) }
-        ensures state { IfOk result (λ r. facts_of r.0 ≡ facts_after (world_of shared.now) (listing_facts self) input.now (input_row
-            (world_of shared.now) (listing_facts self) input.now)) }
+        ensures state { IfOk result (λ r. facts_of r.0 ≡ input_facts (world_of shared.now) (listing_facts self) input.now) }
     {
         match input {
             Input::Reply {
@@ -77,8 +76,8 @@ impl Listing {
     ) -> Result<(CallState, Items<Effect>), NoRoom>
         ensures effects { IfOk result (λ r. r.1 ≡ (stage_reply (world_of shared.now) (listing_facts self) Stage.Listing place kind
             raw.now).effects) }
-        ensures state { IfOk result (λ r. facts_of r.0 ≡ facts_after (world_of shared.now) (listing_facts self) (inputs.Reply place kind
-            raw.now) (stage_reply (world_of shared.now) (listing_facts self) Stage.Listing place kind raw.now)) }
+        ensures state { IfOk result (λ r. facts_of r.0
+            ≡ input_facts (world_of shared.now) (listing_facts self) (inputs.Reply place kind raw.now)) }
     {
         match kind {
             ReplyKind::Accounts => self.accounts_reply(alloc, shared, place, raw),
@@ -101,9 +100,7 @@ impl Listing {
         ensures effects { IfOk result (λ r. r.1 ≡ (spec.accounts_reply (world_of shared.now) (listing_facts self) place
             (provider_at place (options_of self.begun)) raw.now).effects) }
         ensures state { IfOk result (λ r. facts_of r.0
-            ≡ facts_after (world_of shared.now) (listing_facts self) (inputs.Reply place ReplyKind.Accounts
-            raw.now) (spec.accounts_reply (world_of shared.now) (listing_facts self) place (provider_at place (options_of self.begun))
-            raw.now)) }
+            ≡ input_facts (world_of shared.now) (listing_facts self) (inputs.Reply place ReplyKind.Accounts raw.now)) }
     {
         if self.begun.has(place) {
             return self.first_accounts(alloc, shared, place, raw);
@@ -122,9 +119,10 @@ impl Listing {
         ensures effects { IfOk result (λ r. r.1 ≡ (spec.accounts_reply (world_of shared.now) (listing_facts self) place
             (Some self.begun.provider)
             raw.now).effects) }
-        ensures state { IfOk result (λ r. facts_of r.0 ≡ at_stage (unwrap_or
-            (spec.accounts_reply (world_of shared.now) (listing_facts self) place (Some self.begun.provider) raw.now).stage
-            Stage.Listing) (with_listing (world_of shared.now) raw.now (Some self.begun.provider) (listing_facts self))) }
+        ensures state { IfOk result (λ r. facts_of r.0
+            ≡ at_stage (unwrap_or (spec.accounts_reply (world_of shared.now) (listing_facts self) place
+            (Some self.begun.provider) raw.now).stage Stage.Listing)
+            (with_listing (world_of shared.now) raw.now (Some self.begun.provider) (listing_facts self))) }
     {
         match hinted_accounts(alloc, raw, &self.begun.provider)? {
             Ok(accounts) => self.accepts(alloc, shared, place, accounts),
@@ -143,9 +141,10 @@ impl Listing {
         ensures effects { IfOk result (λ r. r.1 ≡ (spec.refused (world_of shared.now) (listing_facts self) place
             (origin_of self.begun.provider.config)
             failure).effects) }
-        ensures state { IfOk result (λ r. facts_of r.0 ≡ at_stage (unwrap_or
-            (spec.refused (world_of shared.now) (listing_facts self) place (origin_of self.begun.provider.config) failure).stage
-            Stage.Listing) (listing_facts self)) }
+        ensures state { IfOk result (λ r. facts_of r.0
+            ≡ at_stage (unwrap_or (spec.refused (world_of shared.now) (listing_facts self) place
+            (origin_of self.begun.provider.config) failure).stage Stage.Listing)
+            (listing_facts self)) }
     {
         if is_mismatch(&self.begun, shared) {
             return self.shows_mismatch(alloc, shared, place, failure);
@@ -181,8 +180,9 @@ impl Listing {
     ) -> Result<(CallState, Items<Effect>), NoRoom>
         ensures effects { IfOk result (λ r. r.1 ≡ (spec.accepted (world_of shared.now) (listing_facts self) place self.begun.provider
             accounts).effects) }
-        ensures state { IfOk result (λ r. facts_of r.0 ≡ at_stage (unwrap_or
-            (spec.accepted (world_of shared.now) (listing_facts self) place self.begun.provider accounts).stage Stage.Listing)
+        ensures state { IfOk result (λ r. facts_of r.0
+            ≡ at_stage (unwrap_or (spec.accepted (world_of shared.now) (listing_facts self) place
+            self.begun.provider accounts).stage Stage.Listing)
             (with_accounts (world_of shared.now) self.begun.provider accounts (listing_facts self))) }
     {
         let connected = connections(alloc, shared.kept, &self.begun, accounts.list())?;
@@ -206,8 +206,9 @@ impl Listing {
         requires each { connected ∷ [] ≡ map (connects (world_of shared.now) self.begun.origin self.begun.provider) accounts }
         ensures effects { IfOk result (λ r. r.1 ≡ (spec.accepted (world_of shared.now) (listing_facts self) place self.begun.provider
             accounts).effects) }
-        ensures state { IfOk result (λ r. facts_of r.0 ≡ at_stage (unwrap_or
-            (spec.accepted (world_of shared.now) (listing_facts self) place self.begun.provider accounts).stage Stage.Listing)
+        ensures state { IfOk result (λ r. facts_of r.0
+            ≡ at_stage (unwrap_or (spec.accepted (world_of shared.now) (listing_facts self) place
+            self.begun.provider accounts).stage Stage.Listing)
             (with_accounts (world_of shared.now) self.begun.provider accounts (listing_facts self))) }
     {
         let waits = !connected && self.config.metadata.is_some();
@@ -235,8 +236,9 @@ impl Listing {
         requires each { connected ≡ map (connects (world_of shared.now) self.begun.origin self.begun.provider) accounts }
         ensures effects { IfOk result (λ r. r.1 ≡ (spec.accepted (world_of shared.now) (listing_facts self) place self.begun.provider
             accounts).effects) }
-        ensures state { IfOk result (λ r. facts_of r.0 ≡ at_stage (unwrap_or
-            (spec.accepted (world_of shared.now) (listing_facts self) place self.begun.provider accounts).stage Stage.Listing)
+        ensures state { IfOk result (λ r. facts_of r.0
+            ≡ at_stage (unwrap_or (spec.accepted (world_of shared.now) (listing_facts self) place
+            self.begun.provider accounts).stage Stage.Listing)
             (with_accounts (world_of shared.now) self.begun.provider accounts (listing_facts self))) }
     {
         let chooser = Chooser::new(self.begun.call, place, accounts, connected);

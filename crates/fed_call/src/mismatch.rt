@@ -1,7 +1,6 @@
 //! A call whose user is shown that the provider gave no account.
 ghost use Rattle.std.specs.Prelude.{◌≡◌, IfOk};
-ghost use Rattle.fed_call.specs.Facts.{facts_after};
-ghost use Rattle.fed_call.specs.Row.{input_row};
+ghost use Rattle.fed_call.specs.Row.{input_facts, input_row};
 ghost use Rattle.fed_call.specs.State.{facts_of, mismatch_facts};
 ghost use Rattle.fed_status.specs.Shared.{world_of};
 
@@ -38,8 +37,7 @@ impl Mismatch {
         shared: &Shared<'_>,
     ) -> Result<(CallState, Items<Effect>), NoRoom>
         ensures effects { IfOk result (λ r. r.1 ≡ (input_row (world_of shared.now) (mismatch_facts self) input.now).effects) }
-        ensures state { IfOk result (λ r. facts_of r.0 ≡ facts_after (world_of shared.now) (mismatch_facts self) input.now (input_row
-            (world_of shared.now) (mismatch_facts self) input.now)) }
+        ensures state { IfOk result (λ r. facts_of r.0 ≡ input_facts (world_of shared.now) (mismatch_facts self) input.now) }
     {
         match input {
             Input::Cancel => fails(alloc, Failure::plain(FailStep::UserCancelled)),

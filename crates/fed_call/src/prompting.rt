@@ -3,9 +3,9 @@ ghost use Rattle.std.specs.Prelude.{◌≡◌, ◌∷◌, [], false, IfOk, unwra
 ghost use Rattle.fed_consent.specs.declared.table.input.Input.TheVariants as inputs;
 ghost use Rattle.fed_call.specs.Begun.{options_of};
 ghost use Rattle.fed_call.specs.DialogRows as spec;
-ghost use Rattle.fed_call.specs.Facts.{at_stage, facts_after, provider_at};
+ghost use Rattle.fed_call.specs.Facts.{at_stage, provider_at};
 ghost use Rattle.fed_call.specs.ListingRows.{prompt_dialog};
-ghost use Rattle.fed_call.specs.Row.{input_row, stage_reply};
+ghost use Rattle.fed_call.specs.Row.{input_facts, input_row, stage_reply};
 ghost use Rattle.fed_call.specs.State.{facts_of, prompting_facts};
 ghost use Rattle.fed_provider.specs.Metadata.{MetadataOf};
 ghost use Rattle.fed_status.specs.Shared.{world_of};
@@ -48,8 +48,7 @@ impl Prompting {
         shared: &Shared<'_>,
     ) -> Result<(CallState, Items<Effect>), NoRoom>
         ensures effects { IfOk result (λ r. r.1 ≡ (input_row (world_of shared.now) (prompting_facts self) input.now).effects) }
-        ensures state { IfOk result (λ r. facts_of r.0 ≡ facts_after (world_of shared.now) (prompting_facts self) input.now (input_row
-            (world_of shared.now) (prompting_facts self) input.now)) }
+        ensures state { IfOk result (λ r. facts_of r.0 ≡ input_facts (world_of shared.now) (prompting_facts self) input.now) }
     {
         match input {
             Input::Reply {
@@ -76,8 +75,8 @@ impl Prompting {
     ) -> Result<(CallState, Items<Effect>), NoRoom>
         ensures effects { IfOk result (λ r. r.1 ≡ (stage_reply (world_of shared.now) (prompting_facts self) Stage.Prompting place kind
             raw.now).effects) }
-        ensures state { IfOk result (λ r. facts_of r.0 ≡ facts_after (world_of shared.now) (prompting_facts self) (inputs.Reply place kind
-            raw.now) (stage_reply (world_of shared.now) (prompting_facts self) Stage.Prompting place kind raw.now)) }
+        ensures state { IfOk result (λ r. facts_of r.0
+            ≡ input_facts (world_of shared.now) (prompting_facts self) (inputs.Reply place kind raw.now)) }
     {
         match kind {
             ReplyKind::Metadata => self.metadata_reply(alloc, shared, place, raw),
@@ -97,12 +96,11 @@ impl Prompting {
         place: u32,
         raw: &[u8],
     ) -> Result<(CallState, Items<Effect>), NoRoom>
-        ensures effects { IfOk result (λ r. r.1 ≡ (spec.metadata_reply (world_of shared.now) (prompting_facts self) self.prompt.waits place
+        ensures effects { IfOk result (λ r. r.1
+            ≡ (spec.metadata_reply (world_of shared.now) (prompting_facts self) self.prompt.waits place
             (provider_at place (options_of self.begun)) raw.now).effects) }
         ensures state { IfOk result (λ r. facts_of r.0
-            ≡ facts_after (world_of shared.now) (prompting_facts self) (inputs.Reply place ReplyKind.Metadata
-            raw.now) (spec.metadata_reply (world_of shared.now) (prompting_facts self) self.prompt.waits place
-            (provider_at place (options_of self.begun)) raw.now)) }
+            ≡ input_facts (world_of shared.now) (prompting_facts self) (inputs.Reply place ReplyKind.Metadata raw.now)) }
     {
         match (self.prompt.waits(), self.begun.has(place)) {
             (true, true) => self.shows_links(alloc, shared, place, raw),
@@ -141,8 +139,8 @@ impl Prompting {
     // The user went on with the account, if the prompt does not wait (row C27, else row C36).
     fn go_on(self, alloc: Global) -> Result<(CallState, Items<Effect>), NoRoom>
         ensures effects { IfOk result (λ r. r.1 ≡ (spec.went_on (prompting_facts self) Stage.Prompting).effects) }
-        ensures state { IfOk result (λ r. facts_of r.0 ≡ at_stage (unwrap_or (spec.went_on (prompting_facts self) Stage.Prompting).stage
-            Stage.Prompting) (prompting_facts self)) }
+        ensures state { IfOk result (λ r. facts_of r.0
+            ≡ at_stage (unwrap_or (spec.went_on (prompting_facts self) Stage.Prompting).stage Stage.Prompting) (prompting_facts self)) }
     {
         let account = self.prompt.account().copy(alloc)?;
         let connected = self.prompt.connected();

@@ -1,9 +1,8 @@
 //! A call whose well-known file and configuration are awaited.
 ghost use Rattle.std.specs.Prelude.{◌≡◌, ◌∷◌, [], IfOk};
 ghost use Rattle.fed_consent.specs.declared.table.input.Input.TheVariants as inputs;
-ghost use Rattle.fed_call.specs.Facts.{facts_after};
 ghost use Rattle.fed_call.specs.ReadingRows as spec;
-ghost use Rattle.fed_call.specs.Row.{input_row, stage_reply};
+ghost use Rattle.fed_call.specs.Row.{input_facts, input_row, stage_reply};
 ghost use Rattle.fed_call.specs.State.{facts_heard, facts_of, reading_facts};
 ghost use Rattle.fed_status.specs.Shared.{world_of};
 
@@ -41,8 +40,7 @@ impl Reading {
         shared: &Shared<'_>,
     ) -> Result<(CallState, Items<Effect>), NoRoom>
         ensures effects { IfOk result (λ r. r.1 ≡ (input_row (world_of shared.now) (reading_facts self) input.now).effects) }
-        ensures state { IfOk result (λ r. facts_of r.0 ≡ facts_after (world_of shared.now) (reading_facts self) input.now (input_row
-            (world_of shared.now) (reading_facts self) input.now)) }
+        ensures state { IfOk result (λ r. facts_of r.0 ≡ input_facts (world_of shared.now) (reading_facts self) input.now) }
     {
         match input {
             Input::Reply {
@@ -71,8 +69,8 @@ impl Reading {
     ) -> Result<(CallState, Items<Effect>), NoRoom>
         ensures effects { IfOk result (λ r. r.1 ≡ (stage_reply (world_of shared.now) (reading_facts self) Stage.Reading place kind
             raw.now).effects) }
-        ensures state { IfOk result (λ r. facts_of r.0 ≡ facts_after (world_of shared.now) (reading_facts self) (inputs.Reply place kind
-            raw.now) (stage_reply (world_of shared.now) (reading_facts self) Stage.Reading place kind raw.now)) }
+        ensures state { IfOk result (λ r. facts_of r.0
+            ≡ input_facts (world_of shared.now) (reading_facts self) (inputs.Reply place kind raw.now)) }
     {
         if !self.begun.has(place) {
             return CallState::Reading(self).ignores(alloc, Why::NotWaited);

@@ -1,10 +1,14 @@
 -- What the user is offered, what the user agreed to, and the request that it makes.
-use Rattle.std.specs.Prelude.{ℕ, Bool, true, false, not, ◌&&◌, List, Option, Some, slice_get, option_and_then, option_map, Result, Ok, Err, bytes_eq, if◌then◌else◌}
+use Rattle.std.specs.Prelude.{ℕ, Bool, true, false, not, ◌&&◌, List, Option, Some, slice_get, option_and_then, option_map, Result, Ok}
+use Rattle.std.specs.Prelude.{Err}
+use Rattle.std.specs.Prelude.{bytes_eq, if◌then◌else◌}
 use Rattle.std.specs.List.{position}
 use Rattle.url.specs.Parts.{Parts}
+use Rattle.fed_origin.specs.declared.options.Mediation.{Mediation}
 use Rattle.fed_origin.specs.declared.origin.Origin.{Origin}
 use Rattle.fed_origin.specs.declared.options.ProviderOptions.{ProviderOptions}
 use Rattle.fed_accounts.specs.declared.account.Account.{Account}
+use Rattle.fed_accounts.specs.Connection.{Reselect}
 use Rattle.fed_consent.specs.declared.consent.manner.Manner.{Manner}
 use Rattle.fed_consent.specs.declared.consent.manner.Manner.TheVariants.{Chosen, Prompted, Reselected}
 
@@ -23,7 +27,8 @@ pub record Candidate : Type 0 where
 -- the account at this place of a list, if there is one
 abbrev pub candidate_at : Listed → ℕ → Option Candidate
 candidate_at listed place =
-    option_and_then (λ account. option_map (λ connected. record { account = account; connected = connected }) (slice_get listed.connected place))
+    option_and_then (λ account. option_map (λ connected. record { account = account; connected = connected }) (slice_get listed.connected
+    place))
     (slice_get listed.accounts place)
 
 abbrev pub has_id : List ℕ → Account → Bool
@@ -55,6 +60,44 @@ pub record Question : Type 0 where
   -- the metadata of the client are awaited
   pub waits : Bool
 
+-- ---- what needs no user
+
+-- the accounts of a provider, and what the rules of reselection look at
+pub record Grounds : Type 0 where
+  pub call : ℕ
+  pub provider : ℕ
+  pub accounts : List Account
+  -- the client's id at the provider
+  pub client : List ℕ
+  -- of each account, whether its permission is kept
+  pub kept : List Bool
+  -- silent access is prevented at the origin of the page
+  pub flag : Bool
+  pub mediation : Mediation
+
+abbrev pub grounds_of : ℕ → ℕ → List Account → List ℕ → List Bool → Bool → Mediation → Grounds
+grounds_of call provider accounts client kept flag mediation =
+    record {
+      call = call;
+      provider = provider;
+      accounts = accounts;
+      client = client;
+      kept = kept;
+      flag = flag;
+      mediation = mediation;
+    }
+
+-- an eligible account, which is connected
+abbrev pub eligible_pick : Grounds → Account → Pick
+eligible_pick found account =
+    record { call = found.call; provider = found.provider; candidate = record { account = account; connected = true } }
+
+-- the only eligible account, where neither the flag nor the mediation is against it
+abbrev pub reselection_on : Grounds → Option Pick
+reselection_on found =
+    option_and_then (λ place. option_map (eligible_pick found) (slice_get found.accounts place))
+    (Reselect found.accounts found.client found.kept found.flag found.mediation)
+
 -- ---- what was agreed to
 
 -- a call may name its page to the provider for this account
@@ -79,6 +122,10 @@ by_choice pick = if pick.candidate.connected then Ok (agreement pick Chosen fals
 abbrev pub by_prompt : Question → Result Agreement Question
 by_prompt question =
     if question.waits then Err question else Ok (agreement question.pick Prompted (not question.pick.candidate.connected))
+
+-- an account that is reselected suffices; the user was shown nothing
+abbrev pub by_reselection : Pick → Agreement
+by_reselection pick = agreement pick Reselected false
 
 -- ---- the request for a token
 

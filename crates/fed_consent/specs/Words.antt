@@ -11,7 +11,8 @@ use Rattle.fed_consent.specs.declared.table.failure.Detail.TheVariants.{Reply, M
 use Rattle.fed_consent.specs.declared.table.finish.Finish.{Finish}
 use Rattle.fed_consent.specs.declared.table.finish.Finish.TheVariants.{Token, Disconnected, Failed, ProviderError}
 use Rattle.fed_consent.specs.declared.table.why.Why.{Why}
-use Rattle.fed_consent.specs.declared.table.why.Why.TheVariants.{NoPage, PageInsecure, NoCall, CallEnded, NotWaited, NotOffered, NoAccount, NobodyWaits}
+use Rattle.fed_consent.specs.declared.table.why.Why.TheVariants.{NoPage, PageInsecure, NoCall, CallEnded, NotWaited, NotOffered, NoAccount}
+use Rattle.fed_consent.specs.declared.table.why.Why.TheVariants.{NobodyWaits}
 
 abbrev pub step_text : FailStep → List ℕ
 step_text steps.CallPending = codes "call-pending"

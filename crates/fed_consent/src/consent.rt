@@ -1,8 +1,8 @@
-//! The consent, and all that makes one. A privacy reviewer reads this folder alone: `Picked` and `Prompt` are the only makers of a
-//! `Consent`, and a `Consent` is the only maker of the request that names the page to the provider. No other module sees a
-//! field of these types.
+//! The consent, and all that makes one. A privacy reviewer reads this folder alone: `Picked`, `Prompt` and `Reselection` are the
+//! only makers of a `Consent`, and a `Consent` is the only maker of the request that names the page to the provider. No other
+//! module sees a field of these types.
 //!
-//! In reading order: `manner`, `chooser`, `picked`, `prompt`, `agreement`, `assertion`.
+//! In reading order: `manner`, `chooser`, `picked`, `prompt`, `reselection`, `agreement`, `assertion`.
 
 mod agreement;
 mod assertion;
@@ -10,6 +10,7 @@ mod chooser;
 mod manner;
 mod picked;
 mod prompt;
+mod reselection;
 
 pub use agreement::Consent;
 pub use assertion::AssertionAsk;
@@ -17,3 +18,4 @@ pub use chooser::Chooser;
 pub use manner::Manner;
 pub use picked::Picked;
 pub use prompt::Prompt;
+pub use reselection::Reselection;

@@ -6,7 +6,7 @@ mod table;
 #[cfg(test)]
 mod tests;
 
-pub use consent::{AssertionAsk, Chooser, Consent, Manner, Picked, Prompt};
+pub use consent::{AssertionAsk, Chooser, Consent, Manner, Picked, Prompt, Reselection};
 pub use table::{
     Ask, Detail, Dialog, Effect, FailStep, Failure, Finish, Input, ONLY_PLACE, Shown, Why,
 };

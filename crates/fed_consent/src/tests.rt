@@ -1,10 +1,12 @@
 //! Requests, words and consents.
 ghost use Rattle.std.specs.Prelude.{◌≡◌, IfOk, length};
 
-use crate::{Ask, Chooser, Consent, Detail, FailStep, Failure, Finish, Picked, Prompt, Why};
-use fed_accounts::{Accounts, read_accounts};
+use crate::{
+    Ask, Chooser, Consent, Detail, FailStep, Failure, Finish, Picked, Prompt, Reselection, Why,
+};
+use fed_accounts::{Accounts, read_accounts, reselect};
 use fed_io::{Items, NoRoom, Text};
-use fed_origin::{Endpoint, Origin, ProviderOptions, ReplyKind, WebUrl};
+use fed_origin::{Endpoint, Mediation, Origin, ProviderOptions, ReplyKind, WebUrl};
 use fed_reply::ReplyStep;
 use std::alloc::Global;
 use std::test::Fail;
@@ -224,5 +226,56 @@ fn a_choice_makes_a_consent(rt: HostRuntime) -> Result<(), Fail> {
     assert_eq!(rt; chosen(rt.alloc(), "u1")?, "prompt");
     assert_eq!(rt; chosen(rt.alloc(), "u2")?, "consent");
     assert_eq!(rt; chosen(rt.alloc(), "u3")?, "none");
+    Ok(())
+}
+
+// The only one of two accounts whose permission is kept; none where there is none, or other accounts were read.
+fn reselection(alloc: Global, kept: &[bool]) -> Result<Option<Reselection>, NoRoom> {
+    let client = Text::of(alloc, "c1")?;
+    let accounts = accounts(alloc, BOTH)?;
+    if kept.len() != accounts.list().len() {
+        return Ok(None);
+    }
+    match reselect(&accounts, &client, kept, false, Mediation::Optional) {
+        Some(place) => Ok(Some(Reselection::new(
+            1,
+            0,
+            accounts,
+            &client,
+            kept,
+            false,
+            Mediation::Optional,
+            place,
+        ))),
+        None => Ok(None),
+    }
+}
+
+// Whether this request asks for a token for this account, of which the user was neither asked nor shown anything.
+fn is_silent(ask: &Ask, id: &str) -> bool {
+    match ask {
+        Ask::Assertion(ask) => ask.account().as_str() == id && ask.auto() && !ask.disclosure(),
+        _ => false,
+    }
+}
+
+// Whether a token for this account is asked for without the user.
+fn asks_silently(alloc: Global, kept: &[bool], id: &str) -> Result<bool, NoRoom> {
+    let options = options(alloc)?;
+    let origin = Origin::of_url(alloc, &options.config)?;
+    match reselection(alloc, kept)? {
+        Some(again) => {
+            let named = again.account().id.as_str() == id;
+            let ask = spent(alloc, again.proceed(), &origin, &options)?;
+            Ok(named && is_silent(&ask, id))
+        }
+        None => Ok(false),
+    }
+}
+
+#[test]
+fn a_reselection_makes_a_consent(rt: HostRuntime) -> Result<(), Fail> {
+    assert!(rt; asks_silently(rt.alloc(), &[false, true], "u2")?);
+    assert!(rt; !asks_silently(rt.alloc(), &[true, true], "u2")?);
     Ok(())
 }

@@ -35,7 +35,7 @@ use Rattle.fed_consent.specs.declared.table.input.Input.TheVariants.{Reply}
 use Rattle.fed_consent.specs.declared.table.why.Why.TheVariants.{CallEnded, NotWaited, NotOffered}
 use Rattle.fed_consent.specs.Failures.{plain, detailed, provider_failure}
 use Rattle.fed_consent.specs.Outcomes.{Outcome, only_place, finishes, fails, ignored, stays, moves, after}
-use Rattle.fed_disconnect.specs.Facts.{DisconnectOptions, DisconnectFacts, provider_origin}
+use Rattle.fed_disconnect.specs.Facts.{DisconnectOptions, DisconnectFacts, facts_after, provider_origin}
 
 -- ---- a disconnect
 
@@ -135,6 +135,10 @@ input_row world facts _ = ignored NotOffered
 abbrev pub disconnect_row : World → Option DisconnectFacts → Input → Outcome
 disconnect_row world None input = ignored CallEnded
 disconnect_row world (Some facts) input = input_row world facts input
+
+-- what is known of a call after an input
+abbrev pub input_facts : World → DisconnectFacts → Input → Option DisconnectFacts
+input_facts world facts input = facts_after world facts input (input_row world facts input)
 
 -- ---- for private clauses
 

@@ -1,10 +1,9 @@
 //! A disconnect call whose well-known file and configuration are awaited.
-ghost use Rattle.std.specs.Prelude.{◌≡◌, ◌==◌, [], ◌∷◌, true, IfOk, unwrap_or};
+ghost use Rattle.std.specs.Prelude.{◌≡◌, ◌==◌, [], ◌∷◌, IfOk, unwrap_or};
 ghost use Rattle.fed_consent.specs.Outcomes.{ignored, only_place};
 ghost use Rattle.fed_consent.specs.declared.table.input.Input.TheVariants as inputs;
-ghost use Rattle.fed_provider.specs.FirstReplies.{reply_heard};
 ghost use Rattle.fed_status.specs.Shared.{world_of};
-ghost use Rattle.fed_disconnect.specs.Facts.{at_stage, both_taken, facts_after, taken};
+ghost use Rattle.fed_disconnect.specs.Facts.{at_stage, both_taken, taken};
 ghost use Rattle.fed_disconnect.specs.Rows as spec;
 ghost use Rattle.fed_disconnect.specs.State.{disconnect_facts_of, reading_facts};
 
@@ -44,8 +43,7 @@ impl DReading {
     ) -> Result<(DState, Items<Effect>), NoRoom>
         ensures effects { IfOk result (λ r. r.1 ≡ (spec.input_row (world_of shared.now) (reading_facts self) input.now).effects) }
         ensures state { IfOk result (λ r. disconnect_facts_of r.0
-            ≡ facts_after (world_of shared.now) (reading_facts self) input.now (spec.input_row
-            (world_of shared.now) (reading_facts self) input.now)) }
+            ≡ spec.input_facts (world_of shared.now) (reading_facts self) input.now) }
     {
         match input {
             Input::Reply {
@@ -81,11 +79,10 @@ impl DReading {
         kind: ReplyKind,
         raw: &[u8],
     ) -> Result<(DState, Items<Effect>), NoRoom>
-        ensures effects { IfOk result (λ r. r.1 ≡ (spec.provider_reply (world_of shared.now) (reading_facts self) (place == only_place) kind
-            raw.now).effects) }
+        ensures effects { IfOk result (λ r. r.1
+            ≡ (spec.provider_reply (world_of shared.now) (reading_facts self) (place == only_place) kind raw.now).effects) }
         ensures state { IfOk result (λ r. disconnect_facts_of r.0
-            ≡ facts_after (world_of shared.now) (reading_facts self) (inputs.Reply place kind
-            raw.now) (spec.provider_reply (world_of shared.now) (reading_facts self) (place == only_place) kind raw.now)) }
+            ≡ spec.input_facts (world_of shared.now) (reading_facts self) (inputs.Reply place kind raw.now)) }
     {
         if place == ONLY_PLACE {
             return self.hears(alloc, shared, kind, raw);
@@ -104,8 +101,7 @@ impl DReading {
         ensures effects { IfOk result (λ r. r.1 ≡ (spec.stage_reply (world_of shared.now) (reading_facts self) Stage.Reading kind
             raw.now).effects) }
         ensures state { IfOk result (λ r. disconnect_facts_of r.0
-            ≡ facts_after (world_of shared.now) (reading_facts self) (inputs.Reply only_place kind
-            raw.now) (spec.stage_reply (world_of shared.now) (reading_facts self) Stage.Reading kind raw.now)) }
+            ≡ spec.input_facts (world_of shared.now) (reading_facts self) (inputs.Reply only_place kind raw.now)) }
     {
         let DReading { begun, replies } = self;
         let heard = replies.hear(alloc, shared.rules, &begun.config, kind, raw)?;
@@ -116,8 +112,9 @@ impl DReading {
 // What a call does by what a reply comes to.
 fn goes_on(alloc: Global, begun: Begun, heard: Heard) -> Result<(DState, Items<Effect>), NoRoom>
     ensures effects { IfOk result (λ r. r.1 ≡ (spec.by_heard begun.origin begun.options heard).effects) }
-    ensures state { IfOk result (λ r. disconnect_facts_of r.0 ≡ at_stage (unwrap_or (spec.by_heard begun.origin begun.options heard).stage
-        Stage.Reading) (record begun { replies = taken heard })) }
+    ensures state { IfOk result (λ r. disconnect_facts_of r.0
+        ≡ at_stage (unwrap_or (spec.by_heard begun.origin begun.options heard).stage Stage.Reading)
+        (record begun { replies = taken heard })) }
 {
     match heard {
         Heard::Refused(step) => fails(alloc, Failure::of_provider(step)),
@@ -140,9 +137,9 @@ fn asks_disconnect(
     config: Config,
 ) -> Result<(DState, Items<Effect>), NoRoom>
     ensures effects { IfOk result (λ r. r.1 ≡ (spec.asks_disconnect begun.origin begun.options config.disconnect).effects) }
-    ensures state { IfOk result (λ r. disconnect_facts_of r.0 ≡ at_stage (unwrap_or
-        (spec.asks_disconnect begun.origin begun.options config.disconnect).stage Stage.Reading) (record begun
-        { replies = both_taken config })) }
+    ensures state { IfOk result (λ r. disconnect_facts_of r.0
+        ≡ at_stage (unwrap_or (spec.asks_disconnect begun.origin begun.options config.disconnect).stage Stage.Reading)
+        (record begun { replies = both_taken config })) }
 {
     match &config.disconnect {
         Some(to) => {

@@ -1,12 +1,12 @@
 //! A disconnect call whose disconnect reply is awaited.
-ghost use Rattle.std.specs.Prelude.{◌≡◌, ◌==◌, true, IfOk, unwrap_or};
+ghost use Rattle.std.specs.Prelude.{◌≡◌, ◌==◌, IfOk};
 ghost use Rattle.fed_consent.specs.Outcomes.{ignored, only_place};
 ghost use Rattle.fed_consent.specs.declared.table.input.Input.TheVariants as inputs;
 ghost use Rattle.fed_origin.specs.Origin.{origin_text};
 ghost use Rattle.fed_status.specs.Kept.{has_triple, triple_of};
 ghost use Rattle.fed_status.specs.Shared.{world_of};
 ghost use Rattle.fed_token.specs.Read.{DisconnectOf, IsDisconnectStep};
-ghost use Rattle.fed_disconnect.specs.Facts.{facts_after, provider_origin};
+ghost use Rattle.fed_disconnect.specs.Facts.{provider_origin};
 ghost use Rattle.fed_disconnect.specs.Rows as spec;
 ghost use Rattle.fed_disconnect.specs.State.{disconnect_facts_of, sending_facts};
 
@@ -46,8 +46,7 @@ impl DSending {
     ) -> Result<(DState, Items<Effect>), NoRoom>
         ensures effects { IfOk result (λ r. r.1 ≡ (spec.input_row (world_of shared.now) (sending_facts self) input.now).effects) }
         ensures state { IfOk result (λ r. disconnect_facts_of r.0
-            ≡ facts_after (world_of shared.now) (sending_facts self) input.now (spec.input_row
-            (world_of shared.now) (sending_facts self) input.now)) }
+            ≡ spec.input_facts (world_of shared.now) (sending_facts self) input.now) }
     {
         match input {
             Input::Reply {
@@ -83,11 +82,10 @@ impl DSending {
         kind: ReplyKind,
         raw: &[u8],
     ) -> Result<(DState, Items<Effect>), NoRoom>
-        ensures effects { IfOk result (λ r. r.1 ≡ (spec.provider_reply (world_of shared.now) (sending_facts self) (place == only_place) kind
-            raw.now).effects) }
+        ensures effects { IfOk result (λ r. r.1
+            ≡ (spec.provider_reply (world_of shared.now) (sending_facts self) (place == only_place) kind raw.now).effects) }
         ensures state { IfOk result (λ r. disconnect_facts_of r.0
-            ≡ facts_after (world_of shared.now) (sending_facts self) (inputs.Reply place kind
-            raw.now) (spec.provider_reply (world_of shared.now) (sending_facts self) (place == only_place) kind raw.now)) }
+            ≡ spec.input_facts (world_of shared.now) (sending_facts self) (inputs.Reply place kind raw.now)) }
     {
         if place == ONLY_PLACE {
             return self.hears(alloc, shared, kind, raw);
@@ -106,8 +104,7 @@ impl DSending {
         ensures effects { IfOk result (λ r. r.1 ≡ (spec.stage_reply (world_of shared.now) (sending_facts self) Stage.Asserting kind
             raw.now).effects) }
         ensures state { IfOk result (λ r. disconnect_facts_of r.0
-            ≡ facts_after (world_of shared.now) (sending_facts self) (inputs.Reply only_place kind
-            raw.now) (spec.stage_reply (world_of shared.now) (sending_facts self) Stage.Asserting kind raw.now)) }
+            ≡ spec.input_facts (world_of shared.now) (sending_facts self) (inputs.Reply only_place kind raw.now)) }
     {
         match kind {
             ReplyKind::Disconnect => {

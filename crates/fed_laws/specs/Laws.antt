@@ -65,7 +65,8 @@ abbrev pub IsAnswered : Trace → Type 0
 IsAnswered T =
     (after since before : List Row) (row asking : Row) (kind : CallKind) (call provider : ℕ) (ask : AssertionFields) (cookies : List ℕ)
     (begun : Begun) (raw token : List ℕ)
-    → T.rows ≡ after ++ row ∷ (since ++ asking ∷ before) → Has asking.effects (Sent kind call provider (asks.Assertion ask) cookies)
+    → T.rows ≡ after ++ row ∷ (since ++ asking ∷ before)
+    → Has asking.effects (Sent kind call provider (asks.Assertion ask) cookies)
     → call_at before call ≡ Some begun → list_any (disturbs call begun.page) since ≡ false
     → row.event ≡ Reply call provider kinds.Assertion raw → AssertionOf raw (origin_text begun.origin) ≡ Ok token
     → (auto : Bool) × Has row.effects (Result call begun.page (Token auto provider token))

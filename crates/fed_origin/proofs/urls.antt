@@ -1,2 +1,8 @@
 -- URLs of the web.
-pub mod SameText
+pub mod Reads
+pub mod Places
+pub mod PlainHost
+pub mod PlainPath
+pub mod PlainUrl
+pub mod Reference
+pub mod Beside

@@ -1,5 +1,7 @@
 -- Hosts, which contracts see as their texts, in the form that a URL writes.
-use Rattle.std.specs.Prelude.{ℕ, Bool, true, false, ◌&&◌, ◌||◌, ◌==◌, List, [], ◌∷◌, slice_index, ◌-◌, nat_le, bytes_eq, codes, nat_eq, if◌then◌else◌}
+use Rattle.std.specs.Prelude.{ℕ, Bool, true, false, ◌&&◌, ◌||◌, ◌==◌, List, [], ◌∷◌, slice_index, ◌-◌, nat_le}
+use Rattle.std.specs.Prelude.{bytes_eq, codes, nat_eq}
+use Rattle.std.specs.Prelude.{if◌then◌else◌}
 use Rattle.std.specs.List.{starts_with, ends_with}
 use Rattle.std.specs.Char.{is_ascii_digit}
 use Rattle.fed_origin.specs.declared.host.HostKind.{HostKind}

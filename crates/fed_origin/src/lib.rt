@@ -3,8 +3,10 @@
 
 mod host;
 pub mod laws;
+mod layout;
 mod options;
 mod origin;
+mod plain;
 mod refusal;
 mod scheme;
 mod stage;

@@ -1,11 +1,12 @@
 //! Origins.
-ghost use Rattle.std.specs.Prelude.{◌≡◌, IfOk};
+ghost use Rattle.std.specs.Prelude.{◌≡◌, ◌++◌, codes, decimal, IfOk, OnOk};
 ghost use Rattle.fed_origin.specs.Host as spec;
 ghost use Rattle.std.proofs.Common.{rules};
 ghost use Rattle.std.specs.Cmp.Rules.{comparing};
 
 use crate::{Host, HostKind, Scheme, WebUrl};
 use fed_io::{NoRoom, Text};
+use itoa::Buffer;
 use std::alloc::Global;
 
 /// A tuple origin: scheme, host and port (HTML 7.1.1).
@@ -71,6 +72,20 @@ impl Origin {
         Text::of(alloc, text.as_str())
     }
 
+    /// Adds the text of the origin, as `serialize` gives it, without a text that goes at once.
+    #[tactic(auto, using(std::proofs::Common::append_assoc))]
+    pub fn push_to(&self, bytes: &mut Vec<u8>) -> Result<(), NoRoom>
+        ensures { OnOk result (bytes.new.items ≡ bytes.old.items ++ origin_text self.now) }
+    {
+        bytes.extend_from_slice(self.scheme.as_str().as_bytes())?;
+        bytes.extend_from_slice(b"://")?;
+        bytes.extend_from_slice(self.host.text.as_str().as_bytes())?;
+        if self.port == self.scheme.own_port() {
+            return Ok(());
+        }
+        push_port(bytes, self.port)
+    }
+
     /// Whether a page of this origin is a secure context: over https, or over http on a loopback
     /// host (Secure Contexts 3.1). It takes no memory.
     pub fn is_trustworthy(&self) -> bool
@@ -81,6 +96,16 @@ impl Origin {
             Scheme::Http => is_loopback(&self.host),
         }
     }
+}
+
+#[tactic(auto, using(std::proofs::Common::append_assoc))]
+fn push_port(bytes: &mut Vec<u8>, port: u16) -> Result<(), NoRoom>
+    ensures { OnOk result (bytes.new.items ≡ bytes.old.items ++ (codes ":" ++ decimal port)) }
+{
+    let mut buffer = Buffer::new();
+    bytes.extend_from_slice(b":")?;
+    bytes.extend_from_slice(buffer.format(port).as_bytes())?;
+    Ok(())
 }
 
 // Whether the host means this machine itself.

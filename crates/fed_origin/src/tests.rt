@@ -23,6 +23,7 @@ fn urls_are_refused_in_order(rt: HostRuntime) -> Result<(), Fail> {
         ("h", Some(UrlRefusal::NotUrl)),
         ("", Some(UrlRefusal::NotUrl)),
         ("https://a b/", Some(UrlRefusal::NotUrl)),
+        ("https://idp.example.256/", Some(UrlRefusal::NotUrl)),
         ("ftp://u@h/", Some(UrlRefusal::NotWeb)),
         ("javascript:1", Some(UrlRefusal::NotWeb)),
         ("https://u@h/", Some(UrlRefusal::HasUser)),
@@ -55,6 +56,22 @@ fn urls_have_their_parts(rt: HostRuntime) -> Result<(), Fail> {
             ("https://idp.example/a/b?q#f", "/a/b", "/a/b?q"),
         ),
         ("https://h:8/a?", ("https://h:8/a?", "/a", "/a?")),
+        (
+            "https://idp.example/.well-known/web-identity",
+            (
+                "https://idp.example/.well-known/web-identity",
+                "/.well-known/web-identity",
+                "/.well-known/web-identity",
+            ),
+        ),
+        (
+            "https://idp.example/a/./b/..?q=%41/..",
+            ("https://idp.example/a/?q=%41/..", "/a/", "/a/?q=%41/.."),
+        ),
+        (
+            "https://idp.example/a^b",
+            ("https://idp.example/a%5Eb", "/a%5Eb", "/a%5Eb"),
+        ),
         ("http:h", ("http://h/", "/", "/")),
     ] {
         assert!(rt; has_parts(rt.alloc(), text, parts)?, "{text}");
@@ -79,6 +96,8 @@ fn texts_join_to_a_base(rt: HostRuntime) -> Result<(), Fail> {
         ("/c?d", "https://idp.example/c?d", true),
         ("//idp.example:444/c", "https://idp.example:444/c", false),
         ("//evil.example/", "https://evil.example/", false),
+        ("/\\evil.example/", "https://evil.example/", false),
+        ("/..//c/.", "https://idp.example//c/", true),
         ("http://idp.example/", "http://idp.example/", false),
         ("javascript:1", "", false),
         ("https://u:p@idp.example/", "", false),

@@ -1,4 +1,3 @@
 -- What is read in a provider's files.
 pub mod SiteText
-pub mod OnlyText
 pub mod LastEndpoint

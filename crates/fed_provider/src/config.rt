@@ -2,7 +2,7 @@
 ghost use Rattle.std.specs.Prelude.{◌≡◌, IfOk, option_map};
 ghost use Rattle.std.specs.Result.{result_map_both};
 ghost use Rattle.std.specs.Option.{option_copied};
-ghost use Rattle.serde_json.specs.View.{view};
+ghost use Rattle.fed_json.specs.Part.{data_at};
 ghost use Rattle.fed_io.specs.Fault.{Answers};
 ghost use Rattle.fed_reply.specs.Members.{text_under};
 ghost use Rattle.fed_provider.specs.Config as spec;
@@ -10,9 +10,9 @@ ghost use Rattle.fed_reply.specs.Shape.{required, optional};
 
 use crate::ProviderStep;
 use fed_io::{Fault, NoRoom};
+use fed_json::Part;
 use fed_origin::{Endpoint, WebUrl};
-use fed_reply::{Member, read_json, text_member};
-use serde_json::Value;
+use fed_reply::{JsonBuffer, Member, read_json, text_member};
 use std::alloc::Global;
 
 /// The configuration of a provider (FedCM, "The config file"). Each URL is same-origin with the
@@ -79,12 +79,13 @@ pub fn read_config(
 ) -> Result<Config, Fault<ProviderStep>>
     ensures { Answers result (spec.ConfigOf raw.now config.now) }
 {
-    let file = match read_json(alloc, raw) {
-        Ok(file) => file,
+    let mut buffer = JsonBuffer::new(alloc);
+    let tape = match read_json(alloc, raw, &mut buffer) {
+        Ok(tape) => tape,
         Err(Fault::Step(step)) => return Err(Fault::Step(ProviderStep::ConfigReply(step))),
         Err(Fault::NoRoom) => return Err(Fault::NoRoom),
     };
-    match read_texts(&file) {
+    match read_texts(&Part::of(&tape)) {
         Ok(texts) => endpoints(alloc, config, &texts),
         Err(step) => Err(Fault::Step(step)),
     }
@@ -102,8 +103,8 @@ struct Texts<'a> {
 
 // The texts of the members.
 #[tactic(auto, unfolding(crate::specs::Config::texts_of))]
-fn read_texts(file: &Value) -> Result<Texts<'_>, ProviderStep>
-    ensures { result_map_both spec.seen (λ e. e) result ≡ spec.texts_of (view file.now) }
+fn read_texts<'a>(file: &Part<'_, 'a>) -> Result<Texts<'a>, ProviderStep>
+    ensures { result_map_both spec.seen (λ e. e) result ≡ spec.texts_of (data_at file.now) }
 {
     let accounts = required_text(file, "accounts_endpoint")?;
     let assertion = required_text(file, "id_assertion_endpoint")?;
@@ -120,8 +121,9 @@ fn read_texts(file: &Value) -> Result<Texts<'_>, ProviderStep>
 }
 
 // A text that has to be there.
-fn required_text<'a>(file: &'a Value, name: &str) -> Result<&'a str, ProviderStep>
-    ensures { result_map_both (λ text. text.now) (λ e. e) result ≡ required ProviderStep.ConfigShape (text_under name.now (view file.now)) }
+fn required_text<'a>(file: &Part<'_, 'a>, name: &str) -> Result<&'a str, ProviderStep>
+    ensures { result_map_both (λ text. text.now) (λ e. e) result
+        ≡ required ProviderStep.ConfigShape (text_under name.now (data_at file.now)) }
 {
     match text_member(file, name) {
         Member::Is(text) => Ok(text),
@@ -130,8 +132,9 @@ fn required_text<'a>(file: &'a Value, name: &str) -> Result<&'a str, ProviderSte
 }
 
 // A text that may be left out.
-fn optional_text<'a>(file: &'a Value, name: &str) -> Result<Option<&'a str>, ProviderStep>
-    ensures { result_map_both option_copied (λ e. e) result ≡ optional ProviderStep.ConfigShape (text_under name.now (view file.now)) }
+fn optional_text<'a>(file: &Part<'_, 'a>, name: &str) -> Result<Option<&'a str>, ProviderStep>
+    ensures { result_map_both option_copied (λ e. e) result
+        ≡ optional ProviderStep.ConfigShape (text_under name.now (data_at file.now)) }
 {
     match text_member(file, name) {
         Member::Is(text) => Ok(Some(text)),

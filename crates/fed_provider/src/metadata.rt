@@ -1,13 +1,13 @@
 //! The metadata of a client.
 ghost use Rattle.std.specs.Prelude.{◌≡◌, IfOk};
-ghost use Rattle.serde_json.specs.View.{view};
+ghost use Rattle.fed_json.specs.Part.{data_at};
 ghost use Rattle.fed_provider.specs.Metadata as spec;
 
 use crate::config::copy_url;
 use fed_io::{Fault, NoRoom};
+use fed_json::Part;
 use fed_origin::WebUrl;
-use fed_reply::{Member, read_json, text_member};
-use serde_json::Value;
+use fed_reply::{JsonBuffer, Member, read_json, text_member};
 use std::alloc::Global;
 
 /// The links of a client's metadata (FedCM, "The client metadata endpoint").
@@ -36,8 +36,10 @@ impl PolicyLinks {
 pub fn read_metadata(alloc: Global, raw: &[u8]) -> Result<PolicyLinks, NoRoom>
     ensures { IfOk result (λ links. links ≡ spec.MetadataOf raw.now) }
 {
-    match read_json(alloc, raw) {
-        Ok(file) => {
+    let mut buffer = JsonBuffer::new(alloc);
+    match read_json(alloc, raw, &mut buffer) {
+        Ok(tape) => {
+            let file = Part::of(&tape);
             let privacy = link(alloc, &file, "privacy_policy_url")?;
             let terms = link(alloc, &file, "terms_of_service_url")?;
             Ok(PolicyLinks { privacy, terms })
@@ -51,8 +53,8 @@ pub fn read_metadata(alloc: Global, raw: &[u8]) -> Result<PolicyLinks, NoRoom>
 }
 
 // The link under the name: a text that is a URL.
-fn link(alloc: Global, file: &Value, name: &str) -> Result<Option<WebUrl>, NoRoom>
-    ensures { IfOk result (λ link. link ≡ spec.link_under name.now (view file.now)) }
+fn link(alloc: Global, file: &Part<'_, '_>, name: &str) -> Result<Option<WebUrl>, NoRoom>
+    ensures { IfOk result (λ link. link ≡ spec.link_under name.now (data_at file.now)) }
 {
     match text_member(file, name) {
         Member::Is(text) => url_in(alloc, text),

@@ -1,6 +1,6 @@
 //! The well-known file of a site.
 ghost use Rattle.std.specs.Prelude.{◌≡◌, Some, IfOk, IsAscii, option_map};
-ghost use Rattle.serde_json.specs.View.{view, items_view};
+ghost use Rattle.fed_json.specs.Part.{data_at, items_at};
 ghost use Rattle.fed_io.specs.Fault.{Answers};
 ghost use Rattle.fed_origin.specs.WebUrl.{scheme_of};
 ghost use Rattle.fed_reply.specs.Members.{member_map};
@@ -8,10 +8,10 @@ ghost use Rattle.fed_provider.specs.WellKnown as spec;
 
 use crate::ProviderStep;
 use fed_io::{Fault, NoRoom, Text};
+use fed_json::{Entries, Part};
 use fed_origin::{Scheme, WebUrl};
-use fed_reply::{Member, list_member, read_json};
+use fed_reply::{JsonBuffer, Member, list_member, read_json};
 use fed_suffix::Suffixes;
-use serde_json::Value;
 use std::alloc::Global;
 use std::str;
 
@@ -80,8 +80,9 @@ pub fn read_wellknown(
 ) -> Result<(), Fault<ProviderStep>>
     ensures { Answers result (spec.WellKnownOf raw.now base.now config.now) }
 {
-    match read_json(alloc, raw) {
-        Ok(file) => lists(alloc, &file, base, config),
+    let mut buffer = JsonBuffer::new(alloc);
+    match read_json(alloc, raw, &mut buffer) {
+        Ok(tape) => lists(alloc, &Part::of(&tape), base, config),
         Err(Fault::Step(step)) => Err(Fault::Step(ProviderStep::WellKnownReply(step))),
         Err(Fault::NoRoom) => Err(Fault::NoRoom),
     }
@@ -90,11 +91,11 @@ pub fn read_wellknown(
 // Whether the file lists the configuration URL alone.
 fn lists(
     alloc: Global,
-    file: &Value,
+    file: &Part<'_, '_>,
     base: &WebUrl,
     config: &WebUrl,
 ) -> Result<(), Fault<ProviderStep>>
-    ensures { Answers result (spec.lists base.now config.now (view file.now)) }
+    ensures { Answers result (spec.lists base.now config.now (data_at file.now)) }
 {
     let Some(text) = only_text(list_member(file, "provider_urls")) else {
         return Err(Fault::Step(ProviderStep::WellKnownShape));
@@ -113,17 +114,22 @@ fn lists(
 }
 
 // The text that is the only item of a list.
-fn only_text<'a>(list: Member<&'a Vec<Value>>) -> Option<&'a str>
-    ensures { option_map (λ text. text.now) result ≡ spec.only_text (member_map (λ items. items_view items.now.items) list.entry) }
+fn only_text<'a>(list: Member<Entries<'_, 'a>>) -> Option<&'a str>
+    ensures { option_map (λ text. text.now) result ≡ spec.only_text (member_map items_at list.entry) }
 {
     match list {
-        Member::Is(items) => {
-            if items.len() == 1 {
-                items[0].as_str()
-            } else {
-                None
-            }
-        }
+        Member::Is(items) => only_item(items)?.as_str(),
         Member::Absent | Member::Wrong => None,
+    }
+}
+
+// The only item of a list.
+fn only_item<'t, 'a>(mut items: Entries<'t, 'a>) -> Option<Part<'t, 'a>>
+    ensures { option_map data_at result ≡ spec.only_item (items_at items.entry) }
+{
+    let only = items.next()?;
+    match items.next() {
+        Some(_) => None,
+        None => Some(only),
     }
 }

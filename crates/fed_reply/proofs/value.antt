@@ -1,3 +1,2 @@
 -- The JSON value of a body.
 pub mod Trim
-pub mod Json

@@ -1,11 +1,12 @@
 -- The JSON value of a reply.
-use Rattle.std.specs.Prelude.{ℕ, Bool, false, not, ◌&&◌, ◌||◌, ◌==◌, ◌-◌, nat_eq, nat_le, nat_lt, List, [], ◌∷◌, length, take, drop, codes, Option, Some, None, ok_or, Result, Err, if◌then◌else◌}
+use Rattle.std.specs.Prelude.{ℕ, Bool, false, not, ◌&&◌, ◌||◌, ◌==◌, ◌-◌, nat_eq, nat_le, nat_lt, List, [], ◌∷◌}
+use Rattle.std.specs.Prelude.{length, take, drop, codes}
+use Rattle.std.specs.Prelude.{Option, Some, None, ok_or, Result, Err, if◌then◌else◌}
 use Rattle.std.specs.List.{before_first, after_first}
 use Rattle.std.specs.Cmp.Lexicographic.{pointwise}
-use Rattle.std.specs.Str.{is_utf8}
 use Rattle.httparse.specs.Grammar.{is_token, trim_ows}
 use Rattle.serde_json.specs.Data.{Data}
-use Rattle.serde_json.specs.Read.{read}
+use Rattle.fed_json.specs.Value.{value_of}
 use Rattle.fed_reply.specs.declared.step.ReplyStep.{ReplyStep}
 use Rattle.fed_reply.specs.declared.step.ReplyStep.TheVariants.{Status, Mime, Json}
 use Rattle.fed_reply.specs.Parts.{ReplyParts}
@@ -54,16 +55,12 @@ abbrev pub without_mark : List ℕ → List ℕ
 without_mark body =
     if pointwise nat_eq (take 3 body) (239 ∷ 187 ∷ 191 ∷ []) then drop 3 body else body
 
--- the value of a text, where the bytes are UTF-8 and JSON (RFC 8259)
-unfoldable pub data_of : List ℕ → Option Data
-data_of bytes = if is_utf8 bytes then read bytes else None
-
 -- the value of a reply's body, or the first of the three steps
 unfoldable pub JsonOf : ReplyParts → Result Data ReplyStep
 JsonOf reply =
     if not (is_success reply.status) then Err Status
     else (if is_json_type (value_at (codes "content-type") 0 reply.fields)
-    then ok_or (data_of (without_mark reply.body)) Json
+    then ok_or (value_of (without_mark reply.body)) Json
     else Err Mime)
 
 -- the value that the bytes of a reply carry, or the first step

@@ -13,5 +13,6 @@ pub record ReplyParts : Type 0 where
 -- a reply is stored as the tuple of its parts
 abbrev pub reply_parts_code : Coded ReplyParts
 reply_parts_code =
-    code_by (ℕ × (Fields × List ℕ)) (coded× coded_ℕ (coded× (coded_list (coded× (coded_list coded_ℕ) (coded_list field_value_code))) (coded_list coded_ℕ)))
+    code_by (ℕ × (Fields × List ℕ)) (coded× coded_ℕ
+    (coded× (coded_list (coded× (coded_list coded_ℕ) (coded_list field_value_code))) (coded_list coded_ℕ)))
     (λ r. (r.status, (r.fields, r.body))) (λ p. record { status = p.0; fields = p.1.0; body = p.1.1 }) (λ _. refl)

@@ -1,5 +1,7 @@
 -- Replies, as functions of their bytes.
-use Rattle.std.specs.Prelude.{◌≡◌, ◌≤◌, length, drop, ℕ, Bool, ◌&&◌, nat_le, nat_lt, List, [], map, Option, Some, None, Result, Ok, Err, if◌then◌else◌}
+use Rattle.std.specs.Prelude.{◌≡◌, ◌≤◌, length, drop, ℕ, Bool, ◌&&◌, nat_le, nat_lt, List, [], map, Option, Some, None}
+use Rattle.std.specs.Prelude.{Result, Ok, Err}
+use Rattle.std.specs.Prelude.{if◌then◌else◌}
 use Rattle.std.specs.List.{list_all}
 use Rattle.fed_io.specs.declared.error.Fault.{Fault}
 use Rattle.fed_io.specs.Fault.{Refuses}

@@ -4,15 +4,15 @@
 mod chunks;
 mod fields;
 mod framing;
-mod json;
+mod json_value;
 pub mod laws;
 mod member;
 mod read;
 mod reply;
 mod step;
 
-pub use json::{essence, json_of, read_json};
-pub use member::{Member, list_member, object_member, text_member};
+pub use json_value::{JsonBuffer, essence, json_of, read_json};
+pub use member::{Member, list_member, object_member, text_member, value_member};
 pub use read::{read_head, read_reply};
 pub use reply::Reply;
 pub use step::ReplyStep;

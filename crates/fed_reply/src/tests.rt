@@ -1,10 +1,11 @@
 //! Replies as they come, and the step at which they are refused.
 use crate::ReplyStep::{Chunk, Coding, Head, Json, Length, Mime, Short, Status};
 use crate::{
-    Member, Reply, ReplyStep, json_of, list_member, object_member, read_head, read_reply,
-    text_member,
+    JsonBuffer, Member, Reply, ReplyStep, json_of, list_member, object_member, read_head,
+    read_reply, text_member,
 };
 use fed_io::{Fault, NoRoom};
+use fed_json::Part;
 use std::alloc::Global;
 use std::test::Fail;
 
@@ -20,10 +21,16 @@ fn settled<T: Drop>(answer: Result<T, Fault<ReplyStep>>) -> Result<Result<T, Rep
 // The first step at which a reply is refused, if there is one.
 fn first_step(alloc: Global, raw: &[u8]) -> Result<Option<ReplyStep>, NoRoom> {
     match settled(read_reply(alloc, raw))? {
-        Ok(reply) => match settled(json_of(alloc, &reply))? {
-            Ok(_) => Ok(None),
-            Err(step) => Ok(Some(step)),
-        },
+        Ok(reply) => value_step(alloc, reply),
+        Err(step) => Ok(Some(step)),
+    }
+}
+
+// The step at which the value of a reply is refused, if it is.
+fn value_step(alloc: Global, reply: Reply) -> Result<Option<ReplyStep>, NoRoom> {
+    let mut buffer = JsonBuffer::new(alloc);
+    match settled(json_of(alloc, reply, &mut buffer))? {
+        Ok(_) => Ok(None),
         Err(step) => Ok(Some(step)),
     }
 }
@@ -132,6 +139,12 @@ fn damaged(rt: HostRuntime) -> Result<(), Fail> {
         ("", "\u{feff}{}", None),
         ("", "\u{feff}\u{feff}{}", Some(Json)),
         ("", "{", Some(Json)),
+        ("", "1e308", None),
+        ("", "1e309", Some(Json)),
+        ("", "[-1e999]", Some(Json)),
+        ("", "01", Some(Json)),
+        ("", "\"\\ud800\"", Some(Json)),
+        ("", "\"\\ud83d\\ude00\"", None),
     ];
     for (fields, body, step) in rows {
         let raw = format!(in rt.alloc(); "HTTP/1.1 200 OK\r\n{JSON}{fields}\r\n{body}")?;
@@ -215,7 +228,7 @@ fn many_small_chunks(rt: HostRuntime) -> Result<(), Fail> {
     match settled(read_reply(rt.alloc(), raw.as_bytes()))? {
         Ok(reply) => {
             assert_eq!(rt; reply.body().len(), 500002);
-            assert!(rt; settled(json_of(rt.alloc(), &reply))?.is_ok());
+            assert_eq!(rt; value_step(rt.alloc(), reply)?, None);
         }
         Err(step) => panic!(rt; "refused at {step:?}"),
     }
@@ -244,22 +257,27 @@ fn fields_of_a_head(rt: HostRuntime) -> Result<(), Fail> {
 #[test]
 fn members(rt: HostRuntime) -> Result<(), Fail> {
     let raw =
-        b"HTTP/1.1 200 OK\r\nContent-Type: text/json\r\n\r\n{\"a\":\"t\",\"b\":[1],\"c\":{},\"d\":null}";
+        b"HTTP/1.1 200 OK\r\nContent-Type: text/json\r\n\r\n{\"a\":\"s\",\"a\":\"t\",\"b\":[1],\"c\":{},\"d\":null}";
     let Ok(reply) = settled(read_reply(rt.alloc(), raw.as_slice()))? else {
         panic!(rt; "no reply");
     };
-    let Ok(value) = settled(json_of(rt.alloc(), &reply))? else {
+    let mut buffer = JsonBuffer::new(rt.alloc());
+    let Ok(tape) = settled(json_of(rt.alloc(), reply, &mut buffer))? else {
         panic!(rt; "no value");
     };
+    let value = Part::of(&tape);
     assert!(rt; matches!(text_member(&value, "a"), Member::Is("t")));
     assert!(rt; matches!(text_member(&value, "b"), Member::Wrong));
     assert!(rt; matches!(text_member(&value, "d"), Member::Absent));
     assert!(rt; matches!(text_member(&value, "e"), Member::Absent));
     match list_member(&value, "b") {
-        Member::Is(list) => {
-            assert_eq!(rt; list.len(), 1);
-            assert!(rt; matches!(text_member(&list[0], "a"), Member::Wrong));
-        }
+        Member::Is(mut list) => match list.next() {
+            Some(item) => {
+                assert!(rt; matches!(text_member(&item, "a"), Member::Wrong));
+                assert!(rt; list.next().is_none());
+            }
+            None => panic!(rt; "no item"),
+        },
         _ => panic!(rt; "no list"),
     }
     assert!(rt; matches!(list_member(&value, "a"), Member::Wrong));

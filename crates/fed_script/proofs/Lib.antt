@@ -2,4 +2,3 @@ pub mod events
 pub mod lines
 pub mod scripts
 pub mod halves
-pub mod values

@@ -1,6 +1,5 @@
 pub mod Cause
 pub mod Member
-pub mod Part
 pub mod Header
 pub mod Raw
 pub mod Status

@@ -1,13 +1,13 @@
 //! Lines of the kind `choose`.
-ghost use Rattle.fed_script.specs.Part.{data_at};
+ghost use Rattle.fed_json.specs.Part.{data_at};
 ghost use Rattle.fed_io.specs.Fault.{Answers};
 ghost use Rattle.fed_script.specs.Choose as spec;
 
 use crate::cause::{LineCause, MemberName};
 use crate::event::Event;
 use crate::member::{number, optional_number, text};
-use crate::part::Part;
 use fed_io::{Fault, Text};
+use fed_json::Part;
 use std::alloc::Global;
 
 /// The choice that a line names.

@@ -1,7 +1,7 @@
 //! Lines of the kind `get`.
 ghost use Rattle.std.specs.Prelude.{◌≡◌, IfOk, option_map};
 ghost use Rattle.std.specs.Result.{result_map_both};
-ghost use Rattle.fed_script.specs.Part.{data_at};
+ghost use Rattle.fed_json.specs.Part.{data_at};
 ghost use Rattle.fed_io.specs.Fault.{Answers};
 ghost use Rattle.fed_script.specs.Get as spec;
 ghost use Rattle.fed_script.specs.Member.{required};
@@ -11,8 +11,8 @@ use crate::cause::{LineCause, MemberName};
 use crate::event::Event;
 use crate::member::{member, number, optional_text, text, web_url};
 use crate::options::{context, no_options};
-use crate::part::Part;
 use fed_io::{Fault, Items, NoRoom, Text, text_of};
+use fed_json::Part;
 use fed_origin::{Context, GetOptions, Mediation, Mode, ProviderOptions, WebUrl};
 use std::alloc::Global;
 

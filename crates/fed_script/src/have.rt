@@ -1,15 +1,15 @@
 //! Lines of the kind `have`.
-ghost use Rattle.fed_script.specs.Part.{data_at};
+ghost use Rattle.fed_json.specs.Part.{data_at};
 ghost use Rattle.fed_io.specs.Fault.{Answers};
 ghost use Rattle.fed_script.specs.Have as spec;
 
 use crate::cause::{LineCause, MemberName};
 use crate::event::{Event, Have};
 use crate::member::{text, web_url};
-use crate::part::Part;
 use crate::raw::required_bytes;
 use crate::status::status;
 use fed_io::Fault;
+use fed_json::Part;
 use fed_origin::Origin;
 use std::alloc::Global;
 

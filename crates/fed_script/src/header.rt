@@ -1,7 +1,7 @@
 //! The first line of a script.
 ghost use Rattle.std.specs.Prelude.{◌≡◌};
 ghost use Rattle.std.specs.Result.{result_map_both};
-ghost use Rattle.fed_script.specs.Part.{data_at};
+ghost use Rattle.fed_json.specs.Part.{data_at};
 ghost use Rattle.fed_io.specs.Fault.{Answers};
 ghost use Rattle.fed_script.specs.Header as spec;
 ghost use Rattle.fed_script.specs.Line.{header_of};
@@ -9,8 +9,8 @@ ghost use Rattle.fed_script.specs.Line.{header_of};
 use crate::cause::{LineCause, MemberName};
 use crate::event::Header;
 use crate::member::{tape_of, text, whole};
-use crate::part::Part;
 use fed_io::Fault;
+use fed_json::Part;
 use fed_suffix::{SuffixRefusal, Suffixes};
 use json::Scratch;
 use std::alloc::Global;

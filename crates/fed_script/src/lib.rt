@@ -16,13 +16,10 @@ pub mod laws;
 mod line;
 mod load;
 mod member;
-mod number;
 mod options;
 mod pair;
 #[cfg(test)]
 mod pair_tests;
-mod part;
-mod range;
 mod raw;
 mod reply;
 mod script;

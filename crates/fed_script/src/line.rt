@@ -1,6 +1,6 @@
 //! Reading a line that names an event.
 ghost use Rattle.std.specs.Prelude.{◌≡◌, ◌<◌, IfOk, OnOk, OnErr};
-ghost use Rattle.fed_script.specs.Part.{data_at};
+ghost use Rattle.fed_json.specs.Part.{data_at};
 ghost use Rattle.fed_io.specs.Fault.{Answers};
 ghost use Rattle.fed_script.specs.Line as spec;
 ghost use Rattle.fed_script.specs.Line.{event_of};
@@ -14,12 +14,12 @@ use crate::get::get;
 use crate::have::have_named;
 use crate::load::load;
 use crate::member::{member, tape_of};
-use crate::part::Part;
 use crate::reply::reply;
 use crate::single::{abort, at, cancel, close_page, go_on};
 use crate::status::set_status;
 use crate::used::Used;
 use fed_io::Fault;
+use fed_json::Part;
 use json::Scratch;
 use std::alloc::Global;
 

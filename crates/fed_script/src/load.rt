@@ -1,14 +1,14 @@
 //! Lines of the kind `load`.
-ghost use Rattle.fed_script.specs.Part.{data_at};
+ghost use Rattle.fed_json.specs.Part.{data_at};
 ghost use Rattle.fed_io.specs.Fault.{Answers};
 ghost use Rattle.fed_script.specs.Load as spec;
 
 use crate::cause::{LineCause, MemberName};
 use crate::event::Event;
 use crate::member::{number, text, web_url};
-use crate::part::Part;
 use crate::raw::optional_bytes;
 use fed_io::Fault;
+use fed_json::Part;
 use std::alloc::Global;
 
 /// The load that a line names.

@@ -3,42 +3,16 @@ ghost use Rattle.std.specs.Prelude.{◌≡◌, option_map};
 ghost use Rattle.std.specs.Option.{option_copied};
 ghost use Rattle.std.specs.Result.{result_map_both};
 ghost use Rattle.serde_json.specs.Find.{as_str};
-ghost use Rattle.fed_script.specs.Part.{data_at};
+ghost use Rattle.fed_json.specs.Part.{data_at};
 ghost use Rattle.fed_io.specs.Fault.{Answers, AnswersBy};
-ghost use Rattle.serde_json.specs.Read.{read};
 ghost use Rattle.fed_script.specs.Member as spec;
-ghost use Rattle.fed_script.specs.Member.{or_cause};
-ghost use Rattle.fed_script.specs.declared.cause.LineCause.TheVariants.{NotJson};
 
 use crate::cause::{LineCause, MemberName};
-use crate::part::Part;
-use crate::range::are_in_range;
-use fed_io::Fault;
+use fed_io::{Fault, NoRoom};
+use fed_json::Part;
 use fed_origin::WebUrl;
 use json::{Scratch, Tape};
-use simdutf8::basic::from_utf8;
 use std::alloc::Global;
-
-// The value of a text; NotJson where it has none.
-fn text_tape<'a>(
-    alloc: Global,
-    scratch: &'a mut Scratch,
-    text: &'a str,
-) -> Result<Tape<'a>, Fault<LineCause>>
-    ensures { AnswersBy data_at result (or_cause NotJson (read text.now)) }
-{
-    match Tape::parse(text, scratch, Vec::new(alloc)) {
-        Ok(tape) => {
-            if are_in_range(tape.nodes()) {
-                Ok(tape)
-            } else {
-                Err(Fault::Step(LineCause::NotJson))
-            }
-        }
-        Err(json::Error::Invalid) => Err(Fault::Step(LineCause::NotJson)),
-        Err(_) => Err(Fault::NoRoom),
-    }
-}
 
 /// The value of a line; NotJson where it has none.
 pub(crate) fn tape_of<'a>(
@@ -48,9 +22,10 @@ pub(crate) fn tape_of<'a>(
 ) -> Result<Tape<'a>, Fault<LineCause>>
     ensures { AnswersBy data_at result (spec.json_of line.now) }
 {
-    match from_utf8(line) {
-        Ok(text) => text_tape(alloc, scratch, text),
-        Err(_) => Err(Fault::Step(LineCause::NotJson)),
+    match fed_json::tape_of(alloc, scratch, line) {
+        Ok(Some(tape)) => Ok(tape),
+        Ok(None) => Err(Fault::Step(LineCause::NotJson)),
+        Err(NoRoom) => Err(Fault::NoRoom),
     }
 }
 

@@ -1,13 +1,13 @@
 //! The options of a get, but for its providers.
 ghost use Rattle.std.specs.Prelude.{◌≡◌};
-ghost use Rattle.fed_script.specs.Part.{data_at};
+ghost use Rattle.fed_json.specs.Part.{data_at};
 ghost use Rattle.fed_origin.specs.Words.{context_of_word};
 ghost use Rattle.fed_script.specs.Member.{as_word};
 ghost use Rattle.fed_script.specs.Options as spec;
 
 use crate::cause::{LineCause, MemberName};
 use crate::member::{member, not_built};
-use crate::part::Part;
+use fed_json::Part;
 use fed_origin::Context;
 
 /// The options that are not read yet may not be there.

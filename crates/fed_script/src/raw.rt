@@ -1,7 +1,7 @@
 //! Bytes that a line gives.
 ghost use Rattle.std.specs.Prelude.{◌≡◌, IfOk};
 ghost use Rattle.serde_json.specs.Find.{as_str};
-ghost use Rattle.fed_script.specs.Part.{data_at};
+ghost use Rattle.fed_json.specs.Part.{data_at};
 ghost use Rattle.fed_io.specs.Fault.{Answers};
 ghost use Rattle.fed_script.specs.Member.{or_cause};
 ghost use Rattle.fed_script.specs.Raw as spec;
@@ -10,10 +10,10 @@ ghost use Rattle.fed_script.specs.declared.cause.MemberName.TheVariants as names
 
 use crate::cause::{LineCause, MemberName};
 use crate::member::member;
-use crate::part::Part;
 use base64::DecodeAllocError;
 use base64::engine::general_purpose::STANDARD;
 use fed_io::{Bytes, Fault, NoRoom};
+use fed_json::Part;
 use std::alloc::Global;
 
 // The bytes of a text in base64, if it is one.

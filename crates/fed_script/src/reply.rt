@@ -1,6 +1,6 @@
 //! Lines of the kind `reply`.
 ghost use Rattle.std.specs.Prelude.{◌≡◌};
-ghost use Rattle.fed_script.specs.Part.{data_at};
+ghost use Rattle.fed_json.specs.Part.{data_at};
 ghost use Rattle.fed_io.specs.Fault.{Answers};
 ghost use Rattle.fed_script.specs.Member.{required, as_word};
 ghost use Rattle.fed_script.specs.Reply as spec;
@@ -9,9 +9,9 @@ ghost use Rattle.fed_script.specs.declared.cause.MemberName.TheVariants as names
 use crate::cause::{LineCause, MemberName};
 use crate::event::Event;
 use crate::member::{member, number, optional_number};
-use crate::part::Part;
 use crate::raw::required_bytes;
 use fed_io::Fault;
+use fed_json::Part;
 use fed_origin::ReplyKind;
 use std::alloc::Global;
 

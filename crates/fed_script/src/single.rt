@@ -1,12 +1,12 @@
 //! Lines of the kinds that have one member.
 ghost use Rattle.std.specs.Prelude.{◌≡◌};
-ghost use Rattle.fed_script.specs.Part.{data_at};
+ghost use Rattle.fed_json.specs.Part.{data_at};
 ghost use Rattle.fed_script.specs.Single as spec;
 
 use crate::cause::{LineCause, MemberName};
 use crate::event::Event;
 use crate::member::{number, whole};
-use crate::part::Part;
+use fed_json::Part;
 
 /// The time that a line names.
 pub(crate) fn at(d: &Part<'_, '_>) -> Result<Event, LineCause>

@@ -1,6 +1,6 @@
 //! Login statuses, and lines of the kind `setstatus`.
 ghost use Rattle.std.specs.Prelude.{◌≡◌};
-ghost use Rattle.fed_script.specs.Part.{data_at};
+ghost use Rattle.fed_json.specs.Part.{data_at};
 ghost use Rattle.fed_origin.specs.Words.{status_of_word};
 ghost use Rattle.fed_script.specs.Member.{required, as_word};
 ghost use Rattle.fed_script.specs.Status as spec;
@@ -9,7 +9,7 @@ ghost use Rattle.fed_script.specs.declared.cause.MemberName.TheVariants as names
 use crate::cause::{LineCause, MemberName};
 use crate::event::Event;
 use crate::member::{member, number};
-use crate::part::Part;
+use fed_json::Part;
 use fed_origin::LoginStatus;
 
 // The status that a value names.

@@ -1,5 +1,6 @@
 -- What contracts see of a session, and which traces it stands for.
-use Rattle.std.specs.Prelude.{◌≡◌, ℕ, Bool, true, nat_eq, List, [], length, map, filter, Option, Some, None, option_map, option_and_then, ⊤}
+use Rattle.std.specs.Prelude.{◌≡◌, ℕ, Bool, true, nat_eq, List, [], length, map, filter, Option, Some, None, option_map}
+use Rattle.std.specs.Prelude.{option_and_then, ⊤}
 use Rattle.std.specs.Option.{option_map_or, option_to_list}
 use Rattle.std.specs.List.{filter_map}
 use Rattle.std.specs.Map.{lookup}

@@ -1,3 +1,4 @@
 pub mod lists
 pub mod numbers
 pub mod removals
+pub mod slots

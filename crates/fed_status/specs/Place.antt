@@ -19,7 +19,8 @@ account_number names account = position (bytes_eq account) names.accounts.keys
 -- the numbers of a permission's parts, where each has one
 abbrev pub place_of : Names → Triple → Option Place
 place_of names triple =
-    option_and_then (λ page. option_and_then (λ provider. option_map (λ account. record { page = page; provider = provider; account = account })
+    option_and_then (λ page. option_and_then (λ provider. option_map
+    (λ account. record { page = page; provider = provider; account = account })
     (account_number names triple.account)) (origin_number names triple.provider)) (origin_number names triple.page)
 
 -- what has a number keeps it
@@ -52,3 +53,7 @@ pair_at place = record { page = place.page; provider = place.provider }
 -- a permission with these numbers is of the pair
 abbrev pub is_at_pair : Pair → Place → Bool
 is_at_pair pair place = same_pair pair (pair_at place)
+
+-- the numbers of an account of a pair
+abbrev pub place_in : Pair → ℕ → Place
+place_in pair account = record { page = pair.page; provider = pair.provider; account = account }

@@ -1,9 +1,11 @@
 //! What the browser keeps of sign-ins: login statuses, kept permissions, prevent-silent flags.
 #![tactic(auto)]
 
+mod entries;
 mod flags;
 mod kept;
 mod login;
+mod pairs;
 mod place;
 mod set_login;
 mod shared;

@@ -2,7 +2,7 @@
 ghost use Rattle.std.specs.Prelude.{◌≡◌, [], Some, IfOk, position, bytes_eq};
 ghost use Rattle.fed_origin.specs.Origin.{same_origin};
 ghost use Rattle.fed_status.specs.Kept.{triple_of};
-ghost use Rattle.fed_status.specs.Place.{Grows, KeepsNumbers, place_of, pair_of, pair_at};
+ghost use Rattle.fed_status.specs.Place.{Grows, KeepsNumbers, place_of, pair_of, pair_at, place_in};
 
 use fed_io::{NoRoom, Text};
 use fed_origin::{Origin, Triple};
@@ -60,6 +60,19 @@ impl PartialEq for Pair {
 
     fn eq(&self, other: &Pair) -> bool {
         self.page == other.page && self.provider == other.provider
+    }
+}
+
+impl Pair {
+    /// The numbers of an account of the pair.
+    pub fn place(self, account: usize) -> Place
+        ensures { result ≡ place_in self account }
+    {
+        Place {
+            page: self.page,
+            provider: self.provider,
+            account,
+        }
     }
 }
 

@@ -1,16 +1,15 @@
 //! The table of kept permissions: each under the numbers of its parts.
-ghost use Rattle.std.specs.Prelude.{◌≡◌, ◌<◌, [], Some, true, false, cond, not, length, slice_get, OnOk, OnErr};
-ghost use Rattle.std.specs.List.{list_any};
+ghost use Rattle.std.specs.Prelude.{◌≡◌, [], Some, not, filter, length, slice_get, OnOk, OnErr};
+ghost use Rattle.std.specs.List.{IsDistinct};
 ghost use Rattle.std.specs.Map.{keys_of};
 ghost use Rattle.std.specs.Option.{option_copied};
 ghost use Rattle.fed_status.specs.Kept as spec;
 ghost use Rattle.fed_status.specs.Kept.{triple_of, with_triple, without_triple, without_pair};
-ghost use Rattle.indexmap.specs.IndexMap.{shift_remove_entry, IsUnique};
-ghost use Rattle.indexmap.specs.IndexSet.{spare};
-ghost use Rattle.fed_status.specs.Place.{place_of, same_place, same_pair, is_at_pair};
-ghost use Rattle.fed_status.specs.declared.place.Pair.{Pair};
-ghost use Rattle.fed_status.specs.Table.{IsTable, ArePairsOf, triples_of};
+ghost use Rattle.fed_status.specs.Place.{place_of, same_place, is_at_pair};
+ghost use Rattle.fed_status.specs.Table.{IsTable, ArePairsOf, triples_of, without_accounts};
 
+use crate::entries::Entries;
+use crate::pairs::{Pairs, has_some, list, take, unlist};
 use crate::place::{Names, Pair, Place};
 use fed_io::{NoRoom, Text};
 use fed_origin::{Origin, Triple};
@@ -21,9 +20,9 @@ use std::alloc::Global;
 #[derive(Drop)]
 pub struct Table {
     pub names: Names,
-    pub kept: IndexMap<Place, Triple>,
-    /// The pairs of which some permission is kept, in no order.
-    pub pairs: IndexSet<Pair>,
+    pub kept: Entries,
+    /// The accounts of the pairs of which some permission is kept.
+    pub pairs: Pairs,
 }
 
 impl Table {
@@ -33,8 +32,8 @@ impl Table {
     {
         Table {
             names: Names::new(alloc),
-            kept: IndexMap::new(alloc),
-            pairs: IndexSet::new(alloc),
+            kept: Entries::new(alloc),
+            pairs: IndexMap::new(alloc),
         }
     }
 
@@ -45,27 +44,27 @@ impl Table {
         ensures table { IsTable self.new }
     {
         let place = self.names.enter(alloc, &triple)?;
-        self.put(place, triple)
+        self.put(alloc, place, triple)
     }
 
     // Adds a permission under its numbers.
-    fn put(&mut self, place: Place, triple: Triple) -> Result<(), NoRoom>
+    fn put(&mut self, alloc: Global, place: Place, triple: Triple) -> Result<(), NoRoom>
         requires table { IsTable self.old }
         requires place { place_of self.old.names triple ≡ Some place }
         ensures ok { OnOk result (triples_of self.new ≡ with_triple (triples_of self.old) triple) }
         ensures err { OnErr result (triples_of self.new ≡ triples_of self.old) }
         ensures table { IsTable self.new }
     {
-        if self.kept.contains_key(&place) {
+        if self.kept.has(place) {
             return Ok(());
         }
-        self.pairs.reserve(1)?;
-        match self.kept.insert(place, triple) {
-            Ok(_) => {
-                put_pair(&mut self.pairs, place.pair());
-                Ok(())
+        list(&mut self.pairs, alloc, place)?;
+        match self.kept.put(place, triple) {
+            Ok(()) => Ok(()),
+            Err(NoRoom) => {
+                unlist(&mut self.pairs, place);
+                Err(NoRoom)
             }
-            Err(_) => Err(NoRoom),
         }
     }
 
@@ -74,7 +73,7 @@ impl Table {
         ensures { result ≡ spec.has_triple (triples_of self.now) (triple_of page.now provider.now account.now) }
     {
         match self.names.place(page, provider, account) {
-            Some(place) => self.kept.contains_key(&place),
+            Some(place) => self.kept.has(place),
             None => false,
         }
     }
@@ -84,7 +83,7 @@ impl Table {
         ensures { result ≡ spec.has_pair (triples_of self.now) page.now provider.now }
     {
         match self.names.pair(page, provider) {
-            Some(pair) => self.pairs.contains(&pair),
+            Some(pair) => has_some(&self.pairs, pair),
             None => false,
         }
     }
@@ -95,7 +94,8 @@ impl Table {
         ensures table { IsTable self.new }
     {
         if let Some(place) = self.names.place(page, provider, account) {
-            forget(&mut self.kept, &mut self.pairs, place);
+            self.kept.remove(place);
+            unlist(&mut self.pairs, place);
         }
     }
 
@@ -105,12 +105,7 @@ impl Table {
         ensures table { IsTable self.new }
     {
         if let Some(pair) = self.names.pair(page, provider) {
-            self.kept.retain(
-                |place: &Place, triple: &mut Triple| -> bool
-                    ensures { (result ≡ not (is_at_pair pair place.now)) × (triple.new ≡ triple.old) }
-                { pair != place.pair() },
-            );
-            drop_pair(&mut self.pairs, pair);
+            forget(&mut self.kept, &mut self.pairs, pair);
         }
     }
 
@@ -123,43 +118,27 @@ impl Table {
     pub fn item(&self, k: usize) -> Option<&Triple>
         ensures { option_copied result ≡ slice_get (triples_of self.now) k }
     {
-        match self.kept.get_index(k) {
-            Some((_, triple)) => Some(triple),
-            None => None,
-        }
+        self.kept.item(k)
     }
 }
 
-// Whether some permission is of the pair.
-fn holds_pair(kept: &IndexMap<Place, Triple>, pair: Pair) -> bool
-    ensures { result ≡ list_any (is_at_pair pair) (keys_of kept.now.entries) }
+// Removes the permissions of a pair, and no other is looked at.
+fn forget(kept: &mut Entries, pairs: &mut Pairs, pair: Pair)
+    requires pairs { ArePairsOf kept.old pairs.old.entries }
+    requires apart { IsDistinct same_place (keys_of kept.old) }
+    ensures kept { kept.new ≡ filter (λ entry. not (is_at_pair pair entry.0)) kept.old }
+    ensures pairs { ArePairsOf kept.new pairs.new.entries }
 {
-    kept.keys().any(|place| pair == place.pair())
-}
-
-// Removes the permission with these numbers, and its pair where no other is of it.
-fn forget(kept: &mut IndexMap<Place, Triple>, pairs: &mut IndexSet<Pair>, place: Place)
-    ensures kept { kept.new.entries ≡ shift_remove_entry (same_place place) kept.old.entries }
-    ensures pairs { ArePairsOf kept.old.entries pairs.old.keys → ArePairsOf kept.new.entries pairs.new.keys }
-    ensures unique { IsUnique same_place kept.new }
-{
-    kept.shift_remove(&place);
-    let pair = place.pair();
-    if !holds_pair(kept, pair) {
-        drop_pair(pairs, pair);
+    if let Some(accounts) = take(pairs, pair) {
+        remove_each(kept, pair, &accounts);
     }
 }
 
-// Adds a pair, for which there is room.
-fn put_pair(pairs: &mut IndexSet<Pair>, pair: Pair)
-    requires { 0 < spare pairs.old }
-    ensures { (other : Pair) → list_any (same_pair other) pairs.new.keys ≡ cond (same_pair pair other) true (list_any (same_pair other) pairs.old.keys) }
+// Removes the permissions of a pair for these accounts.
+fn remove_each(kept: &mut Entries, pair: Pair, accounts: &IndexSet<usize>)
+    ensures { kept.new ≡ without_accounts pair accounts.now.keys kept.old }
 {
-    let _ = pairs.insert(pair);
-}
-
-fn drop_pair(pairs: &mut IndexSet<Pair>, pair: Pair)
-    ensures { (other : Pair) → list_any (same_pair other) pairs.new.keys ≡ cond (same_pair pair other) false (list_any (same_pair other) pairs.old.keys) }
-{
-    pairs.swap_remove(&pair);
+    for account in accounts.iter() {
+        kept.remove(pair.place(*account));
+    }
 }

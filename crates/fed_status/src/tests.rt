@@ -39,7 +39,7 @@ is-not https://a.example
 is https://b.example
 first https://b.example";
 
-// Two accounts of one pair, and one of another: one goes alone, and then the pair.
+// Two accounts of one pair, and one of another: one goes alone, and then the pair. One that comes back goes last.
 const PERMISSIONS: &str = "lacks https://a.example https://b.example u1
 no-pair https://a.example https://b.example u1
 add https://a.example https://b.example u1
@@ -55,6 +55,10 @@ lacks https://a.example https://b.example u1
 pair https://a.example https://b.example u1
 no-pair https://b.example https://a.example u1
 first https://b.example https://b.example u1
+second https://a.example https://b.example u2
+add https://a.example https://b.example u1
+second https://a.example https://b.example u2
+third https://a.example https://b.example u1
 remove-pair https://a.example https://b.example u1
 no-pair https://a.example https://b.example u1
 pair https://b.example https://b.example u1
@@ -199,6 +203,8 @@ fn follows(kept: &mut KeptSet, step: &str, triple: &Triple) -> bool {
         "pair" => kept.has_pair(&triple.page, &triple.provider),
         "no-pair" => !kept.has_pair(&triple.page, &triple.provider),
         "first" => kept.item(0) == Some(triple),
+        "second" => kept.item(1) == Some(triple),
+        "third" => kept.item(2) == Some(triple) && kept.item(3) == None,
         "remove" => {
             kept.remove(&triple.page, &triple.provider, &triple.account);
             true

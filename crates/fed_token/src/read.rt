@@ -1,6 +1,6 @@
 //! Reading replies of the assertion and the disconnect endpoints.
 ghost use Rattle.std.specs.Prelude.{◌≡◌, IfOk, IfErr};
-ghost use Rattle.serde_json.specs.View.{view};
+ghost use Rattle.fed_json.specs.Part.{data_at};
 ghost use Rattle.fed_io.specs.Fault.{Answers, AnswersBy};
 ghost use Rattle.fed_origin.specs.Origin.{origin_text};
 ghost use Rattle.fed_reply.specs.Members.{member_map};
@@ -9,9 +9,10 @@ ghost use Rattle.fed_token.specs.Read as spec;
 
 use crate::{TokenStep, cors_passes};
 use fed_io::{Fault, NoRoom, Text};
+use fed_json::Part;
 use fed_origin::Origin;
-use fed_reply::{Member, json_of, object_member, read_reply, text_member};
-use serde_json::Value;
+use fed_reply::{JsonBuffer, Member, json_of, object_member, read_reply, text_member};
+use json::Tape;
 use std::alloc::Global;
 
 /// Reads the token in a reply of the identity assertion endpoint (FedCM, "The identity assertion
@@ -22,8 +23,9 @@ use std::alloc::Global;
 pub fn read_assertion(alloc: Global, raw: &[u8], origin: &Origin) -> Result<Text, Fault<TokenStep>>
     ensures { Answers result (spec.AssertionOf raw.now (origin_text origin.now)) }
 {
-    match checked_json(alloc, raw, origin) {
-        Ok(value) => token(alloc, &value),
+    let mut buffer = JsonBuffer::new(alloc);
+    match checked_json(alloc, raw, origin, &mut buffer) {
+        Ok(tape) => token(alloc, &Part::of(&tape)),
         Err(fault) => Err(fault),
     }
 }
@@ -38,16 +40,22 @@ pub fn read_disconnect(alloc: Global, raw: &[u8], origin: &Origin) -> Result<Tex
     // No step is an error of the provider.
     ensures never { IfErr result spec.IsDisconnectFault }
 {
-    match checked_json(alloc, raw, origin) {
-        Ok(value) => account_id(alloc, &value),
+    let mut buffer = JsonBuffer::new(alloc);
+    match checked_json(alloc, raw, origin, &mut buffer) {
+        Ok(tape) => account_id(alloc, &Part::of(&tape)),
         Err(fault) => Err(fault),
     }
 }
 
 // The JSON value of a reply that a page of the origin may read.
 #[tactic(auto, unfolding(crate::specs::Read::CheckedJsonOf))]
-fn checked_json(alloc: Global, raw: &[u8], origin: &Origin) -> Result<Value, Fault<TokenStep>>
-    ensures answers { AnswersBy view result (spec.CheckedJsonOf raw.now (origin_text origin.now)) }
+fn checked_json<'a>(
+    alloc: Global,
+    raw: &[u8],
+    origin: &Origin,
+    buffer: &'a mut JsonBuffer,
+) -> Result<Tape<'a>, Fault<TokenStep>>
+    ensures answers { AnswersBy data_at result (spec.CheckedJsonOf raw.now (origin_text origin.now)) }
     ensures never { IfErr result spec.IsDisconnectFault }
 {
     let reply = match read_reply(alloc, raw) {
@@ -59,16 +67,16 @@ fn checked_json(alloc: Global, raw: &[u8], origin: &Origin) -> Result<Value, Fau
     if !cors_passes(&reply, origin.as_str().as_bytes()) {
         return Err(Fault::Step(TokenStep::Cors));
     }
-    match json_of(alloc, &reply) {
-        Ok(value) => Ok(value),
+    match json_of(alloc, reply, buffer) {
+        Ok(tape) => Ok(tape),
         Err(Fault::Step(step)) => Err(Fault::Step(TokenStep::Reply(step))),
         Err(Fault::NoRoom) => Err(Fault::NoRoom),
     }
 }
 
 // The token of a value.
-fn token(alloc: Global, value: &Value) -> Result<Text, Fault<TokenStep>>
-    ensures { Answers result (spec.token_of (view value.now)) }
+fn token(alloc: Global, value: &Part<'_, '_>) -> Result<Text, Fault<TokenStep>>
+    ensures { Answers result (spec.token_of (data_at value.now)) }
 {
     match text_member(value, "token") {
         Member::Is(token) => Ok(Text::of(alloc, token)?),
@@ -80,8 +88,8 @@ fn token(alloc: Global, value: &Value) -> Result<Text, Fault<TokenStep>>
 }
 
 // The account id of a value.
-fn account_id(alloc: Global, value: &Value) -> Result<Text, Fault<TokenStep>>
-    ensures answers { Answers result (spec.account_id_of (view value.now)) }
+fn account_id(alloc: Global, value: &Part<'_, '_>) -> Result<Text, Fault<TokenStep>>
+    ensures answers { Answers result (spec.account_id_of (data_at value.now)) }
     ensures never { IfErr result spec.IsDisconnectFault }
 {
     match text_member(value, "account_id") {
@@ -91,16 +99,16 @@ fn account_id(alloc: Global, value: &Value) -> Result<Text, Fault<TokenStep>>
 }
 
 // The step of a value without a token, by its error.
-fn error_step(alloc: Global, error: Member<&Value>) -> Result<TokenStep, NoRoom>
-    ensures { IfOk result (λ step. step ≡ spec.error_step (member_map (λ v. view v.now) error.entry)) }
+fn error_step(alloc: Global, error: Member<Part<'_, '_>>) -> Result<TokenStep, NoRoom>
+    ensures { IfOk result (λ step. step ≡ spec.error_step (member_map data_at error.entry)) }
 {
     match error {
         Member::Is(error) => {
-            let code = match text_in(alloc, text_member(error, "code"))? {
+            let code = match text_in(alloc, text_member(&error, "code"))? {
                 Some(code) => code,
                 None => Text::of(alloc, "")?,
             };
-            let url = text_in(alloc, text_member(error, "url"))?;
+            let url = text_in(alloc, text_member(&error, "url"))?;
             Ok(TokenStep::ProviderError { code, url })
         }
         Member::Absent | Member::Wrong => Ok(TokenStep::Shape),

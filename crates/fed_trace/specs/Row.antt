@@ -1,5 +1,6 @@
 -- What each event does, by what is looked up: the tables, row by row.
-use Rattle.std.specs.Prelude.{◌≡◌, ℕ, Bool, true, false, nat_eq, ◌==◌, List, [], ◌∷◌, ◌++◌, length, map, codes, Option, Some, None}
+use Rattle.std.specs.Prelude.{◌≡◌, ℕ, Bool, true, false, nat_eq, ◌==◌, List, [], ◌∷◌, ◌++◌, length, map, codes}
+use Rattle.std.specs.Prelude.{Option, Some, None}
 use Rattle.std.specs.Prelude.{option_and_then, Result as Answer, Ok, Err, ⊤}
 use Rattle.std.specs.List.{list_any, filter_map, flat_map}
 use Rattle.url.specs.Parts.{Parts}

@@ -36,27 +36,26 @@ other_ids a [] = tt
 other_ids a (b ∷ accounts) = pick (same_id b a) refl (other_ids a accounts)
   where
     pick : (t : Bool) → same_id b a ≡ t → AllByRecursion (λ c. same_id a c ≡ false) (filter (λ c. not (same_id c a)) accounts)
-        → AllByRecursion (λ c. same_id a c ≡ false) (cond (not t) (b ∷ filter (λ c. not (same_id c a)) accounts) (filter (λ c. not (same_id c a)) accounts))
+        → AllByRecursion (λ c. same_id a c ≡ false) (cond (not t) (b
+        ∷ filter (λ c. not (same_id c a)) accounts) (filter (λ c. not (same_id c a)) accounts))
     pick true e h = h
     pick false e h = (same_id-comm a b ∙ e, h)
 
 firsts_distinct : (accounts : List Account) → IsDistinct same_id (first_of_each_id accounts)
 unfolding IsDistinct
 firsts_distinct [] = tt
-firsts_distinct (a ∷ accounts) = (other_ids a (first_of_each_id accounts), distinct_left same_id _ (first_of_each_id accounts) (firsts_distinct accounts))
+firsts_distinct (a ∷ accounts) =
+    (other_ids a (first_of_each_id accounts), distinct_left same_id _ (first_of_each_id accounts) (firsts_distinct accounts))
 
--- the first accounts of some are some, and their ids differ
-firsts_are : (a : Account) (accounts : List Account) → AreAccounts (first_of_each_id (a ∷ accounts))
-firsts_are a accounts = record { some = omega arith; distinct = firsts_distinct (a ∷ accounts) }
+-- those of the first accounts of each id that a test leaves
+pub some_distinct : (p : Account → Bool) (found : List Account) → IsDistinct same_id (filter p (first_of_each_id found))
+some_distinct p found = distinct_left same_id p (first_of_each_id found) (firsts_distinct found)
 
 -- ---- lists of accounts
 
--- the first accounts of some accounts
-pub firsts_of_some : (all : List Account) {firsts : List Account} → firsts ≡ first_of_each_id all → length all ≢ 0 → AreAccounts firsts
-firsts_of_some [] is some = absurd (some refl)
-firsts_of_some (a ∷ all) is some = rw is (firsts_are a all)
-
 -- what a test leaves of accounts, where it leaves some
-pub left_are : {accounts kept : List Account} (p : Account → Bool) → AreAccounts accounts → kept ≡ filter p accounts → length kept ≢ 0 → AreAccounts kept
+pub left_are : {accounts kept : List Account} (p : Account → Bool) → AreAccounts accounts → kept ≡ filter p accounts
+    → length kept ≢ 0
+    → AreAccounts kept
 left_are {accounts = accounts} {kept = kept} p are is some =
     record { some = omega arith; distinct = rw is (distinct_left same_id p accounts are.distinct) }

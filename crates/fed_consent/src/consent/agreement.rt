@@ -10,8 +10,9 @@ use fed_origin::{Origin, ProviderOptions, WebUrl};
 use std::alloc::Global;
 use std::marker::Model;
 
-/// Leave to name the page to the provider, once, for one account. Only `Picked::proceed` and `Prompt::proceed` make one. It
-/// must be spent or voided: it is not `Drop`, so that forgetting it does not compile, and neither does using it twice.
+/// Leave to name the page to the provider, once, for one account. Only `Picked::proceed`, `Prompt::proceed` and
+/// `Reselection::proceed` make one. It must be spent or voided: it is not `Drop`, so that forgetting it does not compile, and
+/// neither does using it twice.
 /// Contracts see it as the call, the place of the provider in its list, the account's id, how the account was settled on, and
 /// whether the user was shown what the provider tells the page.
 pub struct Consent {

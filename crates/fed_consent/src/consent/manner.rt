@@ -7,6 +7,6 @@ pub enum Manner {
     Chosen,
     /// The user went on with its prompt.
     Prompted,
-    /// A kept permission let the browser choose it. No call of this crate makes it yet.
+    /// A kept permission let the browser choose it.
     Reselected,
 }

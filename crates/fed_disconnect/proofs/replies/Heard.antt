@@ -45,7 +45,8 @@ config_not_waited rules url raw replies kept h = go replies.wellknown refl repli
         → config_heard taken config read ≡ heard.NotWaited kept → replies ≡ kept
     go taken is (Some config) is' read h =
         let whole : record { wellknown = taken; config = Some config } ≡ kept = cc in
-        ap (λ w. record { wellknown = w; config = replies.config }) is ∙ ap (λ c. record { wellknown = taken; config = c }) is' ∙ whole
+        ap (λ w. record { wellknown = w; config = replies.config }) is ∙ ap (λ c. record { wellknown = taken; config = c }) is'
+        ∙ whole
     go taken is None is' (Err step) h = absurd (cc)
     go false is None is' (Ok config) h = absurd (cc)
     go true is None is' (Ok config) h = absurd (cc)

@@ -191,7 +191,8 @@ abbrev CauseSaid : Trace → Event → ℕ → ℕ → List ℕ → AssertionFie
 CauseSaid T event call provider id ask = (cause : AssertionCause T event call provider id) × SaysWhy T event call provider id cause ask
 
 -- a request for a token is by an input of the call
-asked_by : (T : Trace) (event : Event) (kind : CallKind) (call provider : ℕ) (ask : AssertionFields) (cookies : List ℕ) → IsNew T.rows event
+asked_by : (T : Trace) (event : Event) (kind : CallKind) (call provider : ℕ) (ask : AssertionFields) (cookies : List ℕ)
+    → IsNew T.rows event
     → Invariant T call
     → ((f : Facts) → facts_at T call ≡ Some f → Caused T call f)
     → Has (effects_of T event) (Sent kind call provider (asks.Assertion ask) cookies)

@@ -1,5 +1,6 @@
 -- A request for a token has its cause.
-use Rattle.std.proofs.Common.{◌≡◌, ℕ, suc, Bool, true, false, nat_eq, ◌+◌, ◌||◌, ◌&&◌, ◌≤◌, ◌⊎◌, inl, inr, List, [], ◌∷◌, ◌++◌, length}
+use Rattle.std.proofs.Common.{◌≡◌, ℕ, suc, Bool, true, false, nat_eq, ◌+◌, ◌||◌, ◌&&◌, ◌≤◌, ◌⊎◌, inl, inr}
+use Rattle.std.proofs.Common.{List, [], ◌∷◌, ◌++◌, length}
 use Rattle.std.proofs.Common.{Option, Some, None, refl, sym, ap, subst, ◌∙◌, arith, cond}
 use Rattle.std.proofs.lemmas.Slice.Eq.{bytes_eq-Decides}
 use Rattle.std.specs.Prelude.{bytes_eq, nat_lt, not, option_and_then, option_map, slice_get, is_some}
@@ -71,7 +72,8 @@ chosen_id id listed candidate h = found (nat_lt place (length listed.accounts)) 
         let same : record { account = account; connected = connected } ≡ candidate = cc in ap (λ c. c.account) same
 
     at : (o : Option Account) → slice_get listed.accounts place ≡ o
-        → option_and_then (λ account. option_map (λ connected. let c : Candidate = record { account = account; connected = connected } in
+        → option_and_then (λ account. option_map (λ connected. let c : Candidate =
+        record { account = account; connected = connected } in
         c) (slice_get listed.connected place)) o ≡ Some candidate
         → candidate.account.id ≡ id
     at None is h = absurd (cc)
@@ -96,7 +98,8 @@ only_chosen world page provider only =
 
 -- how the account of a prompt came to be the one, and what it waits for
 pub data Path (waits : Bool) (config : Option Config) (call : ℕ) (candidate : Candidate) (listed : Listed) (since : List Row) : Type 0 where
-  Alone : listed.accounts ≡ candidate.account ∷ [] → (waits ≡ false → (candidate.connected ≡ true) ⊎ IsReady call 0 config since)
+  Alone : listed.accounts ≡ candidate.account ∷ []
+      → (waits ≡ false → (candidate.connected ≡ true) ⊎ IsReady call 0 config since)
       → Path waits config call candidate listed since
   AfterChoice : (choice : FirstChoice call 0 candidate.account.id listed since) → (waits ≡ false → IsReady call 0 config choice.after)
       → Path waits config call candidate listed since
@@ -185,7 +188,8 @@ path_on waits config call candidate listed row since (AfterChoice c ready) =
     AfterChoice (choice_on call candidate.account.id listed row since c) (λ h. ready_on call config row c.after (ready h))
 
 -- a metadata reply in a row makes the prompt ready
-pub path_ready : (waits : Bool) (config : Option Config) (call : ℕ) (candidate : Candidate) (listed : Listed) (row : Row) (since : List Row)
+pub path_ready : (waits : Bool) (config : Option Config) (call : ℕ) (candidate : Candidate) (listed : Listed) (row : Row)
+    (since : List Row)
     → is_metadata call 0 row.event ≡ true
     → Path waits config call candidate listed since → Path false config call candidate listed (row ∷ since)
 unfolding choice_on
@@ -324,7 +328,8 @@ caused_first T call page origin options none =
     }
 
 -- the facts of a get that began are those with which it did
-pub caused_started : (T : Trace) (line : ℕ) (event : Event) (call : ℕ) (f : Facts) → IsNew T.rows event → config_taken call 0 T.rows ≡ None
+pub caused_started : (T : Trace) (line : ℕ) (event : Event) (call : ℕ) (f : Facts) → IsNew T.rows event
+    → config_taken call 0 T.rows ≡ None
     → Starts T event call
     → facts_at (with_event T line event) call ≡ Some f → Caused (with_event T line event) call f
 caused_started T line event call f new none s is =
@@ -349,7 +354,8 @@ caused_started T line event call f new none s is =
         ap (λ x. option_and_then get_facts (at_stage stage (first.fresh s.begun.call s.begun.page s.begun.origin x))) (sym asked)
         ∙ ap (option_and_then get_facts) (sym (known_begun T line event s.begun o stage s.effects at)) ∙ is_own
 
-    reads : (options : CallOptions) → s.begun.options ≡ options → o.stage ≡ Some Reading → Caused (with_event T line event) s.begun.call f
+    reads : (options : CallOptions) → s.begun.options ≡ options → o.stage ≡ Some Reading
+        → Caused (with_event T line event) s.begun.call f
     reads (ToGet options) asked reading =
         let whole : Some (fresh s.begun.call s.begun.page s.begun.origin options) ≡ Some f = by Reading reading (ToGet options) asked in
         let same : fresh s.begun.call s.begun.page s.begun.origin options ≡ f = cc in
@@ -359,7 +365,8 @@ caused_started T line event call f new none s is =
         let no : None ≡ Some f = by Reading reading (ToDisconnect options) asked in
         absurd (cc)
 
-    ends : (options : CallOptions) → s.begun.options ≡ options → o.stage ≡ Some Ended → Caused (with_event T line event) s.begun.call f
+    ends : (options : CallOptions) → s.begun.options ≡ options → o.stage ≡ Some Ended
+        → Caused (with_event T line event) s.begun.call f
     ends (ToGet options) asked ended = let no : None ≡ Some f = by Ended ended (ToGet options) asked in absurd (cc)
     ends (ToDisconnect options) asked ended = let no : None ≡ Some f = by Ended ended (ToDisconnect options) asked in absurd (cc)
 

@@ -1,5 +1,6 @@
 -- How a call that stands comes to a dialog, and what stands of it there.
-use Rattle.std.proofs.Common.{◌≡◌, ℕ, Bool, true, false, nat_eq, ◌||◌, ◌&&◌, ◌≤◌, ◌⊎◌, inl, inr, List, [], ◌∷◌, ◌++◌, length, Option, Some}
+use Rattle.std.proofs.Common.{◌≡◌, ℕ, Bool, true, false, nat_eq, ◌||◌, ◌&&◌, ◌≤◌, ◌⊎◌, inl, inr, List, []}
+use Rattle.std.proofs.Common.{◌∷◌, ◌++◌, length, Option, Some}
 use Rattle.std.proofs.Common.{None, map, refl, sym, ap, subst, ◌∙◌, arith}
 use Rattle.std.specs.Prelude.{option_and_then, unwrap_or, is_some}
 use Rattle.std.specs.Option.{option_or}
@@ -237,7 +238,8 @@ prompts_now T line event call f f' only s t =
       accepted = accepted_now T line event call f f' (only ∷ []) s t;
       candidate = candidate;
       picks =
-          ap (λ g. g.picked) told_is ∙ ap (λ o. Some (candidate_of (world_at T) o t.provider only)) (origin_same T line event call f f' s);
+          ap (λ g. g.picked) told_is ∙ ap (λ o. Some (candidate_of (world_at T) o t.provider only))
+          (origin_same T line event call f f' s);
       is_listed = only_chosen (world_at T) s.stood_then.begun.origin t.provider only;
       path = Alone refl (λ h. ready (needs_none candidate.connected (metadata_endpoint f.config) (sym waits_is ∙ h)));
     }

@@ -29,7 +29,8 @@ use Rattle.fed_trace.proofs.happens.Taken.{is_get}
 use Rattle.fed_laws.specs.Laws.{OfRuns, at, IsAskedFor}
 use Rattle.fed_trace.specs.Row.{effects_of, IsRun, cookies_with, outcome_effects, input_effects}
 use Rattle.fed_trace.specs.Trace.{Row, Trace}
-use Rattle.std.proofs.Common.{◌≡◌, ℕ, Bool, true, false, List, [], ◌∷◌, Option, Some, None, Ok, refl, ap, ◌∙◌, ◌||◌, ◌≤◌, ◌⊎◌, inl, inr}
+use Rattle.std.proofs.Common.{◌≡◌, ℕ, Bool, true, false, List, [], ◌∷◌, Option, Some, None, Ok, refl, ap, ◌∙◌, ◌||◌}
+use Rattle.std.proofs.Common.{◌≤◌, ◌⊎◌, inl, inr}
 use Rattle.std.proofs.Common.{length, sym, arith, subst, nat_eq, ◌&&◌, ◌++◌}
 use Rattle.std.proofs.lemmas.List.Folds.{list_any-append}
 use Rattle.std.specs.List.{filter_map, list_any}
@@ -74,7 +75,8 @@ tracks_since header [] before reply call provider b get options raw id listed ca
     (tracks_first T reply.line reply.event call provider b get options raw id listed candidate o (invariant header before call run.2) began
     is_get_b has_b is
     (subst (λ es. Has es (Login o LoggedIn)) run.0 has) offers named)
-tracks_since header (row ∷ since) before reply call provider b get options raw id listed candidate o run began is_get_b has_b is has offers
+tracks_since header (row ∷ since) before reply call provider b get options raw id listed candidate o run began is_get_b has_b is has
+    offers
     named calm first =
     let T : Trace = record { header = header; rows = since ++ reply ∷ before } in
     let same = row_is T row run.0 in
@@ -91,13 +93,15 @@ tracks_since header (row ∷ since) before reply call provider b get options raw
 
 -- ---- the first choice is one
 
-first_same : (p : Row → Bool) (c d : Row) (a b w v : List Row) → a ++ c ∷ w ≡ b ++ d ∷ v → p c ≡ true → p d ≡ true → list_any p w ≡ false
+first_same : (p : Row → Bool) (c d : Row) (a b w v : List Row) → a ++ c ∷ w ≡ b ++ d ∷ v → p c ≡ true → p d ≡ true
+    → list_any p w ≡ false
     → list_any p v ≡ false → (a ≡ b) × (c ≡ d)
 first_same p c d [] [] w v is pc pd none other = (refl, cc)
 first_same p c d [] (x ∷ b) w v is pc pd none other =
     let rest : w ≡ b ++ d ∷ v = cc in
     let hit : list_any p w ≡ true =
-    ap (list_any p) rest ∙ list_any-append p b (d ∷ v) ∙ ap (λ t. list_any p b || (t || list_any p v)) pd ∙ or_true (list_any p b) in
+    ap (list_any p) rest ∙ list_any-append p b (d ∷ v) ∙ ap (λ t. list_any p b || (t || list_any p v)) pd
+    ∙ or_true (list_any p b) in
     let never : true ≡ false = sym hit ∙ none in
     absurd (cc)
 first_same p c d (x ∷ a) [] w v is pc pd none other =
@@ -120,7 +124,8 @@ is_choice : (call : ℕ) (id : List ℕ) (listed : Listed) (candidate : Candidat
 is_choice call id listed candidate event is named =
     ap (chooses call 0 listed) is ∙ ap (λ t. t && nat_eq 0 0 && is_some (chosen id listed)) (own call) ∙ ap (λ x. is_some x) named
 
-choice_among : (call : ℕ) (id : List ℕ) (listed : Listed) (candidate : Candidate) (since : List Row) → chosen id listed ≡ Some candidate
+choice_among : (call : ℕ) (id : List ℕ) (listed : Listed) (candidate : Candidate) (since : List Row)
+    → chosen id listed ≡ Some candidate
     → FirstChoice call 0 id listed since
     → list_any (λ row. chooses call 0 listed row.event) since ≡ true
 choice_among call id listed candidate since named c =
@@ -178,9 +183,11 @@ does_for T event call f input s found is =
     ∙ ap (λ x. input_effects (world_at T) (cookies_with T) true call x input) (is_get (known_at T call) f found)
 
 -- the user chose a connected account
-sends_choice : (T : Trace) (event : Event) (call : ℕ) (id : List ℕ) (listed : Listed) (candidate : Candidate) (f : Facts) → Stood T call f
+sends_choice : (T : Trace) (event : Event) (call : ℕ) (id : List ℕ) (listed : Listed) (candidate : Candidate) (f : Facts)
+    → Stood T call f
     → facts_at T call ≡ Some f
-    → is_some f.config ≡ true → f.stage ≡ Choosing → f.listed ≡ Some listed → chosen id listed ≡ Some candidate → candidate.connected ≡ true
+    → is_some f.config ≡ true → f.stage ≡ Choosing → f.listed ≡ Some listed → chosen id listed ≡ Some candidate
+    → candidate.connected ≡ true
     → event ≡ Choose call 0 id → Sends T event call id
 sends_choice T event call id listed candidate f s found some at lists named connected is =
     let only = only_there f.options.providers (one_provider T call f s) in
@@ -197,7 +204,8 @@ sends_choice T event call id listed candidate f s found some at lists named conn
 
 -- the user went on with the prompt
 sends_going : (T : Trace) (event : Event) (call : ℕ) (candidate : Candidate) (f : Facts) → Stood T call f → facts_at T call ≡ Some f
-    → is_some f.config ≡ true → f.stage ≡ Prompting → f.picked ≡ Some candidate → f.waits ≡ false → event ≡ events.GoOn call
+    → is_some f.config ≡ true → f.stage ≡ Prompting → f.picked ≡ Some candidate → f.waits ≡ false
+    → event ≡ events.GoOn call
     → Sends T event call candidate.account.id
 sends_going T event call candidate f s found some at picks ready is =
     let only = only_there f.options.providers (one_provider T call f s) in
@@ -223,7 +231,8 @@ acts T event call id listed candidate config since st = go st.agreed st.tracks.o
     id_is : candidate.account.id ≡ id
     id_is = chosen_id id listed candidate st.named
 
-    going : (c : Candidate) → f.stage ≡ Prompting → f.picked ≡ Some c → f.waits ≡ false → event ≡ events.GoOn call → c.account.id ≡ id
+    going : (c : Candidate) → f.stage ≡ Prompting → f.picked ≡ Some c → f.waits ≡ false → event ≡ events.GoOn call
+        → c.account.id ≡ id
         → Sends T event call id
     going c at picks ready is same =
         subst (Sends T event call) same (sends_going T event call c f st.stood st.tracks.found st.configured at picks ready is)
@@ -231,7 +240,8 @@ acts T event call id listed candidate config since st = go st.agreed st.tracks.o
     ready_as : (rows : List Row) → IsReady call 0 config rows → IsReady call 0 f.config rows
     ready_as rows r = subst (λ x. IsReady call 0 x rows) st.config_is r
 
-    single : (c : Candidate) → f.stage ≡ Prompting → f.picked ≡ Some c → chosen c.account.id listed ≡ Some c → event ≡ events.GoOn call
+    single : (c : Candidate) → f.stage ≡ Prompting → f.picked ≡ Some c → chosen c.account.id listed ≡ Some c
+        → event ≡ events.GoOn call
         → listed.accounts ≡ candidate.account ∷ []
         → (candidate.connected ≡ true) ⊎ IsReady call 0 config since → How f.waits f.config call c listed since → Sends T event call id
     single c at picks named is one ready (AsChosen choice when) = too_few listed.accounts candidate.account choice.several one
@@ -285,7 +295,8 @@ past_reading f call listed since (ToChoose at lists several none) (inl reading) 
 past_reading f call listed since (ToGoOn c at picks named how) (inl reading) = let never : Reading ≡ Prompting = sym reading ∙ at in
     absurd (cc)
 
-followed : (T : Trace) (event : Event) (call provider : ℕ) (id : List ℕ) → IsRun T.header T.rows → AssertionCause T event call provider id
+followed : (T : Trace) (event : Event) (call provider : ℕ) (id : List ℕ) → IsRun T.header T.rows
+    → AssertionCause T event call provider id
     → (provider ≡ 0) × Sends T event call id
 followed T event call provider id run cause =
     let a = cause.accepted in

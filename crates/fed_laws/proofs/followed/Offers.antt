@@ -30,7 +30,8 @@ use Rattle.fed_trace.specs.Known.{world_at, input_to, is_begun, known_at, facts_
 use Rattle.fed_laws.specs.Laws.{at}
 use Rattle.fed_trace.specs.Row.{effects_of, row_of, with_event, IsNew, cookies_with, outcome_effects, input_effects}
 use Rattle.fed_trace.specs.Trace.{Row, Trace, begun, pending}
-use Rattle.std.proofs.Common.{◌≡◌, ℕ, Bool, true, false, List, [], ◌∷◌, Option, Some, None, Result as Answer, Ok, Err, refl, ap, ◌∙◌, ◌||◌}
+use Rattle.std.proofs.Common.{◌≡◌, ℕ, Bool, true, false, List, [], ◌∷◌, Option, Some, None, Result as Answer, Ok, Err, refl}
+use Rattle.std.proofs.Common.{ap, ◌∙◌, ◌||◌}
 use Rattle.std.proofs.Common.{◌≤◌, ◌⊎◌, inl, inr, length, sym, arith, subst, cond, map}
 use Rattle.std.specs.List.{filter_map, list_any}
 use Rattle.std.specs.Prelude.{unwrap_or, is_some, option_and_then}
@@ -144,7 +145,8 @@ accepted_begun T event call provider raw o is has = go (is_begun T call) refl
     go false begun =
         heard (effects_of T event) o NoCall has
         (reply_does T event call provider raw is
-        ∙ ap (λ b. input_effects (world_at T) (cookies_with T) b call (known_at T call) (inputs.Reply provider kinds.Accounts raw)) begun)
+        ∙ ap (λ b. input_effects (world_at T) (cookies_with T) b call (known_at T call) (inputs.Reply provider kinds.Accounts raw))
+        begun)
 
 -- the accounts that were read and offered
 record Read (T : Trace) (b : Begun) (options : ProviderOptions) (raw : List ℕ) (listed : Listed) : Type 0 where
@@ -174,7 +176,8 @@ tracks_first T line event call provider b get options raw id listed candidate o 
     input : Input
     input = inputs.Reply provider kinds.Accounts raw
 
-    does : (x : Option Known) → known_at T call ≡ x → effects_of T event ≡ input_effects (world_at T) (cookies_with T) true call x input
+    does : (x : Option Known) → known_at T call ≡ x
+        → effects_of T event ≡ input_effects (world_at T) (cookies_with T) true call x input
     does x found =
         reply_does T event call provider raw is
         ∙ ap (λ t. input_effects (world_at T) (cookies_with T) t call (known_at T call) input)
@@ -239,7 +242,8 @@ tracks_first T line event call provider b get options raw id listed candidate o 
                 let no : None ≡ Some candidate = ap (chosen id) listed_is ∙ named in absurd (cc)
             under (only ∷ []) reads listed_is =
                 let c = candidate_of (world_at T) f.origin options only in
-                let taken : list_any outcomes.is_ignored (by_accounts (world_at T) f provider options (Ok (only ∷ []))).effects ≡ false =
+                let taken : list_any outcomes.is_ignored (by_accounts (world_at T) f provider options (Ok (only ∷ []))).effects
+                ≡ false =
                 ap (λ t. t || false) (prompt_taken (world_at T) f provider options c c.connected (metadata_endpoint f.config)) in
                 let listed_f : listed_of (world_at T) f.origin options (only ∷ []) ≡ listed =
                 ap (λ x. listed_of (world_at T) x options (only ∷ [])) origin_is ∙ listed_is in
@@ -270,7 +274,8 @@ tracks_first T line event call provider b get options raw id listed candidate o 
                       ∙ ap (at_stage Choosing) (told_by (one ∷ two ∷ more) reads refl);
                   of_page = page_is;
                   offering =
-                      ToChoose refl (ap (λ x. Some (listed_of (world_at T) x options (one ∷ two ∷ more))) origin_is ∙ ap Some listed_is)
+                      ToChoose refl (ap (λ x. Some (listed_of (world_at T) x options (one ∷ two ∷ more))) origin_is
+                      ∙ ap Some listed_is)
                       (subst (λ l. 2 ≤ length l.accounts) listed_is (omega arith)) refl;
                 }
     at_stages f found Reading at =

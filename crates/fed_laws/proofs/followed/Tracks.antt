@@ -20,7 +20,8 @@ use Rattle.fed_trace.specs.Known.{world_at, input_to, is_begun, facts_at}
 use Rattle.fed_laws.specs.Laws.{at}
 use Rattle.fed_trace.specs.Row.{effects_of, row_of, with_event, IsNew, IsRun}
 use Rattle.fed_trace.specs.Trace.{Row, Trace, begun}
-use Rattle.std.proofs.Common.{◌≡◌, ℕ, Bool, true, false, List, [], ◌∷◌, Option, Some, None, refl, ap, ◌∙◌, ◌||◌, ◌≤◌, ◌⊎◌, inl, inr, length}
+use Rattle.std.proofs.Common.{◌≡◌, ℕ, Bool, true, false, List, [], ◌∷◌, Option, Some, None, refl, ap, ◌∙◌, ◌||◌}
+use Rattle.std.proofs.Common.{◌≤◌, ◌⊎◌, inl, inr, length}
 use Rattle.std.proofs.Common.{sym, arith, subst, nat_eq, ◌&&◌, ◌++◌, cond}
 use Rattle.std.proofs.lemmas.Bool.Decides.{nat_tests}
 use Rattle.std.proofs.lemmas.List.Folds.{list_any-append}
@@ -89,7 +90,8 @@ began_before header (row ∷ since) rows call o run begun is =
 
 -- how the account of a prompt came to be the one, and when it waits for nothing
 pub data How (waits : Bool) (config : Option Config) (call : ℕ) (candidate : Candidate) (listed : Listed) (since : List Row) : Type 0 where
-  AsOnly : listed.accounts ≡ candidate.account ∷ [] → ((candidate.connected ≡ true) ⊎ IsReady call 0 config since → waits ≡ false)
+  AsOnly : listed.accounts ≡ candidate.account ∷ []
+      → ((candidate.connected ≡ true) ⊎ IsReady call 0 config since → waits ≡ false)
       → How waits config call candidate listed since
   AsChosen : (choice : FirstChoice call 0 candidate.account.id listed since) → (IsReady call 0 config choice.after → waits ≡ false)
       → How waits config call candidate listed since

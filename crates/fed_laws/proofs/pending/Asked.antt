@@ -1,5 +1,6 @@
 -- What stands of a call holds after every row: it asked for no token, or for one.
-use Rattle.std.proofs.Common.{◌≡◌, ℕ, true, false, nat_eq, ◌≤◌, ◌⊎◌, inl, inr, List, [], ◌∷◌, ◌++◌, length, Option, Some, None, map, refl}
+use Rattle.std.proofs.Common.{◌≡◌, ℕ, true, false, nat_eq, ◌≤◌, ◌⊎◌, inl, inr, List, [], ◌∷◌, ◌++◌, length}
+use Rattle.std.proofs.Common.{Option, Some, None, map, refl}
 use Rattle.std.proofs.Common.{sym, ap, subst, ◌∙◌, arith}
 use Rattle.std.specs.Prelude.{unwrap_or}
 use Rattle.std.specs.List.{filter_map, list_any}
@@ -136,7 +137,8 @@ when_goes_on T line event call f m h asks gives back =
     none : filter_map (asked call) (effects_of T event) ≡ []
     none = asks_at T event call f m ∙ asks
 
-    by : (f' : Facts) → facts_after (world_at T) f m.takes.input o ≡ Some f' → f'.stage ≡ unwrap_or o.stage f.stage → f.stage ≡ Asserting
+    by : (f' : Facts) → facts_after (world_at T) f m.takes.input o ≡ Some f' → f'.stage ≡ unwrap_or o.stage f.stage
+        → f.stage ≡ Asserting
         → StaysOrEnds o → f'.stage ≡ Asserting
     by f' now at was (inl stays) = at ∙ ap (λ st. unwrap_or st f.stage) stays ∙ was
     by f' now at was (inr ended) =

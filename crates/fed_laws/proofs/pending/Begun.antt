@@ -1,5 +1,6 @@
 -- A call that begins stands from then on.
-use Rattle.std.proofs.Common.{◌≡◌, ℕ, Bool, true, false, nat_eq, ◌||◌, inl, List, [], ◌∷◌, length, Some, None, refl, sym, ap, subst, ◌∙◌}
+use Rattle.std.proofs.Common.{◌≡◌, ℕ, Bool, true, false, nat_eq, ◌||◌, inl, List, [], ◌∷◌, length, Some, None, refl, sym}
+use Rattle.std.proofs.Common.{ap, subst, ◌∙◌}
 use Rattle.std.proofs.Common.{cond}
 use Rattle.std.proofs.lemmas.List.Folds.{list_any-append}
 use Rattle.std.specs.Prelude.{unwrap_or, option_and_then}
@@ -40,7 +41,8 @@ or_true true = refl
 or_true false = refl
 
 -- a get begins
-when_get : (T : Trace) (line : ℕ) (event : Event) (b : Begun) (options : GetOptions) → b.options ≡ ToGet options → Invariant T b.call
+when_get : (T : Trace) (line : ℕ) (event : Event) (b : Begun) (options : GetOptions) → b.options ≡ ToGet options
+    → Invariant T b.call
     → IsBeginning event → page_at T b.page ≡ Some b.origin
     → length options.providers ≡ 1 → (o : Outcome) → FirstTurn o
     → effects_of T event ≡ Begin b ∷ outcome_effects (world_at T) (cookies_with T) (kind_asked b.options) b.call b.page o
@@ -127,7 +129,8 @@ when_disconnect T line event b options is_it o turn effects = go turn
     go (ReadsFirst reading asks gives) = none Reading reading
 
 -- the call begins
-when_begun : (T : Trace) (line : ℕ) (event : Event) (b : Begun) → Invariant T b.call → IsBeginning event → page_at T b.page ≡ Some b.origin
+when_begun : (T : Trace) (line : ℕ) (event : Event) (b : Begun) → Invariant T b.call → IsBeginning event
+    → page_at T b.page ≡ Some b.origin
     → HasOne b.options → (o : Outcome) → FirstTurn o
     → effects_of T event ≡ Begin b ∷ outcome_effects (world_at T) (cookies_with T) (kind_asked b.options) b.call b.page o
     → is_begun T b.call ≡ false

@@ -1,5 +1,6 @@
 -- What stands of a call, and that a row that leaves it or ends it keeps this.
-use Rattle.std.proofs.Common.{◌≡◌, ℕ, Bool, true, false, nat_eq, ◌||◌, ◌≤◌, ◌⊎◌, inl, inr, List, [], ◌∷◌, ◌++◌, length, Option, Some, None}
+use Rattle.std.proofs.Common.{◌≡◌, ℕ, Bool, true, false, nat_eq, ◌||◌, ◌≤◌, ◌⊎◌, inl, inr, List, [], ◌∷◌}
+use Rattle.std.proofs.Common.{◌++◌, length, Option, Some, None}
 use Rattle.std.proofs.Common.{refl, sym, ap, subst, ◌∙◌, append-nil}
 use Rattle.std.proofs.lemmas.List.Folds.{list_any-append}
 use Rattle.std.specs.Prelude.{unwrap_or, option_map, is_some}
@@ -130,7 +131,8 @@ pub stood_on : (T : Trace) (line : ℕ) (event : Event) (call : ℕ) (f f' : Fac
 stood_on T line event call f f' s kept pending begins_none gives page origin options asks asked_for =
     record {
       pending =
-          ap (λ o. unwrap_or o (last_value nat_eq call_change call T.rows)) pending ∙ s.pending ∙ ap (λ p. Some (get_at p)) (sym page);
+          ap (λ o. unwrap_or o (last_value nat_eq call_change call T.rows)) pending ∙ s.pending
+          ∙ ap (λ p. Some (get_at p)) (sym page);
       page = ap (page_at (with_event T line event)) page
           ∙ ap (λ o. unwrap_or o (page_at T f.page)) (pages_left T event f.page kept) ∙ s.page ∙ ap Some (sym origin);
       is_taken = list_any-append (nat_eq call) (begun T.rows) (filter_map begun_by (effects_of T event))

@@ -45,7 +45,8 @@ use Rattle.fed_trace.specs.Row.{effects_of, row_of, with_event, cookies_with, ou
 use Rattle.fed_trace.specs.Trace.{Row, Trace, by_kind, calls_of, pending}
 use Rattle.fed_status.specs.Shared.{World}
 use Rattle.fed_token.specs.Read.{AssertionOf}
-use Rattle.std.proofs.Common.{◌≡◌, ℕ, Bool, true, false, nat_eq, ◌==◌, ◌||◌, ◌⊎◌, inl, inr, List, [], ◌∷◌, ◌++◌, length, Option, Some, None}
+use Rattle.std.proofs.Common.{◌≡◌, ℕ, Bool, true, false, nat_eq, ◌==◌, ◌||◌, ◌⊎◌, inl, inr, List, [], ◌∷◌}
+use Rattle.std.proofs.Common.{◌++◌, length, Option, Some, None}
 use Rattle.std.proofs.Common.{Ok, map, refl, sym, ap, subst, ◌∙◌, arith, cond}
 use Rattle.std.proofs.lemmas.Bool.Decides.{nat_tests}
 use Rattle.std.specs.List.{filter_map, cons_option, list_any}
@@ -67,7 +68,8 @@ absent_unlisted call page (e ∷ es) h =
     go here rest true = ap (λ b. b || is_among call (calls_of page es)) here ∙ rest
     go here rest false = rest
 
-pub listed_page : (call page : ℕ) (at : PendingCall) (es : List (ℕ × PendingCall)) → AreDistinct es → lookup (nat_eq call) es ≡ Some at
+pub listed_page : (call page : ℕ) (at : PendingCall) (es : List (ℕ × PendingCall)) → AreDistinct es
+    → lookup (nat_eq call) es ≡ Some at
     → is_among call (calls_of page es) ≡ true → at.page ≡ page
 listed_page call page at [] distinct found listed = absurd (cc)
 listed_page call page at (e ∷ es) distinct found listed =

@@ -1,5 +1,6 @@
 -- A token reaches the page whose call was answered.
-use Rattle.std.proofs.Common.{◌≡◌, ℕ, true, false, zero, suc, Bool, List, [], ◌∷◌, ◌++◌, length, Option, Some, None, map, refl, sym, ap}
+use Rattle.std.proofs.Common.{◌≡◌, ℕ, true, false, zero, suc, Bool, List, [], ◌∷◌, ◌++◌, length, Option, Some, None, map}
+use Rattle.std.proofs.Common.{refl, sym, ap}
 use Rattle.std.proofs.Common.{subst, ◌∙◌, arith, cond}
 use Rattle.std.specs.Prelude.{slice_get}
 use Rattle.std.proofs.lemmas.List.Elements.{filter_map-append}
@@ -69,12 +70,14 @@ said_among said effects e x has is =
     ap (filter_map said) has.all ∙ filter_map-append said has.before (e ∷ has.after)
     ∙ ap (λ o. filter_map said has.before ++ cons_option o (filter_map said has.after)) is
 
-pub says_none : {A B : Type 0} (said : Effect → Option A) (effects : List Effect) (e : Effect) (x : A) → Has effects e → said e ≡ Some x
+pub says_none : {A B : Type 0} (said : Effect → Option A) (effects : List Effect) (e : Effect) (x : A) → Has effects e
+    → said e ≡ Some x
     → filter_map said effects ≡ [] → B
 says_none said effects e x has is none =
     none_among x (filter_map said has.before) (filter_map said has.after) (sym (said_among said effects e x has is) ∙ none)
 
-pub says_one : {A : Type 0} (said : Effect → Option A) (effects : List Effect) (e : Effect) (x y : A) → Has effects e → said e ≡ Some x
+pub says_one : {A : Type 0} (said : Effect → Option A) (effects : List Effect) (e : Effect) (x y : A) → Has effects e
+    → said e ≡ Some x
     → filter_map said effects ≡ y ∷ [] → x ≡ y
 says_one said effects e x y has is one =
     only_among x y (filter_map said has.before) (filter_map said has.after) (sym (said_among said effects e x has is) ∙ one)
@@ -82,7 +85,8 @@ says_one said effects e x y has is one =
 -- ---- the token
 
 -- the event of a call that is answered
-delivers : (T : Trace) (event : Event) (call page provider : ℕ) (token : List ℕ) (f : Facts) → (m : Meets T event call f) → Stood T call f
+delivers : (T : Trace) (event : Event) (call page provider : ℕ) (token : List ℕ) (f : Facts) → (m : Meets T event call f)
+    → Stood T call f
     → page ≡ f.page
     → InReply f m.takes.input provider token → Delivers T event call page provider token
 delivers T event call page provider token f m s is r =

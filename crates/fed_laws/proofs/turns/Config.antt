@@ -1,5 +1,6 @@
 -- The configuration of a call is that of the reply that it took, and past Reading it has one.
-use Rattle.std.proofs.Common.{◌≡◌, ℕ, Bool, true, false, ◌⊎◌, inl, inr, List, [], ◌∷◌, length, Option, Some, None, Result as Answer, Ok}
+use Rattle.std.proofs.Common.{◌≡◌, ℕ, Bool, true, false, ◌⊎◌, inl, inr, List, [], ◌∷◌, length, Option, Some, None}
+use Rattle.std.proofs.Common.{Result as Answer, Ok}
 use Rattle.std.proofs.Common.{Err, refl, sym, ap, subst, ◌∙◌}
 use Rattle.std.specs.Prelude.{option_and_then, unwrap_or, is_some, ⊤}
 use Rattle.std.specs.Option.{option_or}
@@ -84,7 +85,8 @@ no_provider place heard (Some config) taken = absurd (cc)
 no_provider place heard None taken = absurd (cc)
 
 has_by : (f : Facts) (place : ℕ) (raw : List ℕ) (heard : Bool) (config : Option Configuration) (provider : Option ProviderOptions)
-    → provider_at place f.options ≡ provider → list_any is_ignored (config_reply place heard config (config_read raw provider)).effects
+    → provider_at place f.options ≡ provider → list_any is_ignored (config_reply place heard config
+    (config_read raw provider)).effects
     ≡ false
     → HasItsProvider false (inputs.Reply place kinds.Config raw) f
 has_by f place raw heard config None is taken = no_provider place heard config taken
@@ -163,7 +165,8 @@ has_its_provider world f inputs.Resume = tt
 -- the configuration after an input of a call with one provider is that of the reply that was taken last
 pub config_told : (world : World) (ignored : Bool) (input : Input) (f : Facts) (taken : Option (List ℕ)) → length f.options.providers ≡ 1
     → HasItsProvider ignored input f → f.config ≡ option_and_then (config_in f.options 0) taken
-    → (with_input world ignored input f).config ≡ option_and_then (config_in f.options 0) (option_or (config_given 0 ignored (Some input))
+    → (with_input world ignored input f).config ≡ option_and_then (config_in f.options 0) (option_or
+    (config_given 0 ignored (Some input))
     taken)
 config_told world true input f taken one has is = is
 config_told world false (inputs.Reply place kinds.Config raw) f taken one has is =
@@ -200,7 +203,8 @@ Keeps world f input o = Configured (unwrap_or o.stage f.stage) (told world f inp
 
 wellknown_keeps : (world : World) (f : Facts) (place : ℕ) (raw : List ℕ) (heard : Bool) (config : Option Configuration)
     (read : Option (Answer (Unit {0}) ProviderStep))
-    → f.stage ≡ Reading → f.config ≡ config → Keeps world f (inputs.Reply place kinds.WellKnown raw) (wellknown_reply place heard config
+    → f.stage ≡ Reading → f.config ≡ config → Keeps world f (inputs.Reply place kinds.WellKnown raw) (wellknown_reply place heard
+    config
     read)
 wellknown_keeps world f place raw true config read at is = AtReading at
 wellknown_keeps world f place raw false config None at is = AtReading at

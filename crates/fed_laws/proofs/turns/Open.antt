@@ -86,7 +86,8 @@ open_choice world f place (Some provider) (Some candidate) opened some = go cand
     go true = open_asserts f place provider f.config (agreed_to f place candidate Chosen false) some
     go false = Open refl
 
-open_chose : (world : World) (f : Facts) (stage : Stage) → f.stage ≡ stage → (place : ℕ) (id : List ℕ) → is_open f.stage ≡ true
+open_chose : (world : World) (f : Facts) (stage : Stage) → f.stage ≡ stage → (place : ℕ) (id : List ℕ)
+    → is_open f.stage ≡ true
     → (stage ≡ Choosing → is_some f.config ≡ true)
     → StaysOpen f (chose world f stage place id)
 open_chose world f Choosing at place id opened some =
@@ -130,7 +131,8 @@ open_cancelled f Mismatch at opened = not_open f Mismatch at refl opened
 open_cancelled f Asserting at opened = not_open f Asserting at refl opened
 open_cancelled f Ended at opened = not_open f Ended at refl opened
 
-pub open_at : (world : World) (f : Facts) (input : Input) → is_open f.stage ≡ true → (f.stage ≡ Choosing → is_some f.config ≡ true)
+pub open_at : (world : World) (f : Facts) (input : Input) → is_open f.stage ≡ true
+    → (f.stage ≡ Choosing → is_some f.config ≡ true)
     → StaysOpen f (input_row world f input)
 open_at world f (inputs.Reply place kind raw) opened some = open_reply world f f.stage refl place kind raw opened
 open_at world f (inputs.Choose place id) opened some = open_chose world f f.stage refl place id opened some

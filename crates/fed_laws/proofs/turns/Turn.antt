@@ -96,7 +96,8 @@ IfToken f input (ProviderError code url) = ⊤
 
 pub data Turn (f : Facts) (input : Input) (o : Outcome) : Type 0 where
   Asks : AsksToken f input o → Turn f input o
-  Gives : (finish : Finish) → o.stage ≡ Some Ended → filter_map asks_token o.effects ≡ [] → filter_map finish_of o.effects ≡ finish ∷ []
+  Gives : (finish : Finish) → o.stage ≡ Some Ended → filter_map asks_token o.effects ≡ []
+      → filter_map finish_of o.effects ≡ finish ∷ []
       → IfToken f input finish
       → Turn f input o
   Goes : filter_map asks_token o.effects ≡ [] → filter_map finish_of o.effects ≡ []
@@ -114,7 +115,8 @@ turn_fails : (f : Facts) (input : Input) (failure : Failure) → Turn f input (f
 turn_fails f input failure = Gives (Failed failure) refl refl refl tt
 
 -- an effect in front that neither asks nor gives
-turn_after : (f : Facts) (input : Input) (effect : CallEffect) (failure : Failure) → asks_token effect ≡ None → finish_of effect ≡ None
+turn_after : (f : Facts) (input : Input) (effect : CallEffect) (failure : Failure) → asks_token effect ≡ None
+    → finish_of effect ≡ None
     → Turn f input (after effect (fails failure))
 turn_after f input effect failure asks gives =
     Gives (Failed failure) refl (ap (λ o. cons_option o []) asks) (ap (λ o. cons_option o (Failed failure ∷ [])) gives) tt
@@ -217,7 +219,8 @@ turn_offers world f input place provider first (only ∷ []) a g =
     (prompt_asks_none world f place provider candidate candidate.connected (metadata_endpoint f.config))
     (prompt_gives_none world f place provider candidate candidate.connected (metadata_endpoint f.config)) not_prompting
 turn_offers world f input place provider first (one ∷ two ∷ more) a g =
-    turn_moves_after f input first (choice_dialog world f place (listed_of world f.origin provider (one ∷ two ∷ more))) Choosing a g refl
+    turn_moves_after f input first (choice_dialog world f place (listed_of world f.origin provider (one ∷ two ∷ more))) Choosing a g
+    refl
     refl not_choosing
 
 turn_accounts : (world : World) (f : Facts) (input : Input) (place : ℕ) (provider : ProviderOptions)
@@ -335,9 +338,11 @@ turn_asserts f input place provider candidate manner disclosure user told word h
       is = refl;
     })
 
-turn_settles : (world : World) (f : Facts) (place : ℕ) (id : List ℕ) (listed : Listed) (provider : ProviderOptions) (candidate : Candidate)
+turn_settles : (world : World) (f : Facts) (place : ℕ) (id : List ℕ) (listed : Listed) (provider : ProviderOptions)
+    (candidate : Candidate)
     → f.stage ≡ Choosing
-    → provider_at place f.options ≡ Some provider → f.listed ≡ Some listed → chosen id listed ≡ Some candidate → (connected : Bool)
+    → provider_at place f.options ≡ Some provider → f.listed ≡ Some listed → chosen id listed ≡ Some candidate
+    → (connected : Bool)
     → candidate.connected ≡ connected
     → Turn f (inputs.Choose place id) (settles world f place provider candidate connected)
 turn_settles world f place id listed provider candidate at has lists is true connected =

@@ -1,5 +1,6 @@
 -- How a call comes to a dialog at an input, and stays there.
-use Rattle.std.proofs.Common.{◌≡◌, ℕ, Bool, true, false, ◌||◌, ◌≤◌, ◌⊎◌, inl, inr, List, [], ◌∷◌, length, Option, Some, None}
+use Rattle.std.proofs.Common.{◌≡◌, ℕ, Bool, true, false, ◌||◌, ◌≤◌, ◌⊎◌, inl, inr, List, [], ◌∷◌, length}
+use Rattle.std.proofs.Common.{Option, Some, None}
 use Rattle.std.proofs.Common.{Result as Answer, Ok, Err, refl, sym, ap, ◌∙◌, arith}
 use Rattle.std.specs.Prelude.{option_and_then, unwrap_or, is_some, not}
 use Rattle.std.specs.List.{list_any}
@@ -98,7 +99,8 @@ pub data Way (f : Facts) (input : Input) (o : Outcome) : Type 0 where
   OffersOne : (only : Account) → f.stage ≡ Listing → o.stage ≡ Some Prompting → TakesAccounts f input o (only ∷ []) → Way f input o
   Picks : f.stage ≡ Choosing → o.stage ≡ Some Prompting → TakesChoice f input o → Way f input o
   Readies : f.stage ≡ Prompting → unwrap_or o.stage f.stage ≡ Prompting → TakesMetadata f input o → Way f input o
-  Unmoved : is_open f.stage ≡ true → o.stage ≡ None → ((world : World) → with_input world (list_any is_ignored o.effects) input f ≡ f)
+  Unmoved : is_open f.stage ≡ true → o.stage ≡ None
+      → ((world : World) → with_input world (list_any is_ignored o.effects) input f ≡ f)
       → (f.stage ≡ Choosing → ChoosesNone f input)
       → Way f input o
 
@@ -135,7 +137,8 @@ way_config f input place true None (Some (Err step)) at = Elsewhere refl
 way_config f input place false None (Some (Ok config)) at = Elsewhere at
 way_config f input place true None (Some (Ok config)) at = Elsewhere refl
 
-way_reading : (world : World) (f : Facts) (input : Input) (place : ℕ) (provider : Option ProviderOptions) (kind : ReplyKind) (raw : List ℕ)
+way_reading : (world : World) (f : Facts) (input : Input) (place : ℕ) (provider : Option ProviderOptions) (kind : ReplyKind)
+    (raw : List ℕ)
     → is_open f.stage ≡ false
     → Way f input (reading_reply world.rules f.heard f.config place provider kind raw)
 way_reading world f input place provider kinds.WellKnown raw at =
@@ -233,7 +236,8 @@ way_links world f place raw provider (Some candidate) links at has =
 
 way_metadata : (world : World) (f : Facts) (place : ℕ) (raw : List ℕ) (waits : Bool) (provider : Option ProviderOptions)
     → f.stage ≡ Prompting
-    → provider_at place f.options ≡ provider → Way f (inputs.Reply place kinds.Metadata raw) (metadata_reply world f waits place provider
+    → provider_at place f.options ≡ provider → Way f (inputs.Reply place kinds.Metadata raw) (metadata_reply world f waits place
+    provider
     raw)
 way_metadata world f place raw false provider at has = open_ignored f _ _ (ap is_open at) (λ other. not_choosing f at other)
 way_metadata world f place raw true None at has = open_ignored f _ _ (ap is_open at) (λ other. not_choosing f at other)
@@ -283,7 +287,8 @@ way_asserts : (f : Facts) (input : Input) (place : ℕ) (provider : ProviderOpti
 way_asserts f input place provider None agreed some = absurd (cc)
 way_asserts f input place provider (Some config) agreed some = Elsewhere refl
 
-way_settles : (world : World) (f : Facts) (place : ℕ) (id : List ℕ) (listed : Listed) (provider : ProviderOptions) (candidate : Candidate)
+way_settles : (world : World) (f : Facts) (place : ℕ) (id : List ℕ) (listed : Listed) (provider : ProviderOptions)
+    (candidate : Candidate)
     → f.stage ≡ Choosing
     → provider_at place f.options ≡ Some provider → f.listed ≡ Some listed → chosen id listed ≡ Some candidate → is_some f.config ≡ true
     → (connected : Bool) → candidate.connected ≡ connected

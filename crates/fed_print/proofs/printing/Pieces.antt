@@ -1,5 +1,6 @@
 -- What a printer has written, one piece after another.
-use Rattle.std.proofs.Common.{◌≡◌, ℕ, List, [], ◌∷◌, ◌++◌, Option, Some, None, map, flat_map, refl, sym, ap, ◌∙◌, append_assoc}
+use Rattle.std.proofs.Common.{◌≡◌, ℕ, List, [], ◌∷◌, ◌++◌, Option, Some, None, map, flat_map, refl, sym, ap, ◌∙◌}
+use Rattle.std.proofs.Common.{append_assoc}
 use Rattle.json.specs.Token.{Token, begin_object, begin_array, end_array, key}
 use Rattle.json.specs.Tree.{json_tokens, items_tokens, members_tokens}
 use Rattle.json.specs.Print.{print}
@@ -58,7 +59,8 @@ pub with_word : {a b c : Printer} {name : List ℕ} {given : Option (List ℕ)} 
 with_word word said h same k = with_same h (ap (option_map string) same ∙ word_of word said) k
 
 -- an object, from its bracket on
-pub with_bracket : {a b c : Printer} {members : Members} → PrintsToken a b begin_object → PrintsRest b c members → PrintsObject a c members
+pub with_bracket : {a b c : Printer} {members : Members} → PrintsToken a b begin_object → PrintsRest b c members
+    → PrintsObject a c members
 with_bracket {a} {members} h k =
     record { tokens = chain (tokens_of a) (begin_object ∷ []) (members_tokens (members_outline members)) h.tokens k.tokens }
 

@@ -14,14 +14,16 @@ each_false : (a b : Bool) → (a || b) ≡ false → (a ≡ false) × (b ≡ fal
 each_false false b h = (refl, h)
 each_false true b h = absurd (cc)
 
-one_of_three : (o : Ordering) (a b c : Members) → members_have_float a ≡ false → members_have_float b ≡ false → members_have_float c ≡ false
+one_of_three : (o : Ordering) (a b c : Members) → members_have_float a ≡ false → members_have_float b ≡ false
+    → members_have_float c ≡ false
     → members_have_float (match_ordering o a b c) ≡ false
 one_of_three Less a b c ha hb hc = ha
 one_of_three Equal a b c ha hb hc = hb
 one_of_three Greater a b c ha hb hc = hc
 
 -- a value that is put at a name
-pub put_has_no_float : (name : List ℕ) (value : Data) (members : Members) → has_float value ≡ false → members_have_float members ≡ false
+pub put_has_no_float : (name : List ℕ) (value : Data) (members : Members) → has_float value ≡ false
+    → members_have_float members ≡ false
     → members_have_float (put name value members) ≡ false
 put_has_no_float name value no_members h hs = both_false (has_float value) false h refl
 put_has_no_float name value (member other d members) h hs =

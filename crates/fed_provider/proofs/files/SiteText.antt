@@ -1,5 +1,7 @@
 -- A registrable domain is ASCII where its host is.
-use Rattle.std.proofs.Common.{◌≡◌, ℕ, ◌+◌, Bool, true, false, not, ◌&&◌, List, [], ◌∷◌, ◌++◌, length, take, drop, reverse, Some, None, option_map, refl, sym, ap, subst, ◌∙◌, rules, if◌then◌else◌}
+use Rattle.std.proofs.Common.{◌≡◌, ℕ, ◌+◌, Bool, true, false, not, ◌&&◌, List, [], ◌∷◌, ◌++◌, length, take, drop}
+use Rattle.std.proofs.Common.{reverse, Some, None}
+use Rattle.std.proofs.Common.{option_map, refl, sym, ap, subst, ◌∙◌, rules, if◌then◌else◌}
 use Rattle.std.specs.Prelude.{IsAscii, nat_lt}
 use Rattle.std.specs.List.{list_all, list_any, slice_split, join_with_byte}
 use Rattle.std.proofs.lemmas.List.{reverse-reverse, reverse-append, take-append-drop}
@@ -22,13 +24,15 @@ abbrev is_low : ℕ → Bool
 is_low b = nat_lt b 128
 
 -- the last labels of a name whose bytes are all low
-last_labels : (xs ys : List (List ℕ)) → list_all is_low (join_with_byte 46 (xs ++ ys)) ≡ true → list_all is_low (join_with_byte 46 ys) ≡ true
+last_labels : (xs ys : List (List ℕ)) → list_all is_low (join_with_byte 46 (xs ++ ys)) ≡ true
+    → list_all is_low (join_with_byte 46 ys) ≡ true
 last_labels [] ys e = e
 last_labels (x ∷ []) [] e = refl
 last_labels (x ∷ []) (y ∷ ys) e =
     and_right (is_low 46) _ (and_right (list_all is_low x) _ (sym (list_all-append is_low x (46 ∷ join_with_byte 46 (y ∷ ys))) ∙ e))
 last_labels (x ∷ z ∷ xs) ys e =
-    last_labels (z ∷ xs) ys (and_right (is_low 46) _ (and_right (list_all is_low x) _ (sym (list_all-append is_low x (46 ∷ join_with_byte 46 ((z ∷ xs) ++ ys))) ∙ e)))
+    last_labels (z ∷ xs) ys (and_right (is_low 46) _
+    (and_right (list_all is_low x) _ (sym (list_all-append is_low x (46 ∷ join_with_byte 46 ((z ∷ xs) ++ ys))) ∙ e)))
 
 divided : (n : ℕ) (host : List ℕ) → slice_split is_dot host ≡ reverse (drop n (labels_of host)) ++ reverse (take n (labels_of host))
 divided n host =
@@ -38,7 +42,8 @@ divided n host =
 low_labels : (n : ℕ) (host : List ℕ) → list_all is_low host ≡ true → list_all is_low (name_of (take n (labels_of host))) ≡ true
 low_labels n host low =
     last_labels (reverse (drop n (labels_of host))) (reverse (take n (labels_of host)))
-    (ap (λ ls. list_all is_low (join_with_byte 46 ls)) (sym (divided n host)) ∙ (ap (list_all is_low) (join_with_byte-slice_split 46 host) ∙ low))
+    (ap (λ ls. list_all is_low (join_with_byte 46 ls)) (sym (divided n host))
+    ∙ (ap (list_all is_low) (join_with_byte-slice_split 46 host) ∙ low))
 
 ascii_by : (bytes : List ℕ) → list_all is_low bytes ≡ true → IsAscii bytes
 ascii_by bytes low = IsAscii-from_all bytes (λ k d inside. let t = AllPass-from_list_all is_low bytes low k d inside in search (rules, t))
@@ -47,14 +52,18 @@ low_by : (bytes : List ℕ) → IsAscii bytes → list_all is_low bytes ≡ true
 low_by bytes ascii = list_all-from_AllPass is_low bytes (λ k d inside. let t = All-from_ascii bytes ascii k d inside in search (rules, t))
 
 -- what is chosen by a test
-chosen : (t : Bool) (labels : List (List ℕ)) (site : List ℕ) → Some site ≡ option_map name_of (if t then Some labels else None) → site ≡ name_of labels
+chosen : (t : Bool) (labels : List (List ℕ)) (site : List ℕ) → Some site ≡ option_map name_of (if t then Some labels else None)
+    → site ≡ name_of labels
 chosen true labels site e = grind rules
 chosen false labels site e = absurd (grind rules)
 
-ascii_of : (kind : HostKind) (rules : RuleSet) (host site : List ℕ) → IsAscii host → Some site ≡ registrable_of kind rules host → IsAscii site
+ascii_of : (kind : HostKind) (rules : RuleSet) (host site : List ℕ) → IsAscii host → Some site ≡ registrable_of kind rules host
+    → IsAscii site
 ascii_of Name suffixes host site ascii e =
     let n = suffix_len (matching suffixes (labels_of host)) + 1 in
-    let k : site ≡ name_of (take n (labels_of host)) = chosen (nat_lt (suffix_len (matching suffixes (labels_of host))) (length (labels_of host)) && not (list_any is_empty (labels_of host))) (take n (labels_of host)) site e in
+    let k : site ≡ name_of (take n (labels_of host)) =
+    chosen (nat_lt (suffix_len (matching suffixes (labels_of host))) (length (labels_of host))
+    && not (list_any is_empty (labels_of host))) (take n (labels_of host)) site e in
     subst IsAscii (sym k) (ascii_by _ (low_labels n host (low_by host ascii)))
 ascii_of V4 suffixes host site ascii e = absurd (grind rules)
 ascii_of V6 suffixes host site ascii e = absurd (grind rules)

@@ -25,11 +25,13 @@ chain : {A B E : Type 0} (r : Result A E) (f : A → Result B E) (b : B) → (r 
 chain (Ok a) f b e = record { value = a; is = refl; then_is = e }
 chain (Err step) f b e = absurd (grind rules)
 
-own_by : (config url found : Parts) (endpoint : Endpoint) (t : Bool) → same_origin (origin_of found) (origin_of config) ≡ t → (if t then Ok found else Err (EndpointOrigin endpoint)) ≡ Ok url → IsOwn config url
+own_by : (config url found : Parts) (endpoint : Endpoint) (t : Bool) → same_origin (origin_of found) (origin_of config) ≡ t
+    → (if t then Ok found else Err (EndpointOrigin endpoint)) ≡ Ok url → IsOwn config url
 own_by config url found endpoint true is e = let k : found ≡ url = grind rules in subst (IsOwn config) k is
 own_by config url found endpoint false is e = absurd (grind rules)
 
-own_joined : (config url : Parts) (endpoint : Endpoint) (r : Result Parts UrlRefusal) → own_url config endpoint r ≡ Ok url → IsOwn config url
+own_joined : (config url : Parts) (endpoint : Endpoint) (r : Result Parts UrlRefusal) → own_url config endpoint r ≡ Ok url
+    → IsOwn config url
 own_joined config url endpoint (Ok found) e = own_by config url found endpoint _ refl e
 own_joined config url endpoint (Err refusal) e = absurd (grind rules)
 
@@ -37,13 +39,17 @@ own_endpoint : (config url : Parts) (endpoint : Endpoint) (text : List ℕ) → 
 unfolding endpoint_url
 own_endpoint config url endpoint text e = own_joined config url endpoint (joined_url config text) e
 
-own_some : (config : Parts) (o : Option Parts) (r : Result Parts ProviderStep) → ((url : Parts) → r ≡ Ok url → IsOwn config url) → with_ok Some r ≡ Ok o → IfSome o (IsOwn config)
+own_some : (config : Parts) (o : Option Parts) (r : Result Parts ProviderStep) → ((url : Parts) → r ≡ Ok url → IsOwn config url)
+    → with_ok Some r ≡ Ok o → IfSome o (IsOwn config)
 own_some config o (Ok url) own e = let k : Some url ≡ o = grind rules in subst (λ x. IfSome x (IsOwn config)) k (own url refl)
 own_some config o (Err step) own e = absurd (grind rules)
 
-own_optional : (config : Parts) (endpoint : Endpoint) (text : Option (List ℕ)) (o : Option Parts) → optional_url config endpoint text ≡ Ok o → IfSome o (IsOwn config)
+own_optional : (config : Parts) (endpoint : Endpoint) (text : Option (List ℕ)) (o : Option Parts)
+    → optional_url config endpoint text ≡ Ok o
+    → IfSome o (IsOwn config)
 own_optional config endpoint None o e = let k : None ≡ o = grind rules in subst (λ x. IfSome x (IsOwn config)) k tt
-own_optional config endpoint (Some text) o e = own_some config o (endpoint_url config endpoint text) (λ url is. own_endpoint config url endpoint text is) e
+own_optional config endpoint (Some text) o e =
+    own_some config o (endpoint_url config endpoint text) (λ url is. own_endpoint config url endpoint text is) e
 
 read_as : (config : Parts) (texts : ConfigTexts) (read : Config) → endpoints config texts ≡ Ok read → HasOwnEndpoints config read
 unfolding endpoints

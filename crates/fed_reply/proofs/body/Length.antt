@@ -1,5 +1,7 @@
 -- The number that a few digits write is small.
-use Rattle.std.proofs.Common.{◌≡◌, ℕ, ◌+◌, ◌-◌, ◌*◌, ◌^◌, ◌<◌, ◌≤◌, true, List, [], ◌∷◌, length, take, get_or, sym, ap, ◌∙◌, rules, arith, lit≤, length-take}
+use Rattle.std.proofs.Common.{◌≡◌, ℕ, ◌+◌, ◌-◌, ◌*◌, ◌^◌, ◌<◌, ◌≤◌, true, List, [], ◌∷◌, length}
+use Rattle.std.proofs.Common.{take, get_or, sym, ap, ◌∙◌, rules, arith}
+use Rattle.std.proofs.Common.{lit≤, length-take}
 use Rattle.std.proofs.lemmas.List.Folds.{list_all_more}
 use Rattle.std.specs.List.{list_all}
 use Rattle.std.specs.Char.{is_ascii_digit, digit_value}
@@ -23,15 +25,20 @@ few_digits ds is few =
 pub digit_is : (c : ℕ) → is_ascii_digit c ≡ true → digit_value c ≡ c - 48
 digit_is c is = grind (rules, arith)
 
-pub digits_more : (value : List ℕ) (i : ℕ) → i < length value → list_all is_ascii_digit (take i value) ≡ true → is_ascii_digit (get_or value i 0) ≡ true → list_all is_ascii_digit (take (i + 1) value) ≡ true
+pub digits_more : (value : List ℕ) (i : ℕ) → i < length value → list_all is_ascii_digit (take i value) ≡ true
+    → is_ascii_digit (get_or value i 0) ≡ true → list_all is_ascii_digit (take (i + 1) value) ≡ true
 digits_more value i inside before here = list_all_more is_ascii_digit value i 0 inside ∙ both _ _ before here
 
-pub number_more : (value : List ℕ) (i n d : ℕ) → i < length value → is_ascii_digit (get_or value i 0) ≡ true → d ≡ get_or value i 0 - 48 → n ≡ digits_value 10 (take i value) → n * 10 + d ≡ digits_value 10 (take (i + 1) value)
+pub number_more : (value : List ℕ) (i n d : ℕ) → i < length value → is_ascii_digit (get_or value i 0) ≡ true
+    → d ≡ get_or value i 0 - 48
+    → n ≡ digits_value 10 (take i value) → n * 10 + d ≡ digits_value 10 (take (i + 1) value)
 number_more value i n d inside here is before =
     ap (λ k. k * 10 + d) before
     ∙ (ap (λ k. digits_value 10 (take i value) * 10 + k) (is ∙ sym (digit_is _ here)) ∙ sym (digits_value_more 10 value i inside))
 
-pub below_limit : (value : List ℕ) (i n : ℕ) → i < length value → length value ≤ 19 → list_all is_ascii_digit (take i value) ≡ true → n ≡ digits_value 10 (take i value) → n < 10 ^ 18
+pub below_limit : (value : List ℕ) (i n : ℕ) → i < length value → length value ≤ 19
+    → list_all is_ascii_digit (take i value) ≡ true
+    → n ≡ digits_value 10 (take i value) → n < 10 ^ 18
 below_limit value i n inside few digits is =
     let short : length (take i value) ≤ 18 = omega (arith, length-take {A = ℕ}) in
     omega (arith, is, few_digits (take i value) digits short)

@@ -1,5 +1,7 @@
 -- Which fields are taken, and the fields of the first spans, one more at a time.
-use Rattle.std.proofs.Common.{◌≡◌, ℕ, ◌+◌, ◌<◌, Bool, true, false, ◌&&◌, List, [], ◌∷◌, ◌++◌, zero, suc, length, map, take, Result, Ok, Err, sym, ap, refl, ◌∙◌, arith, rules, if◌then◌else◌}
+use Rattle.std.proofs.Common.{◌≡◌, ℕ, ◌+◌, ◌<◌, Bool, true, false, ◌&&◌, List, [], ◌∷◌, ◌++◌, zero, suc}
+use Rattle.std.proofs.Common.{length, map, take, Result, Ok, Err}
+use Rattle.std.proofs.Common.{sym, ap, refl, ◌∙◌, arith, rules, if◌then◌else◌}
 use Rattle.std.specs.Prelude.{◌↔◌, slice_index_or, nat_lt}
 use Rattle.std.specs.List.{list_all}
 use Rattle.std.proofs.lemmas.List.{map-append}
@@ -80,7 +82,9 @@ value_taken bytes iff not = by (list_all is_value_byte bytes) refl
         wrong : true ≡ false → ⊥
         wrong e = absurd (grind rules)
 
-pub taken_field : {P Q : Type 0} (name value : List ℕ) → P ↔ (¬ (IsFieldName name)) → ¬ P → Q ↔ (¬ (IsFieldValue value)) → ¬ Q → is_taken_field (name, value) ≡ true
+pub taken_field : {P Q : Type 0} (name value : List ℕ) → P ↔ (¬ (IsFieldName name)) → ¬ P → Q ↔ (¬ (IsFieldValue value))
+    → ¬ Q
+    → is_taken_field (name, value) ≡ true
 unfolding is_taken_field
 taken_field name value n not_n v not_v = both _ _ (name_taken name n not_n) (value_taken value v not_v)
 
@@ -89,28 +93,42 @@ taken_field name value n not_n v not_v = both _ _ (name_taken name n not_n) (val
 fields_snoc : (ps : List FieldPair) (p : FieldPair) → fields_of (ps ++ p ∷ []) ≡ append (fields_of ps) (lowercase p.0) (plain_value p.1)
 fields_snoc ps p = rw (map-append kept_field ps (p ∷ []), fold-append _ _ (map kept_field ps) (kept_field p ∷ [])) refl
 
-seen_snoc : (raw : List ℕ) (spans : List HeaderSpan) (i : ℕ) (d : HeaderSpan) → i < length spans → map (header_bytes raw) (take (i + 1) spans) ≡ map (header_bytes raw) (take i spans) ++ header_bytes raw (slice_index_or spans i d) ∷ []
+seen_snoc : (raw : List ℕ) (spans : List HeaderSpan) (i : ℕ) (d : HeaderSpan) → i < length spans
+    → map (header_bytes raw) (take (i + 1) spans)
+    ≡ map (header_bytes raw) (take i spans) ++ header_bytes raw (slice_index_or spans i d) ∷ []
 seen_snoc raw spans i d inside =
     let more = take-suc spans i d inside in
     let e : i + 1 ≡ suc i = omega arith in
     rw (e, more, map-append (header_bytes raw) (take i spans) (slice_index_or spans i d ∷ [])) refl
 
-pub fields_more : (raw : List ℕ) (spans : List HeaderSpan) (i : ℕ) (d : HeaderSpan) → i < length spans → fields_of (map (header_bytes raw) (take (i + 1) spans)) ≡ append (fields_of (map (header_bytes raw) (take i spans))) (lowercase (header_bytes raw (slice_index_or spans i d)).0) (plain_value (header_bytes raw (slice_index_or spans i d)).1)
-fields_more raw spans i d inside = ap fields_of (seen_snoc raw spans i d inside) ∙ fields_snoc (map (header_bytes raw) (take i spans)) (header_bytes raw (slice_index_or spans i d))
+pub fields_more : (raw : List ℕ) (spans : List HeaderSpan) (i : ℕ) (d : HeaderSpan) → i < length spans
+    → fields_of (map (header_bytes raw) (take (i + 1) spans))
+    ≡ append (fields_of (map (header_bytes raw) (take i spans))) (lowercase (header_bytes raw (slice_index_or spans i d)).0)
+    (plain_value (header_bytes raw (slice_index_or spans i d)).1)
+fields_more raw spans i d inside =
+    ap fields_of (seen_snoc raw spans i d inside)
+    ∙ fields_snoc (map (header_bytes raw) (take i spans)) (header_bytes raw (slice_index_or spans i d))
 
-pub taken_more : (raw : List ℕ) (spans : List HeaderSpan) (i : ℕ) (d : HeaderSpan) → i < length spans → list_all is_taken_field (map (header_bytes raw) (take i spans)) ≡ true → is_taken_field (header_bytes raw (slice_index_or spans i d)) ≡ true → list_all is_taken_field (map (header_bytes raw) (take (i + 1) spans)) ≡ true
+pub taken_more : (raw : List ℕ) (spans : List HeaderSpan) (i : ℕ) (d : HeaderSpan) → i < length spans
+    → list_all is_taken_field (map (header_bytes raw) (take i spans)) ≡ true
+    → is_taken_field (header_bytes raw (slice_index_or spans i d)) ≡ true
+    → list_all is_taken_field (map (header_bytes raw) (take (i + 1) spans)) ≡ true
 taken_more raw spans i d inside before now =
     ap (list_all is_taken_field) (seen_snoc raw spans i d inside)
     ∙ (list_all-append is_taken_field (map (header_bytes raw) (take i spans)) (header_bytes raw (slice_index_or spans i d) ∷ [])
     ∙ both _ _ before (both _ true now refl))
 
 -- one that is not taken, and the whole is not
-one_refused : (raw : List ℕ) (spans : List HeaderSpan) (i : ℕ) (d : HeaderSpan) → i < length spans → is_taken_field (header_bytes raw (slice_index_or spans i d)) ≡ false → list_all is_taken_field (map (header_bytes raw) spans) ≡ false
+one_refused : (raw : List ℕ) (spans : List HeaderSpan) (i : ℕ) (d : HeaderSpan) → i < length spans
+    → is_taken_field (header_bytes raw (slice_index_or spans i d)) ≡ false
+    → list_all is_taken_field (map (header_bytes raw) spans) ≡ false
 one_refused raw [] i d inside now = absurd (omega arith)
 one_refused raw (s ∷ ss) zero d inside now = false_left _ _ now
-one_refused raw (s ∷ ss) (suc i) d inside now = false_right (is_taken_field (header_bytes raw s)) _ (one_refused raw ss i d (omega arith) now)
+one_refused raw (s ∷ ss) (suc i) d inside now =
+    false_right (is_taken_field (header_bytes raw s)) _ (one_refused raw ss i d (omega arith) now)
 
-pub refused_at : (raw : List ℕ) (spans : List HeaderSpan) (i : ℕ) (d : HeaderSpan) → i < length spans → is_taken_field (header_bytes raw (slice_index_or spans i d)) ≡ false → taken_fields (map (header_bytes raw) spans) ≡ Err Head
+pub refused_at : (raw : List ℕ) (spans : List HeaderSpan) (i : ℕ) (d : HeaderSpan) → i < length spans
+    → is_taken_field (header_bytes raw (slice_index_or spans i d)) ≡ false → taken_fields (map (header_bytes raw) spans) ≡ Err Head
 refused_at raw spans i d inside now =
     ap (λ t. if t then Ok (fields_of (map (header_bytes raw) spans)) else Err Head) (one_refused raw spans i d inside now)
 
@@ -122,7 +140,10 @@ failed fault = Err fault
 pub same_step : (step : ReplyStep) → failed (Step Head) ≡ failed (Step step) → step ≡ Head
 same_step step e = let k : Step Head ≡ Step step = cc in cc
 
-pub refuses_at : (raw : List ℕ) (spans : List HeaderSpan) (i : ℕ) (d : HeaderSpan) (fault : Fault ReplyStep) → i < length spans → ((step : ReplyStep) → failed fault ≡ failed (Step step) → (step ≡ Head) × (is_taken_field (header_bytes raw (slice_index_or spans i d)) ≡ false)) → Refuses fault (taken_fields (map (header_bytes raw) spans))
+pub refuses_at : (raw : List ℕ) (spans : List HeaderSpan) (i : ℕ) (d : HeaderSpan) (fault : Fault ReplyStep) → i < length spans
+    → ((step : ReplyStep) → failed fault ≡ failed (Step step)
+    → (step ≡ Head) × (is_taken_field (header_bytes raw (slice_index_or spans i d)) ≡ false))
+    → Refuses fault (taken_fields (map (header_bytes raw) spans))
 refuses_at raw spans i d NoRoom inside h = tt
 refuses_at raw spans i d (Step step) inside h =
     let k = h step refl in

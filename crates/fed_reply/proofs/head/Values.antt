@@ -1,5 +1,7 @@
 -- The values under a name are those of the fields of that name.
-use Rattle.std.proofs.Common.{◌≡◌, ◌≢◌, ℕ, Bool, true, false, List, [], ◌∷◌, ◌++◌, map, filter, Option, Some, None, Result, Ok, Err, refl, sym, ap, subst, ◌∙◌, rules, if◌then◌else◌}
+use Rattle.std.proofs.Common.{◌≡◌, ◌≢◌, ℕ, Bool, true, false, List, [], ◌∷◌, ◌++◌, map, filter, Option, Some, None}
+use Rattle.std.proofs.Common.{Result, Ok, Err, refl}
+use Rattle.std.proofs.Common.{sym, ap, subst, ◌∙◌, rules, if◌then◌else◌}
 use Rattle.std.specs.Prelude.{bytes_eq, nat_le, length}
 use Rattle.std.proofs.lemmas.List.{map-append, append_assoc, append-nil}
 use Rattle.std.proofs.lemmas.Slice.Eq.{bytes_eq-Decides}
@@ -20,7 +22,8 @@ use Rattle.fed_reply.specs.Reply.{FrontOf, ReplyOf, taken_head, is_taken_head, r
 use Rattle.fed_reply.specs.Laws.{named_values, HasFieldsOf}
 
 -- one field more
-one_more : (name : List ℕ) (p : FieldPair) (m : Fields) (t : Bool) → bytes_eq (lowercase p.0) name ≡ t → values name (append m (lowercase p.0) (plain_value p.1)) ≡ values name m ++ (if t then p.1 ∷ [] else [])
+one_more : (name : List ℕ) (p : FieldPair) (m : Fields) (t : Bool) → bytes_eq (lowercase p.0) name ≡ t
+    → values name (append m (lowercase p.0) (plain_value p.1)) ≡ values name m ++ (if t then p.1 ∷ [] else [])
 one_more name p m true is =
     let same : lowercase p.0 ≡ name = (bytes_eq-Decides (lowercase p.0) name).0 is in
     subst (λ n. values n (append m (lowercase p.0) (plain_value p.1)) ≡ values n m ++ p.1 ∷ []) same
@@ -28,7 +31,8 @@ one_more name p m true is =
     ∙ map-append (λ (v : FieldValue). v.bytes) (get_all m (lowercase p.0)) (plain_value p.1 ∷ []))
 one_more name p m false is =
     let apart : lowercase p.0 ≢ name = λ e. wrong (sym is ∙ (bytes_eq-Decides (lowercase p.0) name).1 e) in
-    ap (map (λ (v : FieldValue). v.bytes)) (get_all-append_other m (lowercase p.0) name (plain_value p.1) apart) ∙ sym (append-nil (values name m))
+    ap (map (λ (v : FieldValue). v.bytes)) (get_all-append_other m (lowercase p.0) name (plain_value p.1) apart)
+    ∙ sym (append-nil (values name m))
   where
     wrong : false ≡ true → ⊥
     wrong e = absurd (grind rules)
@@ -37,15 +41,18 @@ one_more name p m false is =
 trimmed_values : List ℕ → List FieldPair → List (List ℕ)
 trimmed_values name pairs = map (λ p. p.1) (filter (λ p. is_word name p.0) pairs)
 
-values_after : (name : List ℕ) (pairs : List FieldPair) (m : Fields) → values name (append_all m (map kept_field pairs)) ≡ values name m ++ trimmed_values name pairs
+values_after : (name : List ℕ) (pairs : List FieldPair) (m : Fields)
+    → values name (append_all m (map kept_field pairs)) ≡ values name m ++ trimmed_values name pairs
 unfolding trimmed_values
 values_after name [] m = sym (append-nil (values name m))
 values_after name (p ∷ ps) m =
     values_after name ps (append m (lowercase p.0) (plain_value p.1))
     ∙ (ap (λ vs. vs ++ trimmed_values name ps) (one_more name p m (is_word name p.0) refl)
-    ∙ (append_assoc (values name m) (if is_word name p.0 then p.1 ∷ [] else []) (trimmed_values name ps) ∙ ap (λ vs. values name m ++ vs) (joined (is_word name p.0))))
+    ∙ (append_assoc (values name m) (if is_word name p.0 then p.1 ∷ [] else []) (trimmed_values name ps)
+    ∙ ap (λ vs. values name m ++ vs) (joined (is_word name p.0))))
   where
-    joined : (t : Bool) → (if t then p.1 ∷ [] else []) ++ trimmed_values name ps ≡ map (λ (q : FieldPair). q.1) (if t then p ∷ filter (λ q. is_word name q.0) ps else filter (λ q. is_word name q.0) ps)
+    joined : (t : Bool) → (if t then p.1 ∷ [] else []) ++ trimmed_values name ps
+        ≡ map (λ (q : FieldPair). q.1) (if t then p ∷ filter (λ q. is_word name q.0) ps else filter (λ q. is_word name q.0) ps)
     joined true = refl
     joined false = refl
 
@@ -55,7 +62,8 @@ trimmed_are name [] = refl
 trimmed_are name (p ∷ ps) = by (is_word name p.0) (trimmed_are name ps)
   where
     by : (t : Bool) → trimmed_values name (map name_and_trimmed ps) ≡ named_values name ps
-        → map (λ (q : FieldPair). q.1) (if t then name_and_trimmed p ∷ filter (λ q. is_word name q.0) (map name_and_trimmed ps) else filter (λ q. is_word name q.0) (map name_and_trimmed ps))
+        → map (λ (q : FieldPair). q.1) (if t then name_and_trimmed p
+        ∷ filter (λ q. is_word name q.0) (map name_and_trimmed ps) else filter (λ q. is_word name q.0) (map name_and_trimmed ps))
         ≡ map (λ (q : FieldPair). trim_ows q.1) (if t then p ∷ filter (λ q. is_word name q.0) ps else filter (λ q. is_word name q.0) ps)
     by true e = ap (λ vs. trim_ows p.1 ∷ vs) e
     by false e = e
@@ -85,11 +93,14 @@ front_is : (raw : List ℕ) (h : HeadParts) → FrontOf raw ≡ Ok h → head_of
 unfolding FrontOf
 front_is raw h e = within_is 128 (head_of raw) h (taken_is (within 128 (head_of raw)) h e)
 
-with_body : (h : HeadParts) (reply : ReplyParts) (r : Result (List ℕ) ReplyStep) → with_ok (reply_with h) r ≡ Ok reply → (body : List ℕ) × (reply_with h body ≡ reply)
+with_body : (h : HeadParts) (reply : ReplyParts) (r : Result (List ℕ) ReplyStep) → with_ok (reply_with h) r ≡ Ok reply
+    → (body : List ℕ) × (reply_with h body ≡ reply)
 with_body h reply (Ok body) e = (body, grind rules)
 with_body h reply (Err step) e = absurd (grind rules)
 
-of_front : (raw : List ℕ) (reply : ReplyParts) (r : Result HeadParts ReplyStep) → FrontOf raw ≡ r → and_then (λ h. with_ok (reply_with h) (body_of (fields_of (map name_and_trimmed h.fields)) h.rest)) r ≡ Ok reply → HasFieldsOf raw reply
+of_front : (raw : List ℕ) (reply : ReplyParts) (r : Result HeadParts ReplyStep) → FrontOf raw ≡ r
+    → and_then (λ h. with_ok (reply_with h) (body_of (fields_of (map name_and_trimmed h.fields)) h.rest)) r ≡ Ok reply
+    → HasFieldsOf raw reply
 of_front raw reply (Err step) is e = absurd (grind rules)
 of_front raw reply (Ok h) is e =
     let k = with_body h reply (body_of (fields_of (map name_and_trimmed h.fields)) h.rest) e in

@@ -1,5 +1,7 @@
 -- Trimmed values, and what stands before a byte.
-use Rattle.std.proofs.Common.{◌≡◌, ℕ, suc, ◌+◌, ◌-◌, ◌≤◌, arith, position, Bool, true, false, cond, List, [], ◌∷◌, ◌++◌, length, take, drop, reverse, Some, None, refl, sym, ap, ◌∙◌, if◌then◌else◌}
+use Rattle.std.proofs.Common.{◌≡◌, ℕ, suc, ◌+◌, ◌-◌, ◌≤◌, arith, position, Bool, true, false, cond, List, []}
+use Rattle.std.proofs.Common.{◌∷◌, ◌++◌, length, take, drop}
+use Rattle.std.proofs.Common.{reverse, Some, None, refl, sym, ap, ◌∙◌, if◌then◌else◌}
 use Rattle.std.specs.Prelude.{nat_lt}
 use Rattle.std.specs.List.{prefix_len, position_or_len, before_first}
 use Rattle.std.proofs.lemmas.Bool.Decides.{nat_tests}
@@ -12,7 +14,8 @@ without_front : (bytes : List ℕ) → drop (prefix_len is_blank bytes) bytes �
 without_front [] = refl
 without_front (b ∷ bytes) = by (is_blank b) (without_front bytes)
   where
-    by : (t : Bool) → drop (prefix_len is_blank bytes) bytes ≡ skip_ows bytes → drop (cond t (1 + prefix_len is_blank bytes) 0) (b ∷ bytes) ≡ (if t then skip_ows bytes else b ∷ bytes)
+    by : (t : Bool) → drop (prefix_len is_blank bytes) bytes ≡ skip_ows bytes
+        → drop (cond t (1 + prefix_len is_blank bytes) 0) (b ∷ bytes) ≡ (if t then skip_ows bytes else b ∷ bytes)
     by true rest =
         let one : 1 + prefix_len is_blank bytes ≡ suc (prefix_len is_blank bytes) = omega arith in
         ap (λ n. drop n (b ∷ bytes)) one ∙ rest
@@ -23,8 +26,11 @@ reverse-drop : (n : ℕ) (xs : List ℕ) → reverse (drop n (reverse xs)) ≡ t
 reverse-drop n xs =
     let left = reverse (drop n (reverse xs)) in
     let gone = reverse (take n (reverse xs)) in
-    let long : length left ≡ length xs - n = length-reverse (drop n (reverse xs)) ∙ length-drop n (reverse xs) ∙ ap (λ k. k - n) (length-reverse xs) in
-    let whole : left ++ gone ≡ xs = sym (reverse-append (take n (reverse xs)) (drop n (reverse xs))) ∙ ap reverse (take-append-drop n (reverse xs)) ∙ reverse-reverse xs in
+    let long : length left ≡ length xs - n =
+    length-reverse (drop n (reverse xs)) ∙ length-drop n (reverse xs) ∙ ap (λ k. k - n) (length-reverse xs) in
+    let whole : left ++ gone ≡ xs =
+    sym (reverse-append (take n (reverse xs)) (drop n (reverse xs))) ∙ ap reverse (take-append-drop n (reverse xs))
+    ∙ reverse-reverse xs in
     sym (take-append_seam left gone) ∙ ap (λ k. take k (left ++ gone)) long ∙ ap (λ ys. take (length xs - n) ys) whole
 
 -- what is trimmed here is trimmed as in a field of a head
@@ -32,7 +38,8 @@ pub trimmed-is : (bytes : List ℕ) → trimmed bytes ≡ trim_ows bytes
 unfolding trimmed trim_ows
 trimmed-is bytes =
     let front = trimmed_front bytes in
-    sym (reverse-drop (prefix_len is_blank (reverse front)) front) ∙ ap reverse (without_front (reverse front)) ∙ ap (λ xs. reverse (skip_ows (reverse xs))) (without_front bytes)
+    sym (reverse-drop (prefix_len is_blank (reverse front)) front) ∙ ap reverse (without_front (reverse front))
+    ∙ ap (λ xs. reverse (skip_ows (reverse xs))) (without_front bytes)
 
 no_place : (p : ℕ → Bool) (xs : List ℕ) → cond (nat_lt (position_or_len p xs) (length xs)) (Some (position_or_len p xs)) None ≡ None
     → length xs ≤ position_or_len p xs

@@ -1,5 +1,6 @@
 -- A form as it is written, pair after pair, is the form of the definitions.
-use Rattle.std.proofs.Common.{◌≡◌, ℕ, ◌<◌, Bool, true, false, List, [], ◌∷◌, ◌++◌, length, codes, refl, sym, ap, ◌∙◌, append_assoc}
+use Rattle.std.proofs.Common.{◌≡◌, ℕ, ◌<◌, Bool, true, false, List, [], ◌∷◌, ◌++◌, length, codes, refl, sym, ap}
+use Rattle.std.proofs.Common.{◌∙◌, append_assoc}
 use Rattle.std.proofs.Common.{append-nil, arith}
 use Rattle.std.proofs.lemmas.Bool.{cond-true, lt-ltb}
 use Rattle.std.specs.Prelude.{Option, Some, None}
@@ -19,7 +20,8 @@ later_pair : (b : ℕ) (form name value : List ℕ) → append_pair (b ∷ form)
 later_pair b form name value =
     let some : 0 < length (b ∷ form) = omega arith in
     let joined : separator (b ∷ form) ≡ 38 ∷ [] = cond-true _ _ _ (lt-ltb 0 (length (b ∷ form)) some) in
-    ap (λ x. (b ∷ form) ++ x ++ serialize_pair (name, value)) joined ∙ append_assoc (b ∷ form) (38 ∷ []) (serialize_pair (name, value))
+    ap (λ x. (b ∷ form) ++ x ++ serialize_pair (name, value)) joined
+    ∙ append_assoc (b ∷ form) (38 ∷ []) (serialize_pair (name, value))
 
 later_optional : (b : ℕ) (form name : List ℕ) (value : Option (List ℕ))
     → with_pair name value (b ∷ form) ≡ (b ∷ form) ++ optional_pair (lead_of name) value

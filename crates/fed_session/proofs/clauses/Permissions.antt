@@ -1,5 +1,6 @@
 -- What an outcome of a call does to permissions and flags.
-use Rattle.std.proofs.Common.{◌≡◌, ℕ, Bool, true, false, ◌||◌, List, [], ◌∷◌, ◌++◌, Some, None, map, refl, sym, ap, ◌∙◌, cond}
+use Rattle.std.proofs.Common.{◌≡◌, ℕ, Bool, true, false, ◌||◌, List, [], ◌∷◌, ◌++◌, Some, None, map, refl, sym, ap}
+use Rattle.std.proofs.Common.{◌∙◌, cond}
 use Rattle.std.specs.Prelude.{Option, ⊤}
 use Rattle.std.specs.List.{flat_map, AllByRecursion}
 use Rattle.std.specs.Map.{keys_of}
@@ -32,7 +33,8 @@ keys_insert : (t : Triple) (es : List (Triple × ⊤)) → keys_of (insert_entry
 keys_insert t [] = refl
 keys_insert t (e ∷ es) = go (same_triple t e.0) (keys_insert t es)
   where
-    under : (b : Bool) → e.0 ∷ cond b (keys_of es) (keys_of es ++ t ∷ []) ≡ cond b (e.0 ∷ keys_of es) (e.0 ∷ (keys_of es ++ t ∷ []))
+    under : (b : Bool) → e.0 ∷ cond b (keys_of es) (keys_of es ++ t ∷ [])
+        ≡ cond b (e.0 ∷ keys_of es) (e.0 ∷ (keys_of es ++ t ∷ []))
     under true = refl
     under false = refl
 
@@ -61,7 +63,8 @@ goes_each (t ∷ ts) es =
 -- ---- permissions
 
 -- what a call does after the first thing, where no pair goes
-does_keep : (world : World) (cookies : Ask → List ℕ) (kind : CallKind) (call page : ℕ) (effects : List CallEffect) (es : List (Triple × ⊤))
+does_keep : (world : World) (cookies : Ask → List ℕ) (kind : CallKind) (call page : ℕ) (effects : List CallEffect) (es : List (Triple
+    × ⊤))
     → AllByRecursion Next effects
     → keys_of (entries_after same_triple kept_change (flat_map (call_effects world cookies kind call page) effects) es)
     ≡ kept_after effects (keys_of es)
@@ -118,7 +121,8 @@ does_keep_first world cookies kind call page (does.Forget triple ∷ effects) es
 does_keep_first world cookies kind call page (does.ClearFlag origin ∷ effects) es sets is =
     does_keep world cookies kind call page effects es sets.1
 
-pub outcome_keeps : (world : World) (cookies : Ask → List ℕ) (kind : CallKind) (call page : ℕ) (outcome : Outcome) (es : List (Triple × ⊤))
+pub outcome_keeps : (world : World) (cookies : Ask
+    → List ℕ) (kind : CallKind) (call page : ℕ) (outcome : Outcome) (es : List (Triple × ⊤))
     → SetsAll outcome.effects → world.kept ≡ keys_of es
     → keys_of (entries_after same_triple kept_change (outcome_effects world cookies kind call page outcome) es)
     ≡ kept_after outcome.effects (keys_of es)
@@ -134,7 +138,8 @@ outcome_keeps world cookies kind call page outcome es sets is =
 
 -- ---- flags
 
-does_flag : (world : World) (cookies : Ask → List ℕ) (kind : CallKind) (call page : ℕ) (effects : List CallEffect) (es : List (Origin × ⊤))
+does_flag : (world : World) (cookies : Ask → List ℕ) (kind : CallKind) (call page : ℕ) (effects : List CallEffect) (es : List (Origin
+    × ⊤))
     → keys_of (entries_after same_origin flag_change (flat_map (call_effects world cookies kind call page) effects) es)
     ≡ flags_after effects (keys_of es)
 does_flag world cookies kind call page effects es = all effects es
@@ -158,7 +163,8 @@ does_flag world cookies kind call page effects es = all effects es
     all (does.ClearFlag origin ∷ effects) es =
         all effects (shift_remove_entry (same_origin origin) es) ∙ ap (flags_after effects) (keys_remove (same_origin origin) es)
 
-pub outcome_flags : (world : World) (cookies : Ask → List ℕ) (kind : CallKind) (call page : ℕ) (outcome : Outcome) (es : List (Origin × ⊤))
+pub outcome_flags : (world : World) (cookies : Ask
+    → List ℕ) (kind : CallKind) (call page : ℕ) (outcome : Outcome) (es : List (Origin × ⊤))
     → keys_of (entries_after same_origin flag_change (outcome_effects world cookies kind call page outcome) es)
     ≡ flags_after outcome.effects (keys_of es)
 outcome_flags world cookies kind call page outcome es =

@@ -127,7 +127,8 @@ config_sets place heard (Some config) read = (tt, tt)
 config_sets place heard None None = (tt, tt)
 config_sets place heard None (Some read) = first_config_sets place heard read
 
-reading_sets : (rules : RuleSet) (heard : Bool) (config : Option Config) (place : ℕ) (provider : Option ProviderOptions) (kind : ReplyKind)
+reading_sets : (rules : RuleSet) (heard : Bool) (config : Option Config) (place : ℕ) (provider : Option ProviderOptions)
+    (kind : ReplyKind)
     (raw : List ℕ)
     → Sets (reading_reply rules heard config place provider kind raw)
 reading_sets rules heard config place provider kinds.WellKnown raw = wellknown_sets place heard config (wellknown_of rules raw provider)

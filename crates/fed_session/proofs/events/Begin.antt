@@ -1,5 +1,6 @@
 -- What a call that begins owes to the trace.
-use Rattle.std.proofs.Common.{◌≡◌, ℕ, Bool, true, false, nat_eq, ◌⊎◌, inl, inr, List, [], ◌∷◌, ◌++◌, Some, None, length, refl, sym, ap}
+use Rattle.std.proofs.Common.{◌≡◌, ℕ, Bool, true, false, nat_eq, ◌⊎◌, inl, inr, List, [], ◌∷◌, ◌++◌, Some, None}
+use Rattle.std.proofs.Common.{length, refl, sym, ap}
 use Rattle.std.proofs.Common.{subst, ◌∙◌, arith, cond}
 use Rattle.std.proofs.lemmas.Bool.Decides.{nat_tests}
 use Rattle.std.specs.Prelude.{Option, slice_get, Ok, Err, Result as Answer, is_some, option_map, option_and_then, unwrap_or}
@@ -83,7 +84,8 @@ world_same s T h =
 -- ---- an event by which a call begins
 
 pub record BeginsBy (T : Trace) (event : Event) (page call : ℕ) (options : CallOptions) : Type 0 where
-  pub effects : effects_of T event ≡ begin_effects (world_at T) (cookies_with T) (page_at T page) (is_busy page (gets T)) page call options
+  pub effects : effects_of T event ≡ begin_effects (world_at T) (cookies_with T) (page_at T page) (is_busy page
+      (gets T)) page call options
   pub inputs : (q : ℕ) (k : Known) → said_of T event q k ≡ k
 
 -- its effects by what the session keeps are those by the trace
@@ -99,7 +101,8 @@ begin_at-stands s T event page call options h by =
 
 -- ---- a call that is not taken
 
-owes_ignored : (s s' : State) (T : Trace) (line : ℕ) (event : Event) (why : Why) → Stands s T → effects_of T event ≡ Ignored why ∷ []
+owes_ignored : (s s' : State) (T : Trace) (line : ℕ) (event : Event) (why : Why) → Stands s T
+    → effects_of T event ≡ Ignored why ∷ []
     → ((q : ℕ) (k : Known) → said_of T event q k ≡ k)
     → sight_of s' ≡ sight_of s → s'.pages ≡ s.pages → s'.calls ≡ s.calls
     → Owes s s' T line event
@@ -125,7 +128,8 @@ over_none (OfDisconnect facts) = refl
 first_as : (b : Begun) → pending_as (known_first b) ≡ pending_from b
 first_as b = go b.options
   where
-    go : (options : CallOptions) → pending_as (fresh b.call b.page b.origin options) ≡ record { page = b.page; kind = kind_asked options }
+    go : (options : CallOptions) → pending_as (fresh b.call b.page b.origin options)
+        ≡ record { page = b.page; kind = kind_asked options }
     go (ToGet options) = refl
     go (ToDisconnect options) = refl
 
@@ -186,7 +190,8 @@ enters call v known stage p ps cs es same free found absent unbegun held is = go
         let k : Known = staged stage known in
         let kind_is : kind_of k ≡ v.kind = ap (λ (x : PendingCall). x.kind) (staged_as stage known ∙ same) in
         let holds : with_call (kind_of k) v.page call ps ≡ set_value (nat_eq v.page) ps (page_with v.kind call p) =
-        ap (λ n. with_call n v.page call ps) kind_is ∙ ap (λ o. option_map_or (λ p. set_value (nat_eq v.page) ps (page_with v.kind call p))
+        ap (λ n. with_call n v.page call ps) kind_is ∙ ap (λ o. option_map_or
+        (λ p. set_value (nat_eq v.page) ps (page_with v.kind call p))
         o ps) found in
         let stays = going.stays v.kind call (insert_entry nat_eq es call v) in
         subst (λ after. Enters call v after stage ps cs es) (sym (going.kept known))
@@ -200,7 +205,8 @@ enters call v known stage p ps cs es same free found absent unbegun held is = go
               ∙ ap (insert_entry nat_eq es call) (staged_as stage known ∙ same) ∙ sym stays;
         })
 
-    go : (stage ≡ Ended) ⊎ Goes stage → (stage ≡ Ended) ⊎ IsFree v.kind p.get → Enters call v (at_stage stage known) stage ps cs es
+    go : (stage ≡ Ended) ⊎ Goes stage → (stage ≡ Ended) ⊎ IsFree v.kind p.get
+        → Enters call v (at_stage stage known) stage ps cs es
     go (inl at) free = ended at
     go (inr going) (inl at) = ended at
     go (inr going) (inr vacant) = goes going vacant
@@ -277,14 +283,16 @@ owes_taken s s' T line event b p outcome stage h effects inputs moved sets free 
           (enter.held q));
       taken = ap numbers_of kept_calls ∙ numbers-insert b.call known s.calls fresh_call
           ∙ ap (λ xs. numbers_of s.calls ++ xs) (sym (ap (filter_map begun_by) effects
-          ∙ ap (λ xs. b.call ∷ xs) (said_silent begun_by does (outcome_begins_none world (cookies_with T) kind b.call b.page outcome))));
+          ∙ ap (λ xs. b.call ∷ xs) (said_silent begun_by does
+          (outcome_begins_none world (cookies_with T) kind b.call b.page outcome))));
       pending = ap pending_calls kept_calls ∙ enter.pending ∙ sym calls_is;
       known =
           λ q. ap (kept_at q) kept_calls ∙ ap (option_and_then (λ kept. kept)) (lookup-insert_entry q b.call known s.calls)
           ∙ known_new s T line event b outcome stage q h inputs moved moved_by begins_of (nat_eq q b.call) refl;
     }
   where
-    known_new : (s : State) (T : Trace) (line : ℕ) (event : Event) (b : Begun) (outcome : Outcome) (stage : Stage) (q : ℕ) → Stands s T
+    known_new : (s : State) (T : Trace) (line : ℕ) (event : Event) (b : Begun) (outcome : Outcome) (stage : Stage) (q : ℕ)
+        → Stands s T
         → ((q : ℕ) (k : Known) → said_of T event q k ≡ k) → outcome.stage ≡ Some stage
         → ((q : ℕ) → last_said nat_eq stage_change q (effects_of T event)
         ≡ last_said nat_eq stage_change q (outcome_effects (world_at T) (cookies_with T) (kind_asked b.options) b.call b.page outcome))

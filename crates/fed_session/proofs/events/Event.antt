@@ -1,5 +1,6 @@
 -- What the events without a call owe to the trace.
-use Rattle.std.proofs.Common.{◌≡◌, ℕ, Bool, true, false, nat_eq, List, [], ◌∷◌, ◌++◌, Some, None, ◌||◌, refl, sym, ap, subst, ◌∙◌, arith}
+use Rattle.std.proofs.Common.{◌≡◌, ℕ, Bool, true, false, nat_eq, List, [], ◌∷◌, ◌++◌, Some, None, ◌||◌, refl, sym, ap}
+use Rattle.std.proofs.Common.{subst, ◌∙◌, arith}
 use Rattle.std.proofs.Common.{cond, append-nil}
 use Rattle.std.proofs.lemmas.Bool.Decides.{nat_tests}
 use Rattle.std.specs.Prelude.{Option, option_map, option_and_then, unwrap_or}
@@ -161,14 +162,17 @@ pending_after_ends (c ∷ calls) rest cs distinct silent =
     ∙ ap (entries_after nat_eq call_change (ends_of calls ++ rest)) (ap pending_calls (with_kept-is c.0 None cs)
     ∙ pending-set_ended c.0 cs distinct)
 
-none_kept : (found : Option (Option Known)) → ◌≡◌ {A = Option Known} (option_and_then (λ kept. kept) (option_map (λ x. None) found)) None
+none_kept : (found : Option (Option Known)) → ◌≡◌ {A =
+    Option Known} (option_and_then (λ kept. kept) (option_map (λ x. None) found)) None
 none_kept None = refl
 none_kept (Some kept) = refl
 
 -- what is kept of a call after one has ended
-kept_after_end : (q call : ℕ) (cs : List (ℕ × Option Known)) → kept_at q (with_ended call cs) ≡ cond (nat_eq q call) None (kept_at q cs)
+kept_after_end : (q call : ℕ) (cs : List (ℕ × Option Known))
+    → kept_at q (with_ended call cs) ≡ cond (nat_eq q call) None (kept_at q cs)
 kept_after_end q call cs =
-    ap (kept_at q) (with_kept-is call None cs) ∙ ap (option_and_then (λ kept. kept)) (lookup-set_value q call None cs) ∙ go (nat_eq q call)
+    ap (kept_at q) (with_kept-is call None cs) ∙ ap (option_and_then (λ kept. kept)) (lookup-set_value q call None cs)
+    ∙ go (nat_eq q call)
   where
     go : (b : Bool) → option_and_then (λ kept. kept) (cond b (option_map (λ x. None) (lookup (nat_eq q) cs)) (lookup (nat_eq q) cs))
         ≡ cond b None (kept_at q cs)
@@ -240,10 +244,12 @@ owes_load s s' T line page url raw h sight kept_pages kept_calls =
     record {
       rules = seen.rules;
       kept =
-          kept_still s s' T (Load page url raw) h (load_silent kept_change (λ n c. refl) (λ p o. refl) (λ c. refl) (λ o s. refl) calls page
+          kept_still s s' T (Load page url raw) h (load_silent kept_change (λ n c. refl) (λ p o. refl) (λ c. refl) (λ o s. refl) calls
+          page
           url found statuses) seen.kept;
       flags =
-          flags_still s s' T (Load page url raw) h (load_silent flag_change (λ n c. refl) (λ p o. refl) (λ c. refl) (λ o s. refl) calls page
+          flags_still s s' T (Load page url raw) h (load_silent flag_change (λ n c. refl) (λ p o. refl) (λ c. refl) (λ o s. refl) calls
+          page
           url found statuses) seen.flags;
       time =
           seen.time ∙ sym (ap (λ o. unwrap_or o s.time)
@@ -252,7 +258,8 @@ owes_load s s' T line page url raw h sight kept_pages kept_calls =
       cookies = seen.cookies ∙ ap (cookies_after s.cookies) (same ∙ sym (load_writes (calls_of page es) page url found statuses));
       login = seen.login ∙ sym (load_sets (calls_of page es) page url found statuses s.login);
       pages =
-          ap origins_of kept_pages ∙ origins_of-insert_entry page p s.pages ∙ ap (λ os. insert_entry nat_eq os page (origin_of url)) h.pages
+          ap origins_of kept_pages ∙ origins_of-insert_entry page p s.pages
+          ∙ ap (λ os. insert_entry nat_eq os page (origin_of url)) h.pages
           ∙ sym (load_pages (calls_of page es) page url found statuses (pages T));
       held =
           λ q. subst (λ xs. Holds (lookup (nat_eq q) s'.pages) (calls_of q xs))
@@ -312,7 +319,8 @@ owes_close_standing s s' T line page p found h sight kept_pages kept_calls =
           ∙ ap (shift_remove_entry (nat_eq page)) (entries_silent nat_eq page_change (ends_of (calls_of page es)) (pages T)
           (ends_silent page_change (λ n c. refl) (calls_of page es))));
       held = λ q. subst (λ xs. Holds (lookup (nat_eq q) s'.pages) (calls_of q xs))
-          (sym (ap (λ xs. entries_after nat_eq call_change xs es) closes ∙ entries_after-append nat_eq call_change (ends_of calls) rest es
+          (sym (ap (λ xs. entries_after nat_eq call_change xs es) closes
+          ∙ entries_after-append nat_eq call_change (ends_of calls) rest es
           ∙ ended page es (distinct_standing call_change T.rows)))
           (subst (λ ps. Holds (lookup (nat_eq q) ps) (calls_of q (others page es))) (sym kept_pages)
           (held_after_close q page s.pages es (pages_distinct s T h) (h.held q)));

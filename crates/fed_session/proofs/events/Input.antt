@@ -1,5 +1,6 @@
 -- What an input of a call owes to the trace.
-use Rattle.std.proofs.Common.{◌≡◌, ℕ, Bool, true, false, nat_eq, ◌||◌, ◌⊎◌, inl, inr, List, [], ◌∷◌, ◌++◌, Some, None, refl, sym, ap}
+use Rattle.std.proofs.Common.{◌≡◌, ℕ, Bool, true, false, nat_eq, ◌||◌, ◌⊎◌, inl, inr, List, [], ◌∷◌, ◌++◌, Some}
+use Rattle.std.proofs.Common.{None, refl, sym, ap}
 use Rattle.std.proofs.Common.{subst, ◌∙◌, arith, cond, append-nil}
 use Rattle.std.proofs.lemmas.Bool.Decides.{nat_tests}
 use Rattle.std.specs.Prelude.{Option, is_some, option_map, option_and_then, unwrap_or}
@@ -133,7 +134,8 @@ pending-set_same : (k : ℕ) (before after : Known) (cs : List (ℕ × Option Kn
 pending-set_same k before after [] h same = refl
 pending-set_same k before after ((n, kept) ∷ cs) h same = go (λ found. pending-set_same k before after cs found same) (nat_eq k n) h
   where
-    go : (lookup (nat_eq k) cs ≡ Some (Some before) → pending_calls (set_value (nat_eq k) cs (Some after)) ≡ pending_calls cs) → (b : Bool)
+    go : (lookup (nat_eq k) cs ≡ Some (Some before) → pending_calls (set_value (nat_eq k) cs (Some after)) ≡ pending_calls cs)
+        → (b : Bool)
         → cond b (Some kept) (lookup (nat_eq k) cs) ≡ Some (Some before)
         → pending_calls (cond b ((n, Some after) ∷ cs) ((n, kept) ∷ set_value (nat_eq k) cs (Some after))) ≡ pending_calls ((n, kept) ∷ cs)
     go rest true h =
@@ -147,7 +149,8 @@ pending-set_same k before after ((n, kept) ∷ cs) h same = go (λ found. pendin
         onto_same (Some f) rest = ap (λ xs. (n, pending_as f) ∷ xs) rest
 
 -- a pending call stands with its page and its kind
-pending_found : (k : ℕ) (known : Known) (cs : List (ℕ × Option Known)) → lookup (nat_eq k) cs ≡ Some (Some known) → AreDistinct cs
+pending_found : (k : ℕ) (known : Known) (cs : List (ℕ × Option Known)) → lookup (nat_eq k) cs ≡ Some (Some known)
+    → AreDistinct cs
     → lookup (nat_eq k) (pending_calls cs) ≡ Some (pending_as known)
 pending_found k known [] h distinct = absurd (cc)
 pending_found k known ((n, kept) ∷ cs) h distinct = go (λ found. pending_found k known cs found distinct.1) (nat_eq k n) refl h kept
@@ -176,7 +179,8 @@ pub record Leaves (call : ℕ) (known : Known) (after : Option Known) (moved : O
   pub pending : pending_calls (set_value (nat_eq call) cs after) ≡ entries_after nat_eq call_change (moves (kind_of known) call moved) es
 
 -- the call goes on
-goes_on : (call : ℕ) (known after : Known) (moved : Option Stage) (ps : List (ℕ × kept.Page)) (cs : List (ℕ × Option Known)) (es : List
+goes_on : (call : ℕ) (known after : Known) (moved : Option Stage) (ps : List (ℕ × kept.Page)) (cs : List
+    (ℕ × Option Known)) (es : List
     (ℕ × PendingCall))
     → pending_as after ≡ pending_as known → entries_after nat_eq call_change (moves (kind_of known) call moved) es ≡ es
     → lookup (nat_eq call) cs ≡ Some (Some known)
@@ -267,7 +271,8 @@ leaves world call known input ignored (Some stage) ps cs es going found distinct
     k : Known
     k = with_input world ignored input known
 
-    go : (stage ≡ Ended) ⊎ Goes stage → Leaves call known (at_stage stage (with_input world ignored input known)) (Some stage) ps cs es
+    go : (stage ≡ Ended) ⊎ Goes stage → Leaves call known (at_stage stage (with_input world ignored input known)) (Some
+        stage) ps cs es
     go (inl over) =
         subst (λ st. Leaves call known (at_stage st (with_input world ignored input known)) (Some st) ps cs es) (sym over)
         (subst (λ after. Leaves call known after (Some Ended) ps cs es) (sym (over_none (with_input world ignored input known)))
@@ -351,7 +356,8 @@ owes_pending s s' T line event call input known outcome h brings sets effects fo
           ∙ known_input s T line event call input known outcome q h effects found about begins_none said (nat_eq q call) refl;
     }
   where
-    known_input : (s : State) (T : Trace) (line : ℕ) (event : Event) (call : ℕ) (input : Input) (known : Known) (outcome : Outcome) (q : ℕ)
+    known_input : (s : State) (T : Trace) (line : ℕ) (event : Event) (call : ℕ) (input : Input) (known : Known) (outcome : Outcome)
+        (q : ℕ)
         → Stands s T
         → effects_of T event ≡ outcome_effects (world_at T) (cookies_with T) (kind_of known) call (page_of known) outcome
         → lookup (nat_eq call) s.calls ≡ Some (Some known)
@@ -385,7 +391,8 @@ owes_pending s s' T line event call input known outcome h brings sets effects fo
         h.known q
         ∙ sym (known_same T line event q (ap (last_said nat_eq stage_change q) effects
         ∙ moves_no_other (world_at T) (cookies_with T) (kind_of known) call (page_of known) outcome q is) (begins_none q)
-        (λ k. said q k ∙ ap (λ b. with_said (world_at T) (list_any outcomes.is_ignored outcome.effects) (cond b (Some input) None) k) is))
+        (λ k. said q k ∙ ap (λ b. with_said (world_at T) (list_any outcomes.is_ignored outcome.effects) (cond b (Some input) None) k)
+        is))
 
 -- ---- an input as the code takes it
 

@@ -1,5 +1,6 @@
 -- The calls that a session keeps.
-use Rattle.std.proofs.Common.{◌≡◌, ℕ, Bool, true, false, nat_eq, ◌||◌, List, [], ◌∷◌, ◌++◌, Some, None, refl, sym, ap, subst}
+use Rattle.std.proofs.Common.{◌≡◌, ℕ, Bool, true, false, nat_eq, ◌||◌, List, [], ◌∷◌, ◌++◌, Some, None, refl, sym, ap}
+use Rattle.std.proofs.Common.{subst}
 use Rattle.std.proofs.Common.{◌∙◌, arith, cond}
 use Rattle.std.proofs.lemmas.Bool.Decides.{nat_tests}
 use Rattle.std.specs.Prelude.{Option}
@@ -42,7 +43,8 @@ numbers_without k (c ∷ cs) h =
     let tail : IsAbsent k cs = grind (arith, nat_tests, h) in
     ap (λ b. b || list_any (nat_eq k) (numbers_of cs)) here ∙ numbers_without k cs tail
 
-pub numbers-set_value : (k : ℕ) (v : Option Known) (cs : List (ℕ × Option Known)) → numbers_of (set_value (nat_eq k) cs v) ≡ numbers_of cs
+pub numbers-set_value : (k : ℕ) (v : Option Known) (cs : List (ℕ × Option Known))
+    → numbers_of (set_value (nat_eq k) cs v) ≡ numbers_of cs
 numbers-set_value k v [] = refl
 numbers-set_value k v (c ∷ cs) = go (numbers-set_value k v cs) (nat_eq k c.0)
   where
@@ -52,7 +54,8 @@ numbers-set_value k v (c ∷ cs) = go (numbers-set_value k v cs) (nat_eq k c.0)
     go rest false = ap (λ xs. c.0 ∷ xs) rest
 
 -- a new call goes last
-numbers_append : (k : ℕ) (v : Option Known) (cs : List (ℕ × Option Known)) → numbers_of (cs ++ (k, v) ∷ []) ≡ numbers_of cs ++ k ∷ []
+numbers_append : (k : ℕ) (v : Option Known) (cs : List (ℕ × Option Known))
+    → numbers_of (cs ++ (k, v) ∷ []) ≡ numbers_of cs ++ k ∷ []
 numbers_append k v [] = refl
 numbers_append k v (c ∷ cs) = ap (λ xs. c.0 ∷ xs) (numbers_append k v cs)
 
@@ -105,7 +108,8 @@ pub pending-set_ended : (k : ℕ) (cs : List (ℕ × Option Known)) → AreDisti
 pending-set_ended k [] h = refl
 pending-set_ended k ((n, v) ∷ cs) h = go (pending-set_ended k cs h.1) (nat_eq k n) refl v
   where
-    go : pending_calls (set_value (nat_eq k) cs None) ≡ shift_remove_entry (nat_eq k) (pending_calls cs) → (b : Bool) → nat_eq k n ≡ b
+    go : pending_calls (set_value (nat_eq k) cs None) ≡ shift_remove_entry (nat_eq k) (pending_calls cs) → (b : Bool)
+        → nat_eq k n ≡ b
         → (v : Option Known)
         → pending_calls (cond b ((n, None) ∷ cs) ((n, v) ∷ set_value (nat_eq k) cs None))
         ≡ shift_remove_entry (nat_eq k) (pending_calls ((n, v) ∷ cs))

@@ -1,5 +1,6 @@
 -- What a page keeps of its pending calls.
-use Rattle.std.proofs.Common.{◌≡◌, ℕ, Bool, true, false, not, nat_eq, List, [], ◌∷◌, ◌++◌, Some, None, refl, sym, ap, ◌∙◌, cond}
+use Rattle.std.proofs.Common.{◌≡◌, ℕ, Bool, true, false, not, nat_eq, List, [], ◌∷◌, ◌++◌, Some, None, refl, sym, ap}
+use Rattle.std.proofs.Common.{◌∙◌, cond}
 use Rattle.std.proofs.Common.{append-nil}
 use Rattle.std.specs.Prelude.{Option, filter, ⊤}
 use Rattle.std.specs.Option.{option_to_list}
@@ -34,7 +35,8 @@ abbrev pub IsFree : CallKind → Option ℕ → Type 0
 IsFree GetCall get = get ≡ None
 IsFree DisconnectCall get = ⊤
 
-pub holds_with : (kind : CallKind) (call : ℕ) (p : kept.Page) (calls : List (ℕ × CallKind)) → IsFree kind p.get → Holds (Some p) calls
+pub holds_with : (kind : CallKind) (call : ℕ) (p : kept.Page) (calls : List (ℕ × CallKind)) → IsFree kind p.get
+    → Holds (Some p) calls
     → Holds (Some (page_with kind call p)) (calls ++ (call, kind) ∷ [])
 holds_with GetCall call p calls free h =
     record {

@@ -1,5 +1,6 @@
 -- What a view shows.
-use Rattle.std.proofs.Common.{◌≡◌, ◌<◌, ◌≤◌, ◌+◌, ◌⊎◌, inl, inr, ℕ, suc, Bool, true, false, nat_eq, List, [], ◌∷◌, ◌++◌, Some, None, length}
+use Rattle.std.proofs.Common.{◌≡◌, ◌<◌, ◌≤◌, ◌+◌, ◌⊎◌, inl, inr, ℕ, suc, Bool, true, false, nat_eq, List, []}
+use Rattle.std.proofs.Common.{◌∷◌, ◌++◌, Some, None, length}
 use Rattle.std.proofs.Common.{take, get_or, map, refl, sym, ap, ◌∙◌, arith, cond}
 use Rattle.std.proofs.Math.Seq.{take-suc}
 use Rattle.std.proofs.lemmas.Bool.Decides.{nat_tests}
@@ -65,7 +66,8 @@ take_next xs n x h =
 pub take_none : {A : Type 0} (xs : List A) (n : ℕ) → slice_get xs n ≡ None → take (n + 1) xs ≡ take n xs
 take_none {A} xs n h = past (slice_get_cases xs n).1
   where
-    past : ((x : A) × (n < length xs) × (slice_get xs n ≡ Some x) × (get_or xs n x ≡ x)) ⊎ ((length xs ≤ n) × (slice_get xs n ≡ None))
+    past : ((x : A) × (n < length xs) × (slice_get xs n ≡ Some x) × (get_or xs n x ≡ x))
+        ⊎ ((length xs ≤ n) × (slice_get xs n ≡ None))
         → take (n + 1) xs ≡ take n xs
     past (inl found) = let some = found.2 in absurd (cc)
     past (inr end) = let bound = end.0 in take_all (n + 1) xs (omega (arith, bound)) ∙ sym (take_all n xs bound)

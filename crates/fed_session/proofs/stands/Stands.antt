@@ -1,5 +1,6 @@
 -- A session that stands for a trace stands for it with one event more.
-use Rattle.std.proofs.Common.{◌≡◌, ℕ, true, nat_eq, ◌+◌, List, [], ◌∷◌, ◌++◌, refl, sym, ap, subst, ◌∙◌, arith, append-nil}
+use Rattle.std.proofs.Common.{◌≡◌, ℕ, true, nat_eq, ◌+◌, List, [], ◌∷◌, ◌++◌, refl, sym, ap, subst, ◌∙◌, arith}
+use Rattle.std.proofs.Common.{append-nil}
 use Rattle.std.specs.Prelude.{unwrap_or}
 use Rattle.std.specs.Map.{lookup, keys_of}
 use Rattle.std.specs.List.{filter_map}
@@ -103,16 +104,20 @@ stands_new s header alive steps sight kept_pages calls =
 
 -- ---- an event that says nothing of permissions and flags
 
-pub kept_still : (s s' : State) (T : Trace) (event : Event) → Stands s T → AllSilent kept_change (effects_of T event) → s'.kept ≡ s.kept
+pub kept_still : (s s' : State) (T : Trace) (event : Event) → Stands s T → AllSilent kept_change (effects_of T event)
+    → s'.kept ≡ s.kept
     → s'.kept ≡ keys_of (entries_after same_triple kept_change (effects_of T event) (standing same_triple kept_change T.rows))
 kept_still s s' T event h silent same =
-    same ∙ h.kept ∙ ap keys_of (sym (entries_silent same_triple kept_change (effects_of T event) (standing same_triple kept_change T.rows)
+    same ∙ h.kept ∙ ap keys_of (sym (entries_silent same_triple kept_change (effects_of T event)
+    (standing same_triple kept_change T.rows)
     silent))
 
-pub flags_still : (s s' : State) (T : Trace) (event : Event) → Stands s T → AllSilent flag_change (effects_of T event) → s'.flags ≡ s.flags
+pub flags_still : (s s' : State) (T : Trace) (event : Event) → Stands s T → AllSilent flag_change (effects_of T event)
+    → s'.flags ≡ s.flags
     → s'.flags ≡ keys_of (entries_after same_origin flag_change (effects_of T event) (standing same_origin flag_change T.rows))
 flags_still s s' T event h silent same =
-    same ∙ h.flags ∙ ap keys_of (sym (entries_silent same_origin flag_change (effects_of T event) (standing same_origin flag_change T.rows)
+    same ∙ h.flags ∙ ap keys_of (sym (entries_silent same_origin flag_change (effects_of T event)
+    (standing same_origin flag_change T.rows)
     silent))
 
 -- ---- an event that says nothing of pages and calls

@@ -29,7 +29,8 @@ module _ {K V : Type 0} (by_key : K → Bool) (by_value : V → Bool) where
       pick true false t h = cc
       pick false true t h = cc
 
-  pub removed_agrees : (es : List (K × V)) → Agree by_key by_value es → values_of (remove_entry by_key es) ≡ remove_key by_value (values_of es)
+  pub removed_agrees : (es : List (K × V)) → Agree by_key by_value es
+      → values_of (remove_entry by_key es) ≡ remove_key by_value (values_of es)
   removed_agrees [] all = refl
   removed_agrees (e ∷ es) all = pick (by_key e.0) (by_value e.1) all.0 (removed_agrees es all.1)
     where
@@ -68,7 +69,8 @@ module _ {K V : Type 0} (by_value : V → Bool) where
   none_removed [] all = refl
   none_removed (e ∷ es) all = rw (all.0, none_removed es all.1) refl
 
-  pub none_filtered : (es : List (K × V)) → AllByRecursion (λ e. by_value e.1 ≡ false) es → filter (λ v. not (by_value v)) (values_of es) ≡ values_of es
+  pub none_filtered : (es : List (K × V)) → AllByRecursion (λ e. by_value e.1 ≡ false) es
+      → filter (λ v. not (by_value v)) (values_of es) ≡ values_of es
   none_filtered [] all = refl
   none_filtered (e ∷ es) all = rw (all.0, none_filtered es all.1) refl
 

@@ -47,7 +47,8 @@ last-others {X} test x t (y ∷ ys) = pick (not (test y)) (last-others test x t 
     others : List X → List X
     others = filter (λ y. not (test y))
 
-    pick : (b : Bool) → others (ys ++ x ∷ []) ≡ others ys → cond b (y ∷ others (ys ++ x ∷ [])) (others (ys ++ x ∷ [])) ≡ cond b (y ∷ others ys) (others ys)
+    pick : (b : Bool) → others (ys ++ x ∷ []) ≡ others ys
+        → cond b (y ∷ others (ys ++ x ∷ [])) (others (ys ++ x ∷ [])) ≡ cond b (y ∷ others ys) (others ys)
     pick true h = ap (λ l. y ∷ l) h
     pick false h = h
 

@@ -19,13 +19,17 @@ same_scheme-Decides Https Http = (λ e. absurd (true≢false (sym e)), λ e. cc)
 
 pub same_origin_is : (a b : Origin) → same_origin a b ≡ true → a ≡ b
 same_origin_is a b e =
-    let d = Decides-and _ _ (Decides-and _ _ (same_scheme-Decides a.scheme b.scheme) (bytes_eq-Decides a.host b.host)) (Decides-eqb a.port b.port) in
+    let d =
+    Decides-and _ _ (Decides-and _ _ (same_scheme-Decides a.scheme b.scheme) (bytes_eq-Decides a.host b.host))
+    (Decides-eqb a.port b.port) in
     let t = d.0 e in
     λ i. record { scheme = t.0.0 i; host = t.0.1 i; port = t.1 i }
 
 pub same_origin_self : (a : Origin) → same_origin a a ≡ true
 same_origin_self a =
-    let d = Decides-and _ _ (Decides-and _ _ (same_scheme-Decides a.scheme a.scheme) (bytes_eq-Decides a.host a.host)) (Decides-eqb a.port a.port) in
+    let d =
+    Decides-and _ _ (Decides-and _ _ (same_scheme-Decides a.scheme a.scheme) (bytes_eq-Decides a.host a.host))
+    (Decides-eqb a.port a.port) in
     d.1 ((refl, refl), refl)
 
 pub same_origin-Decides : (a b : Origin) → Decides (same_origin a b) (a ≡ b)
@@ -33,11 +37,15 @@ same_origin-Decides a b = (same_origin_is a b, λ e. subst (λ o. same_origin a 
 
 pub same_triple_is : (a b : Triple) → same_triple a b ≡ true → a ≡ b
 same_triple_is a b e =
-    let d = Decides-and _ _ (same_origin-Decides a.page b.page) (Decides-and _ _ (same_origin-Decides a.provider b.provider) (bytes_eq-Decides a.account b.account)) in
+    let d =
+    Decides-and _ _ (same_origin-Decides a.page b.page)
+    (Decides-and _ _ (same_origin-Decides a.provider b.provider) (bytes_eq-Decides a.account b.account)) in
     let t = d.0 e in
     λ i. record { page = t.0 i; provider = t.1.0 i; account = t.1.1 i }
 
 pub same_triple_self : (a : Triple) → same_triple a a ≡ true
 same_triple_self a =
-    let d = Decides-and _ _ (same_origin-Decides a.page a.page) (Decides-and _ _ (same_origin-Decides a.provider a.provider) (bytes_eq-Decides a.account a.account)) in
+    let d =
+    Decides-and _ _ (same_origin-Decides a.page a.page)
+    (Decides-and _ _ (same_origin-Decides a.provider a.provider) (bytes_eq-Decides a.account a.account)) in
     d.1 (refl, (refl, refl))

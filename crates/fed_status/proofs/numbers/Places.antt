@@ -1,5 +1,7 @@
 -- The numbers of permissions: equal numbers are those of equal permissions.
-use Rattle.std.proofs.Common.{◌≡◌, ℕ, Bool, true, false, ◌&&◌, ◌==◌, List, [], ◌∷◌, get_or, Option, Some, None, option_map, option_and_then, bytes_eq, eq-eqb, refl, sym, ap, ◌∙◌}
+use Rattle.std.proofs.Common.{◌≡◌, ℕ, Bool, true, false, ◌&&◌, ◌==◌, List, [], ◌∷◌, get_or, Option, Some, None}
+use Rattle.std.proofs.Common.{option_map, option_and_then}
+use Rattle.std.proofs.Common.{bytes_eq, eq-eqb, refl, sym, ap, ◌∙◌}
 use borrow.Author.Tests.{eqb-true}
 use Rattle.std.specs.List.{AllByRecursion, position}
 use Rattle.std.specs.Bool.{Decides}
@@ -28,9 +30,12 @@ numbers_are names triple place e =
     by (origin_number names triple.page) (origin_number names triple.provider) (account_number names triple.account) refl refl refl e
   where
     made : Option ℕ → Option ℕ → Option ℕ → Option Place
-    made p q a = option_and_then (λ page. option_and_then (λ provider. option_map (λ account. record { page = page; provider = provider; account = account }) a) q) p
+    made p q a =
+        option_and_then (λ page. option_and_then (λ provider. option_map
+        (λ account. record { page = page; provider = provider; account = account }) a) q) p
 
-    by : (p q a : Option ℕ) → origin_number names triple.page ≡ p → origin_number names triple.provider ≡ q → account_number names triple.account ≡ a
+    by : (p q a : Option ℕ) → origin_number names triple.page ≡ p → origin_number names triple.provider ≡ q
+        → account_number names triple.account ≡ a
         → made p q a ≡ Some place → HasNumbers names triple place
     by None q a e f g h = cc
     by (Some x) None a e f g h = cc
@@ -47,7 +52,8 @@ pub are_numbers : (names : Names) (triple : Triple) (place : Place) → HasNumbe
 are_numbers names triple place h = rw (h.page, h.provider, h.account) refl
 
 -- what passes at the first place of two tests
-position-both : {X : Type 0} (p q : X → Bool) (xs : List X) (i : ℕ) → position p xs ≡ Some i → position q xs ≡ Some i → (x : X) × (p x ≡ true) × (q x ≡ true)
+position-both : {X : Type 0} (p q : X → Bool) (xs : List X) (i : ℕ) → position p xs ≡ Some i → position q xs ≡ Some i
+    → (x : X) × (p x ≡ true) × (q x ≡ true)
 position-both p q [] i e f = cc
 position-both p q (x ∷ xs) i e f =
     (get_or (x ∷ xs) i x, (position-Some p (x ∷ xs) i x e).1, (position-Some q (x ∷ xs) i x f).1)
@@ -91,8 +97,10 @@ place_agrees names triple place e entry there =
     let k = numbers_are names entry.1 entry.0 there in
     rw (
       number_agrees same_origin same_origin-Decides names.origins.keys triple.page entry.1.page place.page entry.0.page h.page k.page,
-      number_agrees same_origin same_origin-Decides names.origins.keys triple.provider entry.1.provider place.provider entry.0.provider h.provider k.provider,
-      number_agrees bytes_eq bytes_eq-Decides names.accounts.keys triple.account entry.1.account place.account entry.0.account h.account k.account,
+      number_agrees same_origin same_origin-Decides names.origins.keys triple.provider entry.1.provider place.provider entry.0.provider
+          h.provider k.provider,
+      number_agrees bytes_eq bytes_eq-Decides names.accounts.keys triple.account entry.1.account place.account entry.0.account h.account
+          k.account,
     ) refl
 
 -- a permission without numbers is that of no entry
@@ -114,10 +122,12 @@ record HasPairNumbers (names : Names) (a b : Origin) (pair : Pair) : Type 0 wher
 abbrev made : Option ℕ → Option ℕ → Option Pair
 made p q = option_and_then (λ page. option_map (λ provider. record { page = page; provider = provider }) q) p
 
-pair_numbers : (names : Names) (page provider : Origin) (pair : Pair) → pair_of names page provider ≡ Some pair → HasPairNumbers names page provider pair
+pair_numbers : (names : Names) (page provider : Origin) (pair : Pair) → pair_of names page provider ≡ Some pair
+    → HasPairNumbers names page provider pair
 pair_numbers names page provider pair e = by (origin_number names page) (origin_number names provider) refl refl e
   where
-    by : (p q : Option ℕ) → origin_number names page ≡ p → origin_number names provider ≡ q → made p q ≡ Some pair → HasPairNumbers names page provider pair
+    by : (p q : Option ℕ) → origin_number names page ≡ p → origin_number names provider ≡ q → made p q ≡ Some pair
+        → HasPairNumbers names page provider pair
     by None q e f h = cc
     by (Some x) None e f h = cc
     by (Some x) (Some y) e f h =
@@ -134,7 +144,8 @@ pair_agrees names page provider pair e entry there =
     let k = numbers_are names entry.1 entry.0 there in
     rw (
       number_agrees same_origin same_origin-Decides names.origins.keys page entry.1.page pair.page entry.0.page h.page k.page,
-      number_agrees same_origin same_origin-Decides names.origins.keys provider entry.1.provider pair.provider entry.0.provider h.provider k.provider,
+      number_agrees same_origin same_origin-Decides names.origins.keys provider entry.1.provider pair.provider entry.0.provider h.provider
+          k.provider,
     ) refl
 
 some_none : {A : Type 0} (x : A) → Some x ≡ None → ⊥
@@ -152,7 +163,8 @@ pair_absent names page provider e entry there = by (origin_number names page) (o
     and_false true = refl
     and_false false = refl
 
-    by : (p q : Option ℕ) → origin_number names page ≡ p → origin_number names provider ≡ q → made p q ≡ None → is_of_pair page provider entry.1 ≡ false
+    by : (p q : Option ℕ) → origin_number names page ≡ p → origin_number names provider ≡ q → made p q ≡ None
+        → is_of_pair page provider entry.1 ≡ false
     by None q e f h = rw (number_absent same_origin same_origin_is names.origins.keys page entry.1.page entry.0.page e has.page) refl
     by (Some x) None e f h =
         rw (number_absent same_origin same_origin_is names.origins.keys provider entry.1.provider entry.0.provider f has.provider)
@@ -160,7 +172,8 @@ pair_absent names page provider e entry there = by (origin_number names page) (o
     by (Some x) (Some y) e f h = absurd (some_none _ h)
 
 -- names that come leave the entries in their places
-pub stay_in_place : (old new : Names) → Grows old new → (entries : List (Place × Triple)) → AllByRecursion (IsInPlace old) entries → AllByRecursion (IsInPlace new) entries
+pub stay_in_place : (old new : Names) → Grows old new → (entries : List (Place × Triple)) → AllByRecursion (IsInPlace old) entries
+    → AllByRecursion (IsInPlace new) entries
 stay_in_place old new grows [] all = tt
 stay_in_place old new grows (entry ∷ entries) all =
     let h = numbers_are old entry.1 entry.0 all.0 in (

@@ -16,7 +16,8 @@ each_after first test stays (t ∷ gone) kept = pick (test t) refl (λ ks. each_
     left : List Triple
     left = filter test gone
 
-    apart : test t ≡ true → (b : Bool) → same_triple t first ≡ b → remove_key (same_triple t) (first ∷ kept) ≡ first ∷ remove_key (same_triple t) kept
+    apart : test t ≡ true → (b : Bool) → same_triple t first ≡ b
+        → remove_key (same_triple t) (first ∷ kept) ≡ first ∷ remove_key (same_triple t) kept
     apart passes false is = ap (λ b. cond b kept (first ∷ remove_key (same_triple t) kept)) is
     apart passes true is =
         let wrong : true ≡ false = sym passes ∙ ap test (same_triple_is t first is) ∙ stays in

@@ -1,5 +1,6 @@
 -- No call begins twice.
-use Rattle.std.proofs.Common.{◌≡◌, ℕ, Bool, true, false, nat_eq, ◌||◌, ◌⊎◌, inl, inr, List, [], ◌∷◌, ◌++◌, Some, None, refl, sym, ap, subst}
+use Rattle.std.proofs.Common.{◌≡◌, ℕ, Bool, true, false, nat_eq, ◌||◌, ◌⊎◌, inl, inr, List, [], ◌∷◌, ◌++◌, Some}
+use Rattle.std.proofs.Common.{None, refl, sym, ap, subst}
 use Rattle.std.proofs.Common.{◌∙◌, arith, append-nil}
 use Rattle.std.proofs.lemmas.Bool.Decides.{nat_tests}
 use Rattle.std.specs.Prelude.{Option, ⊤}
@@ -43,7 +44,8 @@ apart_push c (x ∷ xs) h apart =
     let tail : list_any (nat_eq c) xs ≡ false = grind (arith, h) in
     (not_in_push x c xs ne apart.0, apart_push c xs tail apart.1)
 
-apart_by : (c : ℕ) (xs begins : List ℕ) → list_any (nat_eq c) xs ≡ false → (begins ≡ []) ⊎ (begins ≡ c ∷ []) → AreApart xs
+apart_by : (c : ℕ) (xs begins : List ℕ) → list_any (nat_eq c) xs ≡ false → (begins ≡ []) ⊎ (begins ≡ c ∷ [])
+    → AreApart xs
     → AreApart (xs ++ begins)
 apart_by c xs begins new (inl none) apart = subst (λ ys. AreApart (xs ++ ys)) (sym none) (subst AreApart (sym (append-nil xs)) apart)
 apart_by c xs begins new (inr one) apart = subst (λ ys. AreApart (xs ++ ys)) (sym one) (apart_push c xs new apart)
@@ -77,7 +79,8 @@ get_call _ = None
 
 -- an event begins no call, or that of a get
 pub event_begins : (T : Trace) (event : Event)
-    → (AllSilent begun_by (effects_of T event)) ⊎ ((call : ℕ) × (get_call event ≡ Some call) × BeginsAtMost call (effects_of T event))
+    → (AllSilent begun_by (effects_of T event)) ⊎ ((call : ℕ) × (get_call event ≡ Some call)
+    × BeginsAtMost call (effects_of T event))
 event_begins T (events.Have have) = inl (have_begins_none (have_cookies T.header.rules (now_at T) have) have)
 event_begins T (At time) = inl (refl, tt)
 event_begins T (Load page url raw) =
@@ -101,7 +104,8 @@ event_begins T (Reply call provider kind raw) =
 pub begins_none : (T : Trace) (event : Event) → get_call event ≡ None → filter_map begun_by (effects_of T event) ≡ []
 begins_none T event none = go (event_begins T event)
   where
-    go : (AllSilent begun_by (effects_of T event)) ⊎ ((call : ℕ) × (get_call event ≡ Some call) × BeginsAtMost call (effects_of T event))
+    go : (AllSilent begun_by (effects_of T event))
+        ⊎ ((call : ℕ) × (get_call event ≡ Some call) × BeginsAtMost call (effects_of T event))
         → filter_map begun_by (effects_of T event) ≡ []
     go (inl silent) = said_silent begun_by (effects_of T event) silent
     go (inr found) = let is = found.1 in absurd (cc)

@@ -1,5 +1,6 @@
 -- In a run the pending gets are the gets among the pending calls.
-use Rattle.std.proofs.Common.{◌≡◌, ℕ, Bool, true, false, not, ◌&&◌, ◌||◌, nat_eq, ◌==◌, List, [], ◌∷◌, ◌++◌, Some, None, map, refl, sym, ap}
+use Rattle.std.proofs.Common.{◌≡◌, ℕ, Bool, true, false, not, ◌&&◌, ◌||◌, nat_eq, ◌==◌, List, [], ◌∷◌, ◌++◌}
+use Rattle.std.proofs.Common.{Some, None, map, refl, sym, ap}
 use Rattle.std.proofs.Common.{subst, ◌∙◌, arith, cond, append-nil}
 use Rattle.std.proofs.lemmas.Bool.Decides.{nat_tests}
 use Rattle.std.proofs.lemmas.List.Elements.{filter_map-append}
@@ -211,18 +212,21 @@ pub get_is_among : (call page : ℕ) (es : List (ℕ × PendingCall)) → has_ge
 get_is_among call page [] h = absurd (cc)
 get_is_among call page (e ∷ es) h = go (get_is_among call page es) (e.1.page == page) refl e.1.kind h
   where
-    own : (mine here : Bool) (rest among : Bool) → (rest ≡ true → among ≡ true) → (mine && here) || rest ≡ true → here ≡ true
+    own : (mine here : Bool) (rest among : Bool) → (rest ≡ true → among ≡ true) → (mine && here) || rest ≡ true
+        → here ≡ true
         → mine || among ≡ true
     own true here rest among more has at = refl
     own false here rest among more has at = more has
 
-    other : (mine here : Bool) (rest among : Bool) → (rest ≡ true → among ≡ true) → (mine && here) || rest ≡ true → here ≡ false
+    other : (mine here : Bool) (rest among : Bool) → (rest ≡ true → among ≡ true) → (mine && here) || rest ≡ true
+        → here ≡ false
         → among ≡ true
     other mine true rest among more has at = absurd (cc)
     other true false rest among more has at = more has
     other false false rest among more has at = more has
 
-    go : (has_get call page (gets_among es) ≡ true → is_among call (calls_of page es) ≡ true) → (b : Bool) → (e.1.page == page) ≡ b
+    go : (has_get call page (gets_among es) ≡ true → is_among call (calls_of page es) ≡ true) → (b : Bool)
+        → (e.1.page == page) ≡ b
         → (kind : CallKind) → has_get call page (cons_option (of_get kind (Some (e.0, e.1.page))) (gets_among es)) ≡ true
         → is_among call (map by_kind (cond b (e ∷ filter (λ call. call.1.page == page) es) (filter (λ call. call.1.page == page) es)))
         ≡ true
@@ -238,7 +242,8 @@ pub among_is_get : (call page : ℕ) (es : List (ℕ × PendingCall)) → AreDis
     → is_among call (calls_of page es) ≡ true
     → has_get call page (gets_among es) ≡ true
 among_is_get call page [] distinct kind h = absurd (cc)
-among_is_get call page (e ∷ es) distinct kind h = go (among_is_get call page es distinct.1) (nat_eq call e.0) refl (e.1.page == page) refl h
+among_is_get call page (e ∷ es) distinct kind h =
+    go (among_is_get call page es distinct.1) (nat_eq call e.0) refl (e.1.page == page) refl h
   where
     Under : Bool → Type 0
     Under here =
@@ -256,7 +261,8 @@ among_is_get call page (e ∷ es) distinct kind h = go (among_is_get call page e
     go rest true is true at among =
         let get : e.1.kind ≡ GetCall = kind e.1 (ap (λ b. cond b (Some e.1) (lookup (nat_eq call) es)) is) in
         ap (λ k. has_get call page (cons_option (of_get k (Some (e.0, e.1.page))) (gets_among es))) get
-        ∙ ap (λ b. (b && (e.1.page == page)) || has_get call page (gets_among es)) is ∙ ap (λ b. b || has_get call page (gets_among es)) at
+        ∙ ap (λ b. (b && (e.1.page == page)) || has_get call page (gets_among es)) is
+        ∙ ap (λ b. b || has_get call page (gets_among es)) at
     go rest true is false at among =
         let key : e.0 ≡ call = grind (arith, nat_tests, is) in
         let absent : IsAbsent call es = subst (λ k. IsAbsent k es) key distinct.0 in

@@ -1,5 +1,6 @@
 -- The pending calls, and those of a page.
-use Rattle.std.proofs.Common.{◌≡◌, ℕ, Bool, true, false, not, nat_eq, ◌==◌, ◌⊎◌, inl, inr, List, [], ◌∷◌, ◌++◌, Some, None, map, refl, ap}
+use Rattle.std.proofs.Common.{◌≡◌, ℕ, Bool, true, false, not, nat_eq, ◌==◌, ◌⊎◌, inl, inr, List, [], ◌∷◌, ◌++◌}
+use Rattle.std.proofs.Common.{Some, None, map, refl, ap}
 use Rattle.std.proofs.Common.{◌∙◌, arith, cond, append-nil, ◌||◌, sym, subst}
 use Rattle.std.proofs.lemmas.Bool.Decides.{nat_tests}
 use Rattle.std.proofs.lemmas.List.Elements.{filter_map-append}
@@ -100,7 +101,8 @@ calls_of-others_same page (e ∷ es) =
     let rest = calls_of-others_same page es in
     grind (arith, nat_tests, rest)
 
-pub calls_of-others_other : (q page : ℕ) (es : List (ℕ × PendingCall)) → nat_eq page q ≡ false → calls_of q (others page es) ≡ calls_of q es
+pub calls_of-others_other : (q page : ℕ) (es : List (ℕ × PendingCall)) → nat_eq page q ≡ false
+    → calls_of q (others page es) ≡ calls_of q es
 calls_of-others_other q page [] ne = refl
 calls_of-others_other q page (e ∷ es) ne =
     let rest = calls_of-others_other q page es ne in
@@ -201,7 +203,8 @@ pub outcome_silent : {A : Type 0} (said : Effect → Option A)
     → ((triple : Triple) (stays : Bool) → said (Kept triple stays) ≡ None)
     → ((origin : Origin) (stays : Bool) → said (Flag origin stays) ≡ None)
     → ((call page : ℕ) (finish : Finish) → said (Result call page finish) ≡ None)
-    → ((why : Why) → said (Ignored why) ≡ None) → ((kind : CallKind) (call : ℕ) (stage : Stage) → said (Move kind call stage) ≡ None)
+    → ((why : Why) → said (Ignored why) ≡ None) → ((kind : CallKind) (call : ℕ) (stage : Stage)
+    → said (Move kind call stage) ≡ None)
     → (world : World) (cookies : Ask → List ℕ) (kind : CallKind) (call page : ℕ) (outcome : Outcome)
     → AllSilent said (outcome_effects world cookies kind call page outcome)
 outcome_silent said sent shown window login kept flag result ignored move world cookies kind call page outcome =
@@ -219,7 +222,8 @@ BeginsAtMost call effects = (filter_map begun_by effects ≡ []) ⊎ (filter_map
 pub outcome_begins_none : (world : World) (cookies : Ask → List ℕ) (kind : CallKind) (call page : ℕ) (outcome : Outcome)
     → AllSilent begun_by (outcome_effects world cookies kind call page outcome)
 outcome_begins_none world cookies kind call page outcome =
-    outcome_silent begun_by (λ n c p a k. refl) (λ c d. refl) (λ c p u. refl) (λ o s. refl) (λ t k. refl) (λ o k. refl) (λ c p f. refl)
+    outcome_silent begun_by (λ n c p a k. refl) (λ c d. refl) (λ c p u. refl) (λ o s. refl) (λ t k. refl) (λ o k. refl)
+    (λ c p f. refl)
     (λ w. refl) (λ n c s. refl) world cookies kind call page outcome
 
 standing_begins : (world : World) (cookies : Ask → List ℕ) (trusted busy : Bool) (b : Begun)
@@ -279,7 +283,8 @@ calls_of-insert_same call v (e ∷ es) h =
     go rest false = rest
 
 -- the other pages have what they had
-pub calls_of-insert_other : (q call : ℕ) (v : PendingCall) (es : List (ℕ × PendingCall)) → nat_eq v.page q ≡ false → IsAbsent call es
+pub calls_of-insert_other : (q call : ℕ) (v : PendingCall) (es : List (ℕ × PendingCall)) → nat_eq v.page q ≡ false
+    → IsAbsent call es
     → calls_of q (insert_entry nat_eq es call v) ≡ calls_of q es
 calls_of-insert_other q call v [] ne h =
     let other : (v.page == q) ≡ false = grind (arith, nat_tests, ne) in
@@ -328,7 +333,8 @@ pub is_listed : (v : PendingCall) (call : ℕ) (es : List (ℕ × PendingCall)) 
 is_listed v call [] h = absurd (cc)
 is_listed v call (e ∷ es) h = go (is_listed v call es) (nat_eq call e.0) refl h
   where
-    go : (lookup (nat_eq call) es ≡ Some v → list_any (is_call call) (calls_of v.page es) ≡ true) → (b : Bool) → nat_eq call e.0 ≡ b
+    go : (lookup (nat_eq call) es ≡ Some v → list_any (is_call call) (calls_of v.page es) ≡ true) → (b : Bool)
+        → nat_eq call e.0 ≡ b
         → cond b (Some e.1) (lookup (nat_eq call) es) ≡ Some v
         → list_any (is_call call) (map by_kind (cond (e.1.page == v.page) (e ∷ filter (λ call. call.1.page == v.page) es)
         (filter (λ call. call.1.page == v.page) es))) ≡ true
@@ -377,7 +383,8 @@ calls_of-remove_same page call (e ∷ es) distinct =
         let key : e.0 ≡ call = grind (arith, nat_tests, is) in
         filter_absent page call es (subst (λ k. IsAbsent k es) key distinct.0)
 
-    go : calls_of page (shift_remove_entry (nat_eq call) es) ≡ filter (is_other call) (calls_of page es) → (b : Bool) → nat_eq call e.0 ≡ b
+    go : calls_of page (shift_remove_entry (nat_eq call) es) ≡ filter (is_other call) (calls_of page es) → (b : Bool)
+        → nat_eq call e.0 ≡ b
         → (here : Bool) → (e.1.page == page) ≡ here
         → calls_of page (cond b es (e ∷ shift_remove_entry (nat_eq call) es))
         ≡ filter (is_other call) (map by_kind (cond here (e ∷ filter (λ call. call.1.page == page) es)

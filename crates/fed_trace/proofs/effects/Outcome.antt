@@ -1,5 +1,6 @@
 -- What an outcome of a call says.
-use Rattle.std.proofs.Common.{◌≡◌, ℕ, Bool, true, false, nat_eq, ◌||◌, List, [], ◌∷◌, ◌++◌, Some, None, refl, ap, ◌∙◌, cond}
+use Rattle.std.proofs.Common.{◌≡◌, ℕ, Bool, true, false, nat_eq, ◌||◌, List, [], ◌∷◌, ◌++◌, Some, None, refl, ap}
+use Rattle.std.proofs.Common.{◌∙◌, cond}
 use Rattle.std.proofs.lemmas.List.Folds.{list_any-append}
 use Rattle.std.specs.Prelude.{Option, option_map, map}
 use Rattle.std.specs.Option.{option_or}
@@ -52,7 +53,8 @@ outcome_moves : (world : World) (cookies : Ask → List ℕ) (kind : CallKind) (
 outcome_moves world cookies kind call page outcome q =
     last_said_after nat_eq stage_change q (flat_map (call_effects world cookies kind call page) outcome.effects)
     (moves kind call outcome.stage)
-    (silent_call stage_change (λ n c p a k. refl) (λ c d. refl) (λ c p u. refl) (λ o s. refl) (λ t k. refl) (λ o k. refl) (λ c p f. refl)
+    (silent_call stage_change (λ n c p a k. refl) (λ c d. refl) (λ c p u. refl) (λ o s. refl) (λ t k. refl) (λ o k. refl)
+    (λ c p f. refl)
     (λ w. refl) world cookies kind call page outcome.effects)
 
 pub moves_call : (world : World) (cookies : Ask → List ℕ) (kind : CallKind) (call page : ℕ) (outcome : Outcome) (q : ℕ)
@@ -86,7 +88,8 @@ ignored_effects world cookies kind call page (does.Finish finish ∷ effects) = 
 ignored_effects world cookies kind call page (does.Ignored why ∷ effects) = refl
 ignored_effects world cookies kind call page (does.Dialog dialog ∷ effects) = ignored_effects world cookies kind call page effects
 ignored_effects world cookies kind call page (does.Window place url ∷ effects) = ignored_effects world cookies kind call page effects
-ignored_effects world cookies kind call page (does.SetLogin origin status ∷ effects) = ignored_effects world cookies kind call page effects
+ignored_effects world cookies kind call page (does.SetLogin origin status ∷ effects) =
+    ignored_effects world cookies kind call page effects
 ignored_effects world cookies kind call page (does.Keep triple ∷ effects) = ignored_effects world cookies kind call page effects
 ignored_effects world cookies kind call page (does.Forget triple ∷ effects) = ignored_effects world cookies kind call page effects
 ignored_effects world cookies kind call page (does.ForgetPair p q ∷ effects) =

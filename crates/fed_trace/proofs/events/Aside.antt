@@ -52,7 +52,8 @@ pub logins_write_none : (have : Have) → AllSilent written_by (have_logins have
 logins_write_none (haves.Cookie url field) = tt
 logins_write_none (haves.Login origin status) = (refl, tt)
 
-pub status_silent : {A : Type 0} (said : Effect → Option A) → ((origin : Origin) (status : LoginStatus) → said (Login origin status) ≡ None)
+pub status_silent : {A : Type 0} (said : Effect → Option A)
+    → ((origin : Origin) (status : LoginStatus) → said (Login origin status) ≡ None)
     → ((why : Why) → said (Ignored why) ≡ None)
     → (o : Option Origin) (status : LoginStatus) → AllSilent said (status_effects o status)
 status_silent said login ignored None status = (ignored NoPage, tt)

@@ -1,5 +1,6 @@
 -- What a disconnect call does at an input: it asks for no token, and is given none.
-use Rattle.std.proofs.Common.{◌≡◌, ◌==◌, ℕ, Bool, true, false, List, [], ◌∷◌, Option, Some, None, Ok, Err, refl, ◌∙◌}
+use Rattle.std.proofs.Common.{◌≡◌, ◌==◌, ℕ, Bool, true, false, List, [], ◌∷◌, Option, Some, None, Ok, Err, refl}
+use Rattle.std.proofs.Common.{◌∙◌}
 use Rattle.std.specs.Prelude.{Result}
 use Rattle.std.specs.List.{filter_map, flat_map}
 use Rattle.url.specs.Parts.{Parts}
@@ -46,9 +47,11 @@ sets_login (does.SetLogin origin status) = Some (origin, status)
 sets_login _ = None
 
 pub data Turn (o : Outcome) : Type 0 where
-  Gives : (finish : Finish) → is_token finish ≡ false → filter_map asks_token o.effects ≡ [] → filter_map finish_of o.effects ≡ finish ∷ []
+  Gives : (finish : Finish) → is_token finish ≡ false → filter_map asks_token o.effects ≡ []
+      → filter_map finish_of o.effects ≡ finish ∷ []
       → filter_map sets_login o.effects ≡ [] → Turn o
-  GivesNone : filter_map asks_token o.effects ≡ [] → filter_map finish_of o.effects ≡ [] → filter_map sets_login o.effects ≡ [] → Turn o
+  GivesNone : filter_map asks_token o.effects ≡ [] → filter_map finish_of o.effects ≡ [] → filter_map sets_login o.effects ≡ []
+      → Turn o
 
 asks_turn : (origin : Origin) (options : DisconnectOptions) (to : Option Parts) → Turn (asks_disconnect origin options to)
 asks_turn origin options None = Gives _ refl refl refl refl
@@ -66,7 +69,8 @@ known_turn : (kept : List Triple) (page provider : Origin) (account : List ℕ) 
 known_turn kept page provider account true is = rw is (Gives _ refl refl refl refl)
 known_turn kept page provider account false is = rw is (Gives _ refl refl refl refl)
 
-answered_turn : (kept : List Triple) (page provider : Origin) (read : Result (List ℕ) TokenStep) → Turn (answered kept page provider read)
+answered_turn : (kept : List Triple) (page provider : Origin) (read : Result (List ℕ) TokenStep)
+    → Turn (answered kept page provider read)
 answered_turn kept page provider (Ok account) =
     known_turn kept page provider account (has_triple kept (triple_of page provider account)) refl
 answered_turn kept page provider (Err step) = Gives _ refl refl refl refl

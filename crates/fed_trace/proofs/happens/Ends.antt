@@ -1,5 +1,6 @@
 -- What an event does to a call that it does not name.
-use Rattle.std.proofs.Common.{◌≡◌, ℕ, Bool, true, false, nat_eq, ◌⊎◌, inl, inr, List, [], ◌∷◌, ◌++◌, Option, Some, None, refl, sym, ap}
+use Rattle.std.proofs.Common.{◌≡◌, ℕ, Bool, true, false, nat_eq, ◌⊎◌, inl, inr, List, [], ◌∷◌, ◌++◌, Option, Some}
+use Rattle.std.proofs.Common.{None, refl, sym, ap}
 use Rattle.std.proofs.Common.{subst, ◌∙◌, arith, cond}
 use Rattle.std.proofs.lemmas.Bool.Decides.{nat_tests}
 use Rattle.std.specs.Option.{option_or}
@@ -207,7 +208,8 @@ ends_hit q (c ∷ calls) h = go (is_among q calls) refl (ends_hit q calls)
 happens_ends : (T : Trace) (event : Event) (q page : ℕ) (rest : List Effect) → effects_of T event ≡ ends_of (pending_of T page) ++ rest
     → AllSilent stage_change rest → AllSilent call_change rest → AllSilent (begins q) rest → AllSilent (asked q) rest
     → AllSilent (given q) rest
-    → ((other : ℕ) → replaces other event ≡ nat_eq other page) → ((k : Known) → said_of T event q k ≡ k) → input_to q event ≡ None
+    → ((other : ℕ) → replaces other event ≡ nat_eq other page) → ((k : Known) → said_of T event q k ≡ k)
+    → input_to q event ≡ None
     → Happens T event q
 happens_ends T event q page rest effects stage pending begins_none asks gives replaced same unsaid =
     go (is_among q (pending_of T page)) refl

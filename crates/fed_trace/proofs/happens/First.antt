@@ -1,5 +1,6 @@
 -- What a call does first.
-use Rattle.std.proofs.Common.{◌≡◌, ℕ, Bool, true, false, nat_eq, List, [], ◌∷◌, length, Some, None, Result as Answer, Ok, Err, refl, ap}
+use Rattle.std.proofs.Common.{◌≡◌, ℕ, Bool, true, false, nat_eq, List, [], ◌∷◌, length, Some, None, Result as Answer, Ok, Err}
+use Rattle.std.proofs.Common.{refl, ap}
 use Rattle.std.proofs.Common.{subst, ◌∙◌, arith, cond}
 use Rattle.std.specs.Prelude.{option_map, slice_get, ⊤}
 use Rattle.std.specs.Option.{option_or}
@@ -109,7 +110,8 @@ pub record IsBeginning (event : Event) : Type 0 where
   pub unsaid : (q : ℕ) → input_to q event ≡ None
   pub leaves_pages : (q : ℕ) → replaces q event ≡ false
 
-pub is_beginning : (event : Event) (page call : ℕ) (options : CallOptions) → Some event ≡ beginning page call options → IsBeginning event
+pub is_beginning : (event : Event) (page call : ℕ) (options : CallOptions) → Some event ≡ beginning page call options
+    → IsBeginning event
 is_beginning event page call (ToGet options) is =
     let get : event ≡ Get page call options = cc in
     record { unsaid = λ q. ap (input_to q) get; leaves_pages = λ q. ap (replaces q) get }

@@ -29,7 +29,8 @@ pub facts_same : (T : Trace) (line : ℕ) (event : Event) (q : ℕ) → last_sai
 facts_same T line event q m b same = ap (option_and_then get_facts) (known_same T line event q m b same)
 
 -- the call ends with its page
-pub facts_ended : (T : Trace) (line : ℕ) (event : Event) (q : ℕ) → last_said nat_eq stage_change q (effects_of T event) ≡ Some (Some Ended)
+pub facts_ended : (T : Trace) (line : ℕ) (event : Event) (q : ℕ)
+    → last_said nat_eq stage_change q (effects_of T event) ≡ Some (Some Ended)
     → last_of (begins q) (effects_of T event) ≡ None
     → facts_at (with_event T line event) q ≡ None
 facts_ended T line event q m b =

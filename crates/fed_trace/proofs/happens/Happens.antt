@@ -1,5 +1,6 @@
 -- What an event does to a call.
-use Rattle.std.proofs.Common.{◌≡◌, ℕ, Bool, true, false, nat_eq, ◌⊎◌, inl, inr, List, [], ◌∷◌, ◌++◌, Option, Some, None, refl, sym, ap}
+use Rattle.std.proofs.Common.{◌≡◌, ℕ, Bool, true, false, nat_eq, ◌⊎◌, inl, inr, List, [], ◌∷◌, ◌++◌, Option, Some}
+use Rattle.std.proofs.Common.{None, refl, sym, ap}
 use Rattle.std.proofs.Common.{subst, ◌∙◌, arith, cond}
 use Rattle.std.proofs.lemmas.Bool.Decides.{nat_tests}
 use Rattle.std.specs.Option.{option_or}
@@ -192,7 +193,8 @@ input_pages T event call input q effects = ap (last_said nat_eq page_change q) e
     go false = refl
     go true = taken (known_at T call)
       where
-        taken : (known : Option Known) → last_said nat_eq page_change q (input_effects (world_at T) (cookies_with T) true call known input)
+        taken : (known : Option Known) → last_said nat_eq page_change q (input_effects (world_at T) (cookies_with T) true call known
+            input)
             ≡ None
         taken None = refl
         taken (Some k) = outcome_pages (world_at T) (cookies_with T) (kind_of k) call (page_of k) q (input_row (world_at T) k input)

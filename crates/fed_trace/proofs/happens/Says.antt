@@ -1,5 +1,6 @@
 -- What an outcome of a call says, of it and of other calls.
-use Rattle.std.proofs.Common.{◌≡◌, ℕ, true, false, nat_eq, List, [], ◌∷◌, ◌++◌, Option, Some, None, map, refl, ap, ◌∙◌, arith, cond}
+use Rattle.std.proofs.Common.{◌≡◌, ℕ, true, false, nat_eq, List, [], ◌∷◌, ◌++◌, Option, Some, None, map, refl, ap}
+use Rattle.std.proofs.Common.{◌∙◌, arith, cond}
 use Rattle.std.proofs.Common.{append-nil}
 use Rattle.std.proofs.lemmas.Bool.Decides.{nat_tests}
 use Rattle.std.proofs.lemmas.List.Elements.{filter_map-append}
@@ -95,7 +96,8 @@ does_give world cookies kind call page (does.ForgetPair p q ∷ effects) =
 does_give world cookies kind call page (does.ClearFlag origin ∷ effects) = does_give world cookies kind call page effects
 
 -- before a move that says nothing
-pub unmoved : {A : Type 0} (said : Effect → Option A) → ((kind : CallKind) (call : ℕ) (stage : Stage) → said (Move kind call stage) ≡ None)
+pub unmoved : {A : Type 0} (said : Effect → Option A)
+    → ((kind : CallKind) (call : ℕ) (stage : Stage) → said (Move kind call stage) ≡ None)
     → (kind : CallKind) (call : ℕ) (stage : Option Stage) (xs : List Effect)
     → filter_map said (xs ++ moves kind call stage) ≡ filter_map said xs
 unmoved said move kind call None xs = ap (filter_map said) (append-nil xs)
@@ -120,14 +122,16 @@ pub outcome_begins : (world : World) (cookies : Ask → List ℕ) (kind : CallKi
     → last_of (begins q) (outcome_effects world cookies kind call page outcome) ≡ None
 outcome_begins world cookies kind call page q outcome =
     last_silent (begins q) (outcome_effects world cookies kind call page outcome)
-    (outcome_silent (begins q) (λ n c p a k. refl) (λ c d. refl) (λ c p u. refl) (λ o s. refl) (λ t k. refl) (λ o k. refl) (λ c p f. refl)
+    (outcome_silent (begins q) (λ n c p a k. refl) (λ c d. refl) (λ c p u. refl) (λ o s. refl) (λ t k. refl) (λ o k. refl)
+    (λ c p f. refl)
     (λ w. refl) (λ n c s. refl) world cookies kind call page outcome)
 
 pub outcome_pages : (world : World) (cookies : Ask → List ℕ) (kind : CallKind) (call page q : ℕ) (outcome : Outcome)
     → last_said nat_eq page_change q (outcome_effects world cookies kind call page outcome) ≡ None
 outcome_pages world cookies kind call page q outcome =
     last_said_silent nat_eq page_change q (outcome_effects world cookies kind call page outcome)
-    (outcome_silent page_change (λ n c p a k. refl) (λ c d. refl) (λ c p u. refl) (λ o s. refl) (λ t k. refl) (λ o k. refl) (λ c p f. refl)
+    (outcome_silent page_change (λ n c p a k. refl) (λ c d. refl) (λ c p u. refl) (λ o s. refl) (λ t k. refl) (λ o k. refl)
+    (λ c p f. refl)
     (λ w. refl) (λ n c s. refl) world cookies kind call page outcome)
 
 -- of pending calls it says what its move says
@@ -137,7 +141,8 @@ pub outcome_pending : (world : World) (cookies : Ask → List ℕ) (kind : CallK
 outcome_pending world cookies kind call page q outcome =
     last_said_after nat_eq call_change q (flat_map (call_effects world cookies kind call page) outcome.effects)
     (moves kind call outcome.stage)
-    (silent_call call_change (λ n c p a k. refl) (λ c d. refl) (λ c p u. refl) (λ o s. refl) (λ t k. refl) (λ o k. refl) (λ c p f. refl)
+    (silent_call call_change (λ n c p a k. refl) (λ c d. refl) (λ c p u. refl) (λ o s. refl) (λ t k. refl) (λ o k. refl)
+    (λ c p f. refl)
     (λ w. refl) world cookies kind call page outcome.effects)
 
 -- ---- what it says of other calls
@@ -183,13 +188,15 @@ other_gives world cookies q kind call page ne (does.Finish finish ∷ effects) =
 other_gives world cookies q kind call page ne (does.Send provider ask ∷ effects) =
     (refl, other_gives world cookies q kind call page ne effects)
 other_gives world cookies q kind call page ne (does.Ignored why ∷ effects) = (refl, other_gives world cookies q kind call page ne effects)
-other_gives world cookies q kind call page ne (does.Dialog dialog ∷ effects) = (refl, other_gives world cookies q kind call page ne effects)
+other_gives world cookies q kind call page ne (does.Dialog dialog ∷ effects) =
+    (refl, other_gives world cookies q kind call page ne effects)
 other_gives world cookies q kind call page ne (does.Window place url ∷ effects) =
     (refl, other_gives world cookies q kind call page ne effects)
 other_gives world cookies q kind call page ne (does.SetLogin origin status ∷ effects) =
     (refl, other_gives world cookies q kind call page ne effects)
 other_gives world cookies q kind call page ne (does.Keep triple ∷ effects) = (refl, other_gives world cookies q kind call page ne effects)
-other_gives world cookies q kind call page ne (does.Forget triple ∷ effects) = (refl, other_gives world cookies q kind call page ne effects)
+other_gives world cookies q kind call page ne (does.Forget triple ∷ effects) =
+    (refl, other_gives world cookies q kind call page ne effects)
 other_gives world cookies q kind call page ne (does.ForgetPair p r ∷ effects) =
     silent_append (given q) (map (λ triple. Kept triple false) (triples_of_pair world.kept p r))
     (flat_map (call_effects world cookies kind call page) effects)

@@ -26,7 +26,8 @@ remove_absent k (e ∷ es) h =
     let tail : IsAbsent k es = grind (arith, nat_tests, h) in
     ap (λ b. cond b es (e ∷ shift_remove_entry (nat_eq k) es)) here ∙ ap (λ xs. e ∷ xs) (remove_absent k es tail)
 
-pub insert_absent : {V : Type 0} (k : ℕ) (v : V) (es : List (ℕ × V)) → IsAbsent k es → insert_entry nat_eq es k v ≡ es ++ (k, v) ∷ []
+pub insert_absent : {V : Type 0} (k : ℕ) (v : V) (es : List (ℕ × V)) → IsAbsent k es
+    → insert_entry nat_eq es k v ≡ es ++ (k, v) ∷ []
 insert_absent k v [] h = refl
 insert_absent k v (e ∷ es) h =
     let here : nat_eq k e.0 ≡ false = grind (arith, nat_tests, h) in

@@ -1,5 +1,6 @@
 -- A pending call of which something is known is of the kind that is known of it.
-use Rattle.std.proofs.Common.{◌≡◌, ℕ, Bool, true, false, nat_eq, List, [], ◌∷◌, Option, Some, None, refl, sym, ap, ◌∙◌, cond}
+use Rattle.std.proofs.Common.{◌≡◌, ℕ, Bool, true, false, nat_eq, List, [], ◌∷◌, Option, Some, None, refl, sym, ap, ◌∙◌}
+use Rattle.std.proofs.Common.{cond}
 use Rattle.std.specs.Prelude.{option_map, unwrap_or}
 use Rattle.std.specs.Option.{option_or}
 use Rattle.std.specs.List.{list_any}
@@ -33,7 +34,8 @@ silent_front call e effects none no_begin (Nothing said began) =
     ∙ ap (says nat_eq call) none) (ap (λ o. option_or o (begins call e)) began ∙ no_begin)
 
 -- an end that a call is given
-ends_front : (call c : ℕ) (e : Effect) (effects : List Effect) → call_change e ≡ Some (c, None) → begins call e ≡ None → Says call effects
+ends_front : (call c : ℕ) (e : Effect) (effects : List Effect) → call_change e ≡ Some (c, None) → begins call e ≡ None
+    → Says call effects
     → Says call (e ∷ effects)
 ends_front call c e effects ends no_begin (Begun_last b said began) =
     Begun_last b (ap (λ o. option_or o (says nat_eq call (call_change e))) said) (ap (λ o. option_or o (begins call e)) began)

@@ -43,7 +43,8 @@ pub known_same : (T : Trace) (line : ℕ) (event : Event) (q : ℕ) → last_sai
     → last_of (begins q) (effects_of T event) ≡ None
     → ((k : Known) → said_of T event q k ≡ k) → known_at (with_event T line event) q ≡ known_at T q
 known_same T line event q m b same =
-    known_moved T line event q None None m b ∙ ap (known_by (stage_at T q)) (map_same (said_of T event q) same (known_in T.header T.rows q))
+    known_moved T line event q None None m b ∙ ap (known_by (stage_at T q)) (map_same (said_of T event q) same
+    (known_in T.header T.rows q))
 
 -- an input that was ignored says nothing
 pub ignored_says : (world : World) (input : Option Input) (k : Known) → with_said world true input k ≡ k
@@ -72,13 +73,15 @@ stage_of-staged : (stage : Stage) (known : Known) → stage_of (staged stage kno
 stage_of-staged stage (OfGet facts) = refl
 stage_of-staged stage (OfDisconnect facts) = refl
 
-pub found_by : (known : Known) (stage : Option Stage) (found : Option Known) → known_by stage found ≡ Some known → Found known stage found
+pub found_by : (known : Known) (stage : Option Stage) (found : Option Known) → known_by stage found ≡ Some known
+    → Found known stage found
 found_by known None found h = absurd (cc)
 found_by known (Some stage) None h = absurd (cc)
 found_by known (Some stage) (Some before) h = go (goes_or_ends stage)
   where
     go : (stage ≡ Ended) ⊎ Goes stage → Found known (Some stage) (Some before)
-    go (inl over) = let none : None ≡ Some known = sym (over_none before) ∙ sym (ap (λ st. at_stage st before) over) ∙ h in absurd (cc)
+    go (inl over) = let none : None ≡ Some known = sym (over_none before) ∙ sym (ap (λ st. at_stage st before) over) ∙ h in
+        absurd (cc)
       where
         over_none : (k : Known) → at_stage Ended k ≡ None
         over_none (OfGet facts) = refl

@@ -1,5 +1,6 @@
 -- In a run the pending gets are the gets among the pending calls.
-use Rattle.std.proofs.Common.{◌≡◌, ℕ, Bool, true, false, nat_eq, List, [], ◌∷◌, ◌++◌, Some, None, refl, sym, ap, subst, ◌∙◌, arith, cond}
+use Rattle.std.proofs.Common.{◌≡◌, ℕ, Bool, true, false, nat_eq, List, [], ◌∷◌, ◌++◌, Some, None, refl, sym, ap, subst}
+use Rattle.std.proofs.Common.{◌∙◌, arith, cond}
 use Rattle.std.proofs.lemmas.Bool.Decides.{nat_tests}
 use Rattle.std.specs.Prelude.{Option, option_map, unwrap_or}
 use Rattle.std.specs.Option.{option_or}
@@ -53,7 +54,8 @@ keeps_is : (es : List (ℕ × PendingCall)) (effects others : List Effect) → e
 keeps_is es effects others is h = subst (Keeps es) (sym is) h
 
 -- an outcome of a call
-keeps_outcome : (world : World) (cookies : Ask → List ℕ) (kind : CallKind) (call page : ℕ) (outcome : Outcome) (es : List (ℕ × PendingCall))
+keeps_outcome : (world : World) (cookies : Ask
+    → List ℕ) (kind : CallKind) (call page : ℕ) (outcome : Outcome) (es : List (ℕ × PendingCall))
     → IsOfKind kind call es
     → Keeps es (outcome_effects world cookies kind call page outcome)
 keeps_outcome world cookies kind call page outcome es of_kind =
@@ -66,11 +68,13 @@ keeps_outcome world cookies kind call page outcome es of_kind =
     ∙ sym (entries_after-append nat_eq get_change does (moves kind call outcome.stage) (gets_among es)
     ∙ ap (entries_after nat_eq get_change (moves kind call outcome.stage))
     (entries_silent nat_eq get_change does (gets_among es)
-    (silent_call get_change (λ n c p a k. refl) (λ c d. refl) (λ c p u. refl) (λ o s. refl) (λ t k. refl) (λ o k. refl) (λ c p f. refl)
+    (silent_call get_change (λ n c p a k. refl) (λ c d. refl) (λ c p u. refl) (λ o s. refl) (λ t k. refl) (λ o k. refl)
+    (λ c p f. refl)
     (λ w. refl) world cookies kind call page outcome.effects)))
 
 -- a call that begins
-keeps_begin : (world : World) (cookies : Ask → List ℕ) (b : Begun) (outcome : Outcome) (es : List (ℕ × PendingCall)) → IsAbsent b.call es
+keeps_begin : (world : World) (cookies : Ask → List ℕ) (b : Begun) (outcome : Outcome) (es : List (ℕ × PendingCall))
+    → IsAbsent b.call es
     → Keeps es (Begin b ∷ outcome_effects world cookies (kind_asked b.options) b.call b.page outcome)
 keeps_begin world cookies b outcome es absent =
     let does = outcome_effects world cookies (kind_asked b.options) b.call b.page outcome in
@@ -109,7 +113,8 @@ unbegun_last call [] h = refl
 unbegun_last call (Begin b ∷ effects) h =
     let here : nat_eq call b.call ≡ false = grind (arith, h) in
     let more : list_any (nat_eq call) (filter_map begun_by effects) ≡ false = grind (arith, h) in
-    ap (λ o. option_or o (cond (nat_eq call b.call) (Some b) None)) (unbegun_last call effects more) ∙ ap (λ t. cond t (Some b) None) here
+    ap (λ o. option_or o (cond (nat_eq call b.call) (Some b) None)) (unbegun_last call effects more)
+    ∙ ap (λ t. cond t (Some b) None) here
 unbegun_last call (Time time ∷ effects) h = others_begin _ (unbegun_last call effects h)
 unbegun_last call (Page page origin ∷ effects) h = others_begin _ (unbegun_last call effects h)
 unbegun_last call (Closed page ∷ effects) h = others_begin _ (unbegun_last call effects h)
@@ -130,7 +135,8 @@ unbegun_absent [] call new = refl
 unbegun_absent (row ∷ rows) call new =
     go (unbegun_absent rows call (any_append call (begun rows) (filter_map begun_by row.effects) new).0) (says_of call row.effects)
   where
-    go : last_value nat_eq call_change call rows ≡ None → Says call row.effects → last_value nat_eq call_change call (row ∷ rows) ≡ None
+    go : last_value nat_eq call_change call rows ≡ None → Says call row.effects
+        → last_value nat_eq call_change call (row ∷ rows) ≡ None
     go before (Begun_last b last began) =
         let no : None ≡ Some b =
         sym (unbegun_last call row.effects (any_append call (begun rows) (filter_map begun_by row.effects) new).1) ∙ began in

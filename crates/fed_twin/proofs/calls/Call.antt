@@ -1,5 +1,6 @@
 -- What a call does at an input is the same, as far as providers can tell, in two worlds that they cannot tell apart.
-use Rattle.std.proofs.Common.{◌≡◌, ℕ, zero, suc, Bool, true, false, ◌||◌, ◌⊎◌, inl, inr, List, [], ◌∷◌, map, length, slice_get, Option}
+use Rattle.std.proofs.Common.{◌≡◌, ℕ, zero, suc, Bool, true, false, ◌||◌, ◌⊎◌, inl, inr, List, [], ◌∷◌, map, length}
+use Rattle.std.proofs.Common.{slice_get, Option}
 use Rattle.std.proofs.Common.{Some, None, Result as Answer, Ok, Err, is_some, IfSome, refl, sym, ap, subst, ◌∙◌}
 use Rattle.std.specs.Prelude.{option_and_then, option_map, unwrap_or, ⊤}
 use Rattle.std.specs.List.{filter_map, cons_option, list_any, AllByRecursion, AllZip}

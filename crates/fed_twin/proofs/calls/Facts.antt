@@ -1,5 +1,6 @@
 -- What an event leaves of a get, and what is seen of other calls.
-use Rattle.std.proofs.Common.{◌≡◌, ℕ, Bool, true, false, nat_eq, List, [], ◌∷◌, ◌++◌, Option, Some, None, refl, sym, ap, subst, ◌∙◌}
+use Rattle.std.proofs.Common.{◌≡◌, ℕ, Bool, true, false, nat_eq, List, [], ◌∷◌, ◌++◌, Option, Some, None, refl, sym, ap}
+use Rattle.std.proofs.Common.{subst, ◌∙◌}
 use Rattle.std.proofs.lemmas.List.Elements.{filter_map-append}
 use Rattle.std.specs.Prelude.{option_and_then}
 use Rattle.std.specs.List.{filter_map, flat_map}
@@ -45,7 +46,8 @@ abbrev pub is_get : Event → Bool
 is_get (Get page call options) = true
 is_get _ = false
 
-begins_get : (event : Event) (page call : ℕ) (options : CallOptions) → Some event ≡ beginning page call options → is_get event ≡ true
+begins_get : (event : Event) (page call : ℕ) (options : CallOptions) → Some event ≡ beginning page call options
+    → is_get event ≡ true
 begins_get event page call (ToGet options) is = let get : event ≡ Get page call options = cc in ap is_get get
 begins_get event page call (ToDisconnect options) is = absurd (cc)
 
@@ -79,7 +81,8 @@ pub record EndsThere (T : Trace) (line : ℕ) (event : Event) (page q : ℕ) : T
 -- where the calls of a page end, and what comes after says nothing of calls
 facts_end : (T : Trace) (line : ℕ) (event : Event) (q page : ℕ) (rest : List Effect)
     → effects_of T event ≡ ends_of (pending_of T page) ++ rest
-    → AllSilent stage_change rest → AllSilent (begins q) rest → ((k : Known) → said_of T event q k ≡ k) → EndsThere T line event page q
+    → AllSilent stage_change rest → AllSilent (begins q) rest → ((k : Known) → said_of T event q k ≡ k)
+    → EndsThere T line event page q
 facts_end T line event q page rest effects stage begun same =
     let none : last_of (begins q) (effects_of T event) ≡ None =
     last_silent (begins q) (effects_of T event)
@@ -90,10 +93,12 @@ facts_end T line event q page rest effects stage begun same =
     record {
       there = λ is. facts_ended T line event q (said ∙ ends_hit q (pending_of T page) is) none;
       elsewhere =
-          λ is. facts_same T line event q (said ∙ ends_apart stage_change (Some Ended) (λ n c. refl) q (pending_of T page) is) none same;
+          λ is. facts_same T line event q (said ∙ ends_apart stage_change (Some Ended) (λ n c. refl) q (pending_of T
+          page) is) none same;
     }
 
-pub facts_load : (T : Trace) (line page : ℕ) (url : Parts) (raw : Option (List ℕ)) (q : ℕ) → EndsThere T line (Load page url raw) page q
+pub facts_load : (T : Trace) (line page : ℕ) (url : Parts) (raw : Option (List ℕ)) (q : ℕ)
+    → EndsThere T line (Load page url raw) page q
 facts_load T line page url raw q =
     let found = cookies_from T.header.rules url (now_at T) (set_cookies raw) in
     let statuses = set_logins raw in
@@ -111,7 +116,8 @@ facts_close T line page q origin is =
 -- ---- calls that are no gets, or over
 
 -- nothing is seen of a disconnect
-disconnect_unseen : (p : Providers) (w : World) (ck : Ask → List ℕ) (call page : ℕ) (es : List CallEffect) → filter_map sets_login es ≡ []
+disconnect_unseen : (p : Providers) (w : World) (ck : Ask → List ℕ) (call page : ℕ) (es : List CallEffect)
+    → filter_map sets_login es ≡ []
     → filter_map (seen p) (flat_map (call_effects w ck DisconnectCall call page) es) ≡ []
 disconnect_unseen p w ck call page [] none = refl
 disconnect_unseen p w ck call page (does.SetLogin origin status ∷ es) none = absurd (cc)

@@ -1,5 +1,6 @@
 -- What providers can tell of an outcome of a call.
-use Rattle.std.proofs.Common.{◌≡◌, ℕ, Bool, true, false, ◌||◌, cond, List, [], ◌∷◌, ◌++◌, Some, None, refl, sym, ap, ap₂}
+use Rattle.std.proofs.Common.{◌≡◌, ℕ, Bool, true, false, ◌||◌, cond, List, [], ◌∷◌, ◌++◌, Some, None, refl, sym, ap}
+use Rattle.std.proofs.Common.{ap₂}
 use Rattle.std.proofs.Common.{◌∙◌}
 use Rattle.std.proofs.lemmas.List.Elements.{filter_map-append}
 use Rattle.std.specs.List.{filter_map, cons_option, list_any, flat_map}
@@ -104,11 +105,13 @@ seen_done : (p : Providers) (w w' : World) (ck ck' : Ask → List ℕ) → SameC
     ≡ filter_map (seen p) (flat_map (call_effects w' ck' GetCall call page') es')
 seen_done p w w' ck ck' h call page page' es es' own told =
     seen_cookies p w w' ck ck' h call page page' es own ∙ seen_told p w' ck' call page' es
-    ∙ ap (λ l. filter_map (seen p) (flat_map (call_effects w' ck' GetCall call page') l)) told ∙ sym (seen_told p w' ck' call page' es')
+    ∙ ap (λ l. filter_map (seen p) (flat_map (call_effects w' ck' GetCall call page') l)) told
+    ∙ sym (seen_told p w' ck' call page' es')
 
 pub seen_outcome : (p : Providers) (w w' : World) (ck ck' : Ask → List ℕ) → SameCookies p ck ck' → (call page page' : ℕ) (o o' : Outcome)
     → SameOutcome p o o'
-    → filter_map (seen p) (outcome_effects w ck GetCall call page o) ≡ filter_map (seen p) (outcome_effects w' ck' GetCall call page' o')
+    → filter_map (seen p) (outcome_effects w ck GetCall call page o)
+    ≡ filter_map (seen p) (outcome_effects w' ck' GetCall call page' o')
 seen_outcome p w w' ck ck' h call page page' o o' same =
     filter_map-append (seen p) (flat_map (call_effects w ck GetCall call page) o.effects) (moves GetCall call o.stage)
     ∙ ap₂ (λ xs st. xs ++ filter_map (seen p) (moves GetCall call st))
@@ -155,7 +158,8 @@ asks_none call (effects.Ignored why ∷ es) h = asks_none call es h
 pub quiet_outcome : (w : World) (ck : Ask → List ℕ) (call page : ℕ) (o : Outcome)
     → list_any names (outcome_effects w ck GetCall call page o) ≡ false
     → IsQuiet o
-quiet_outcome w ck call page o h = sym (outcome_asks w ck GetCall call page o) ∙ asks_none call (outcome_effects w ck GetCall call page o) h
+quiet_outcome w ck call page o h =
+    sym (outcome_asks w ck GetCall call page o) ∙ asks_none call (outcome_effects w ck GetCall call page o) h
 
 -- ---- what two worlds have in common
 

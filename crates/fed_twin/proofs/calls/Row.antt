@@ -1,5 +1,6 @@
 -- The table of a call in two worlds that providers cannot tell apart.
-use Rattle.std.proofs.Common.{◌≡◌, ℕ, zero, suc, Bool, true, false, inr, List, [], ◌∷◌, length, slice_get, position, Option, Some}
+use Rattle.std.proofs.Common.{◌≡◌, ℕ, zero, suc, Bool, true, false, inr, List, [], ◌∷◌, length, slice_get, position, Option}
+use Rattle.std.proofs.Common.{Some}
 use Rattle.std.proofs.Common.{None, Result as Answer, Ok, Err, is_some, refl, sym, ap, subst, ◌∙◌, arith}
 use Rattle.std.specs.Prelude.{option_and_then, option_map, unwrap_or, ⊤, not}
 use Rattle.std.specs.List.{filter_map, list_any}

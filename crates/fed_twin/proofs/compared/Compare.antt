@@ -1,6 +1,8 @@
 -- A run of a script stops where it is quiet no longer.
-use Rattle.std.proofs.Common.{◌≡◌, ◌≢◌, ℕ, zero, suc, ◌+◌, ◌-◌, ◌*◌, ◌^◌, ◌<◌, ◌≤◌, Bool, true, false, cond, ◌||◌, nat_eq, List, [], ◌∷◌}
-use Rattle.std.proofs.Common.{length, map, Option, Some, None, refl, sym, ap, ap₂, subst, ◌∙◌, arith, lit≤, zero-le, length-append, get_or}
+use Rattle.std.proofs.Common.{◌≡◌, ◌≢◌, ℕ, zero, suc, ◌+◌, ◌-◌, ◌*◌, ◌^◌, ◌<◌, ◌≤◌, Bool, true}
+use Rattle.std.proofs.Common.{false, cond, ◌||◌, nat_eq, List, [], ◌∷◌}
+use Rattle.std.proofs.Common.{length, map, Option, Some, None, refl, sym, ap, ap₂, subst, ◌∙◌, arith, lit≤, zero-le}
+use Rattle.std.proofs.Common.{length-append, get_or}
 use Rattle.std.proofs.Common.{drop, add-one, drop-cons}
 use Rattle.std.proofs.lemmas.Bool.{eq-eqb, ne_eqb, eqb-true, eqb-false, false≢true}
 use Rattle.std.proofs.lemmas.List.{length-map, drop_all}
@@ -49,7 +51,8 @@ naming_ask (asks.Disconnect to client hint origin) = refl
 naming_records : (line : ℕ) (effects : List Effect) → list_any is_naming_record (records_of line effects) ≡ list_any names effects
 unfolding is_naming_record
 naming_records line [] = refl
-naming_records line (Sent kind call provider ask cookies ∷ effects) = ap₂ (λ x y. x || y) (naming_ask ask) (naming_records line effects)
+naming_records line (Sent kind call provider ask cookies ∷ effects) =
+    ap₂ (λ x y. x || y) (naming_ask ask) (naming_records line effects)
 naming_records line (effect ∷ effects) = naming_records line effects
 
 first_ask : (ask : Ask) (cookies : List ℕ) (out : Out) (outs : List Out) (xs : List (List ℕ)) → length outs ≡ length xs
@@ -404,7 +407,8 @@ row_found : {session session' : State} {n : Numbered} (T : Trace) {found : Optio
 row_found {n = n} T requests stands takes is = unless_some (is_loud (row_of T n.line n.event)) requests _ (sym is ∙ (takes T stands).0)
 
 -- they fit
-pub fits_more : {s : Script} {most kept sent total : ℕ} {session session' : State} {n : Numbered} {ns : List Numbered} {found : Option ℕ}
+pub fits_more : {s : Script} {most kept sent total : ℕ} {session session' : State} {n : Numbered} {ns : List Numbered}
+    {found : Option ℕ}
     (requests : ℕ)
     → Takes session session' n found → found ≡ Some requests → GoesOn s most session (n ∷ ns) kept sent total
     → total + requests < 2 ^ 64
@@ -460,7 +464,8 @@ goes_on {s = s} {most = most} {kept = kept} {sent = sent} {total = total} {sessi
         sym (ap (λ b. cond b (run (after h.trace n) ns most (kept + 1) (requests_of (after h.trace n)))
         (run (after h.trace n) ns most kept sent)) kind)
 
-pub goes_on_kept : {s : Script} {most kept sent total : ℕ} {session session' : State} {n : Numbered} {ns : List Numbered} {found : Option ℕ}
+pub goes_on_kept : {s : Script} {most kept sent total : ℕ} {session session' : State} {n : Numbered} {ns : List Numbered}
+    {found : Option ℕ}
     (requests : ℕ)
     → Takes session session' n found → found ≡ Some requests → kept ≢ most → GoesOn s most session (n ∷ ns) kept sent total
     → is_kept n.event ≡ true → GoesOn s most session' ns (kept + 1) (total + requests) (total + requests)
@@ -479,7 +484,8 @@ pub ends_full : {s : Script} {most kept sent total : ℕ} {session : State} {res
 ends_full {s = s} {most = most} {kept = kept} {sent = sent} {rest = rest} h full =
     subst (QuietRun s most) (sym h.same ∙ run-full h.trace rest most kept sent full) (run_is_quiet s most h.whole)
 
-pub ends_loud : {s : Script} {most kept sent total : ℕ} {session session' : State} {n : Numbered} {ns : List Numbered} {found : Option ℕ}
+pub ends_loud : {s : Script} {most kept sent total : ℕ} {session session' : State} {n : Numbered} {ns : List Numbered}
+    {found : Option ℕ}
     → Takes session session' n found → found ≡ None → kept ≢ most
     → GoesOn s most session (n ∷ ns) kept sent total → QuietRun s most (kept, sent)
 ends_loud {s = s} {most = most} {kept = kept} {sent = sent} {n = n} {ns = ns} takes none apart h =

@@ -1,5 +1,6 @@
 -- An event sends at most two sign-in requests.
-use Rattle.std.proofs.Common.{◌≡◌, ℕ, ◌≤◌, Bool, true, false, List, [], ◌∷◌, ◌++◌, length, Option, Some, None, Ok, Err, refl, ap, ◌∙◌}
+use Rattle.std.proofs.Common.{◌≡◌, ℕ, ◌≤◌, Bool, true, false, List, [], ◌∷◌, ◌++◌, length, Option, Some, None, Ok}
+use Rattle.std.proofs.Common.{Err, refl, ap, ◌∙◌}
 use Rattle.std.proofs.Common.{append-nil, arith, lit≤}
 use Rattle.std.proofs.lemmas.List.Elements.{filter_map-append}
 use Rattle.std.specs.Prelude.{Result, option_and_then, not}
@@ -326,7 +327,8 @@ few_of_disconnect world cookies call page outcome =
 few_of_silent : (effects : List Effect) → AllSilent first_sent effects → length (filter_map first_sent effects) ≤ 2
 few_of_silent effects silent = rw (said_silent first_sent effects silent) none
 
-few_of_standing : (world : World) (cookies : Ask → List ℕ) (trusted busy : Bool) (call page : ℕ) (origin : Origin) (options : CallOptions)
+few_of_standing : (world : World) (cookies : Ask
+    → List ℕ) (trusted busy : Bool) (call page : ℕ) (origin : Origin) (options : CallOptions)
     → length (filter_map first_sent (standing_call world cookies trusted busy
     (record { call = call; page = page; origin = origin; options = options }))) ≤ 2
 few_of_standing world cookies false busy call page origin options = none
@@ -357,7 +359,8 @@ silent_have cookies (haves.Login origin status) =
     silent_append first_sent (cookie_effects cookies) (Login origin status ∷ [])
     (silent_map first_sent Cookie (λ c. refl) cookies) (refl, tt)
 
-silent_close : (calls : List (ℕ × CallKind)) (page : ℕ) (origin : Option Origin) → AllSilent first_sent (close_effects calls page origin)
+silent_close : (calls : List (ℕ × CallKind)) (page : ℕ) (origin : Option Origin)
+    → AllSilent first_sent (close_effects calls page origin)
 silent_close calls page None = (refl, tt)
 silent_close calls page (Some origin) =
     silent_append first_sent (ends_of calls) (Closed page ∷ []) (ends_silent first_sent (λ n c. refl) calls) (refl, tt)

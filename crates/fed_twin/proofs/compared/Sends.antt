@@ -1,5 +1,6 @@
 -- In a run the sign-in requests of an event are those of gets, since no call is another.
-use Rattle.std.proofs.Common.{◌≡◌, ℕ, Bool, true, false, List, [], ◌∷◌, ◌++◌, Option, Some, None, refl, sym, ap, ap₂, ◌∙◌}
+use Rattle.std.proofs.Common.{◌≡◌, ℕ, Bool, true, false, List, [], ◌∷◌, ◌++◌, Option, Some, None, refl, sym, ap, ap₂}
+use Rattle.std.proofs.Common.{◌∙◌}
 use Rattle.std.proofs.lemmas.List.Elements.{filter_map-append}
 use Rattle.std.specs.List.{filter_map, flat_map, cons_option}
 use Rattle.fed_origin.specs.declared.options.GetOptions.{GetOptions}
@@ -100,7 +101,8 @@ sends_input T run call i = go (is_begun T call) (known_at T call) refl
         absurd (cc)
 
 silent_closed : (said : Effect → Option (List ℕ)) → IsDull said
-    → ((kind : CallKind) (call : ℕ) → AllSilent said (moves kind call (Some Ended))) → ((page : ℕ) → said (Closed page) ≡ None)
+    → ((kind : CallKind) (call : ℕ) → AllSilent said (moves kind call (Some Ended)))
+    → ((page : ℕ) → said (Closed page) ≡ None)
     → (calls : List (ℕ × CallKind)) (page : ℕ) (origin : Option Origin) → AllSilent said (close_effects calls page origin)
 silent_closed said dull ends closed calls page None = (dull.ignored _, tt)
 silent_closed said dull ends closed calls page (Some origin) =

@@ -1,5 +1,6 @@
 -- All that is looked up but cookies is the same where cookies alone differ.
-use Rattle.std.proofs.Common.{◌≡◌, ℕ, Bool, true, false, ◌||◌, nat_eq, List, [], ◌∷◌, ◌++◌, map, Option, Some, None, refl, sym, ap, ap₂}
+use Rattle.std.proofs.Common.{◌≡◌, ℕ, Bool, true, false, ◌||◌, nat_eq, List, [], ◌∷◌, ◌++◌, map, Option, Some, None}
+use Rattle.std.proofs.Common.{refl, sym, ap, ap₂}
 use Rattle.std.proofs.Common.{◌∙◌}
 use Rattle.std.proofs.lemmas.List.Elements.{filter_map-append}
 use Rattle.std.specs.Prelude.{option_and_then, option_map, unwrap_or}
@@ -92,7 +93,8 @@ value_same change k h xs ys same =
         (change e)) ∙ blind (λ e. says nat_eq k (change e)) h e) rows
 
 any_same : (test : Effect → Bool) → ((cookie : StoredCookie) → test (effects.Cookie cookie) ≡ false)
-    → ((kind : CallKind) (call provider : ℕ) (ask : Ask) (cookies : List ℕ) → test (effects.Sent kind call provider ask cookies) ≡ test
+    → ((kind : CallKind) (call provider : ℕ) (ask : Ask) (cookies : List ℕ)
+    → test (effects.Sent kind call provider ask cookies) ≡ test
     (effects.Sent kind call provider ask []))
     → (es : List Effect) → list_any test es ≡ list_any test (filter_map but_cookies es)
 any_same test c s [] = refl
@@ -206,11 +208,14 @@ but_call w ck ck' kind call page (does.SetLogin origin status ∷ es) =
 but_call w ck ck' kind call page (does.Finish finish ∷ es) =
     ap (λ xs. effects.Result call page finish ∷ xs) (but_call w ck ck' kind call page es)
 but_call w ck ck' kind call page (does.Ignored why ∷ es) = ap (λ xs. effects.Ignored why ∷ xs) (but_call w ck ck' kind call page es)
-but_call w ck ck' kind call page (does.Dialog dialog ∷ es) = ap (λ xs. effects.Shown call dialog ∷ xs) (but_call w ck ck' kind call page es)
+but_call w ck ck' kind call page (does.Dialog dialog ∷ es) =
+    ap (λ xs. effects.Shown call dialog ∷ xs) (but_call w ck ck' kind call page es)
 but_call w ck ck' kind call page (does.Window place url ∷ es) =
     ap (λ xs. effects.Window call place url ∷ xs) (but_call w ck ck' kind call page es)
-but_call w ck ck' kind call page (does.Keep triple ∷ es) = ap (λ xs. effects.Kept triple true ∷ xs) (but_call w ck ck' kind call page es)
-but_call w ck ck' kind call page (does.Forget triple ∷ es) = ap (λ xs. effects.Kept triple false ∷ xs) (but_call w ck ck' kind call page es)
+but_call w ck ck' kind call page (does.Keep triple ∷ es) =
+    ap (λ xs. effects.Kept triple true ∷ xs) (but_call w ck ck' kind call page es)
+but_call w ck ck' kind call page (does.Forget triple ∷ es) =
+    ap (λ xs. effects.Kept triple false ∷ xs) (but_call w ck ck' kind call page es)
 but_call w ck ck' kind call page (does.ForgetPair o u ∷ es) = goes (but_call w ck ck' kind call page es) (triples_of_pair w.kept o u)
   where
     goes : filter_map but_cookies (flat_map (call_effects w ck kind call page) es)
@@ -295,7 +300,8 @@ equal_effects T U h (events.ClosePage page) =
 equal_effects T U h (events.SetStatus page status) = ap (λ o. filter_map but_cookies (status_effects o status)) (same_page T U h page)
 equal_effects T U h (events.Get page call options) =
     but_begin (world_at T) (cookies_with T) (cookies_with U) (page_at T page) (is_busy page (gets T)) page call (ToGet options)
-    ∙ ap (λ w. filter_map but_cookies (begin_effects w (cookies_with U) (page_at T page) (is_busy page (gets T)) page call (ToGet options)))
+    ∙ ap (λ w. filter_map but_cookies (begin_effects w (cookies_with U) (page_at T page) (is_busy page (gets T)) page call
+    (ToGet options)))
     (same_world T U h)
     ∙ ap₂ (λ o x. filter_map but_cookies (begin_effects (world_at U) (cookies_with U) o (is_busy page x) page call (ToGet options)))
     (same_page T U h page) (same_gets T U h)

@@ -1,5 +1,6 @@
 -- Nothing is looked up of a token.
-use Rattle.std.proofs.Common.{◌≡◌, ℕ, Bool, true, false, nat_eq, cond, List, [], ◌∷◌, ◌++◌, Option, Some, None, Result as Answer, Ok, Err}
+use Rattle.std.proofs.Common.{◌≡◌, ℕ, Bool, true, false, nat_eq, cond, List, [], ◌∷◌, ◌++◌, Option, Some, None}
+use Rattle.std.proofs.Common.{Result as Answer, Ok, Err}
 use Rattle.std.proofs.Common.{append_assoc, refl, sym, ap, ap₂, subst, ◌∙◌}
 use Rattle.std.specs.Prelude.{◌==◌, option_map, unwrap_or, ⊤}
 use Rattle.std.specs.Option.{option_or}
@@ -246,7 +247,8 @@ reply_same w ck call page f Asserting place raw raw' h = go (provider_at place f
         (h (origin_text f.origin)) ck
 
 -- a disconnect waits for no assertion reply
-disconnect_reply_same : (w : World) (ck : Ask → List ℕ) (call : ℕ) (f : DisconnectFacts) (own : Bool) (stage : Stage) (raw raw' : List ℕ)
+disconnect_reply_same : (w : World) (ck : Ask
+    → List ℕ) (call : ℕ) (f : DisconnectFacts) (own : Bool) (stage : Stage) (raw raw' : List ℕ)
     → ButToken call (outcome_effects w ck DisconnectCall call f.page
     (provider_reply w (record f { stage = stage }) own kinds.Assertion raw))
     (outcome_effects w ck DisconnectCall call f.page (provider_reply w (record f { stage = stage }) own kinds.Assertion raw'))

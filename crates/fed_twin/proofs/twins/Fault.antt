@@ -1,5 +1,6 @@
 -- The twin test finds nothing of twins, and nothing else.
-use Rattle.std.proofs.Common.{◌≡◌, ℕ, suc, ◌+◌, ◌⊎◌, inl, inr, List, [], ◌∷◌, ◌++◌, zip, length, Option, Some, None, IfSome, option_to_list}
+use Rattle.std.proofs.Common.{◌≡◌, ℕ, suc, ◌+◌, ◌⊎◌, inl, inr, List, [], ◌∷◌, ◌++◌, zip, length, Option, Some}
+use Rattle.std.proofs.Common.{None, IfSome, option_to_list}
 use Rattle.std.proofs.Common.{refl, ap, arith}
 use Rattle.std.specs.List.{AllByRecursion, cons_option}
 use Rattle.fed_origin.specs.declared.origin.Origin.{Origin}

@@ -1,5 +1,6 @@
 -- Two origins have one number exactly where they agree with all that was named before.
-use Rattle.std.proofs.Common.{◌≡◌, ℕ, Bool, true, false, cond, not, ◌+◌, ◌&&◌, ◌||◌, ◌↔◌, List, [], ◌∷◌, ◌++◌, map, refl, sym, ap, ap₂}
+use Rattle.std.proofs.Common.{◌≡◌, ℕ, Bool, true, false, cond, not, ◌+◌, ◌&&◌, ◌||◌, ◌↔◌, List, [], ◌∷◌}
+use Rattle.std.proofs.Common.{◌++◌, map, refl, sym, ap, ap₂}
 use Rattle.std.proofs.Common.{subst, ◌∙◌, arith}
 use Rattle.std.proofs.lemmas.Bool.Decides.{nat_tests}
 use Rattle.std.specs.Prelude.{⊤, Option, Some, None, IfSome, option_to_list}

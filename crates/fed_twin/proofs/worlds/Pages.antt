@@ -1,5 +1,6 @@
 -- Events that name no call keep the worlds the same.
-use Rattle.std.proofs.Common.{◌≡◌, ℕ, Bool, true, false, cond, List, [], ◌∷◌, ◌++◌, map, Option, Some, None, refl, sym, ap}
+use Rattle.std.proofs.Common.{◌≡◌, ℕ, Bool, true, false, cond, List, [], ◌∷◌, ◌++◌, map, Option, Some, None, refl, sym}
+use Rattle.std.proofs.Common.{ap}
 use Rattle.std.proofs.Common.{ap₂, subst, ◌∙◌}
 use Rattle.std.proofs.lemmas.List.Elements.{filter_map-append}
 use Rattle.std.specs.Prelude.{◌==◌, filter, option_map, option_and_then, if◌then◌else◌}
@@ -75,7 +76,8 @@ ended_same p T U h runs line line' page event event' q ends ends' =
     none_or : {f g : Option Facts} → f ≡ None → g ≡ None → SameCall p f g
     none_or is is' = call_over p _ _ is is'
 
-    go : (b b' : Bool) → is_among q (pending_of T page) ≡ b → is_among q (pending_of U page) ≡ b' → (f f' : Option Facts) → facts_at T q ≡ f
+    go : (b b' : Bool) → is_among q (pending_of T page) ≡ b → is_among q (pending_of U page) ≡ b' → (f f' : Option Facts)
+        → facts_at T q ≡ f
         → facts_at U q ≡ f' → SameCall p f f'
         → SameCall p (facts_at (with_event T line event) q) (facts_at (with_event U line' event') q)
     go true true is is' f f' found found' same = none_or (ends.there is) (ends'.there is')
@@ -93,15 +95,19 @@ ended_same p T U h runs line line' page event event' q ends ends' =
 
 -- of the calls of a page that end, only its gets are seen
 seen_ends : (p : Providers) (page : ℕ) (es : List (ℕ × PendingCall))
-    → filter_map (seen p) (ends_of (calls_of page es)) ≡ map (λ get. views.Ended get.0) (filter (λ get. get.1 == page) (gets_among es))
+    → filter_map (seen p) (ends_of (calls_of page es))
+    ≡ map (λ get. views.Ended get.0) (filter (λ get. get.1 == page) (gets_among es))
 seen_ends p page [] = refl
 seen_ends p page (e ∷ es) = go (seen_ends p page es) (e.1.page == page) refl e.1.kind
   where
-    go : filter_map (seen p) (ends_of (calls_of page es)) ≡ map (λ get. views.Ended get.0) (filter (λ get. get.1 == page) (gets_among es))
+    go : filter_map (seen p) (ends_of (calls_of page es))
+        ≡ map (λ get. views.Ended get.0) (filter (λ get. get.1 == page) (gets_among es))
         → (here : Bool) → (e.1.page == page) ≡ here → (kind : CallKind)
-        → filter_map (seen p) (ends_of (map by_kind (cond here ((e.0, record e.1 { kind = kind }) ∷ filter (λ call. call.1.page == page) es)
+        → filter_map (seen p) (ends_of (map by_kind (cond here
+        ((e.0, record e.1 { kind = kind }) ∷ filter (λ call. call.1.page == page) es)
         (filter (λ call. call.1.page == page) es))))
-        ≡ map (λ get. views.Ended get.0) (filter (λ get. get.1 == page) (cons_option (of_get kind (Some (e.0, e.1.page))) (gets_among es)))
+        ≡ map (λ get. views.Ended get.0) (filter (λ get. get.1 == page)
+        (cons_option (of_get kind (Some (e.0, e.1.page))) (gets_among es)))
     go rest true at GetCall =
         ap (λ xs. views.Ended e.0 ∷ xs) rest
         ∙ sym (ap (λ b. map (λ get. views.Ended get.0) (cond b ((e.0, e.1.page) ∷ filter (λ get. get.1 == page) (gets_among es))
@@ -225,7 +231,8 @@ load_seen p T U h runs page rest rest' same =
     ∙ ap₂ (λ xs ys. xs ++ ys) (same_ends p T U h runs page) same
     ∙ sym (filter_map-append (seen p) (ends_of (pending_of U page)) rest')
 
-pub step_load : (p : Providers) (T U : Trace) → SameWorlds p T U → AreRuns T U → (line line' page : ℕ) (url : Parts) (raw : Option (List ℕ))
+pub step_load : (p : Providers) (T U : Trace) → SameWorlds p T U → AreRuns T U
+    → (line line' page : ℕ) (url : Parts) (raw : Option (List ℕ))
     → SameWorlds p (with_event T line (events.Load page url raw)) (with_event U line' (events.Load page url raw))
 step_load p T U h runs line line' page url raw =
     grow p T U h line line' (events.Load page url raw) (events.Load page url raw)

@@ -1,5 +1,6 @@
 -- Events of calls keep the worlds the same.
-use Rattle.std.proofs.Common.{◌≡◌, ℕ, Bool, true, false, nat_eq, cond, ◌⊎◌, inl, inr, List, [], ◌∷◌, Option, Some, None, length, refl, sym}
+use Rattle.std.proofs.Common.{◌≡◌, ℕ, Bool, true, false, nat_eq, cond, ◌⊎◌, inl, inr, List, [], ◌∷◌, Option, Some, None}
+use Rattle.std.proofs.Common.{length, refl, sym}
 use Rattle.std.proofs.Common.{ap, subst, ◌∙◌, arith}
 use Rattle.std.proofs.lemmas.Bool.Decides.{nat_tests}
 use Rattle.std.specs.Prelude.{option_map, option_and_then, is_some}
@@ -75,14 +76,16 @@ module _ (T : Trace) (line page call : ℕ) (origin : Origin) (options : GetOpti
   -- what a get does that is taken
   abbrev Does : Outcome → Type 0
   Does o =
-      effects_of T the_get ≡ Begin (get_begun page call origin options) ∷ outcome_effects (world_at T) (cookies_with T) GetCall call page o
+      effects_of T the_get ≡ Begin (get_begun page call origin options)
+      ∷ outcome_effects (world_at T) (cookies_with T) GetCall call page o
 
   -- it leaves other calls
   get_other : (o : Outcome) (q : ℕ) → Does o → nat_eq q call ≡ false → facts_at (with_event T line the_get) q ≡ facts_at T q
   unfolding get_begun
   get_other o q is ne =
       facts_same T line the_get q
-      (ap (last_said nat_eq stage_change q) is ∙ ap (λ x. option_or x None) (moves_no_other (world_at T) (cookies_with T) GetCall call page
+      (ap (last_said nat_eq stage_change q) is ∙ ap (λ x. option_or x None) (moves_no_other (world_at T) (cookies_with T) GetCall call
+      page
       o q ne))
       (ap (last_of (begins q)) is ∙ ap (λ x. option_or x (cond (nat_eq q call) (Some (get_begun page call origin options)) None))
       (outcome_begins (world_at T) (cookies_with T) GetCall call page q o)
@@ -115,7 +118,8 @@ first_stage o (FailsFirst failure ended asks gives) = (Ended, ended, inl refl)
 first_stage o (ReadsFirst reading asks gives) = (Reading, reading, inr refl)
 
 -- both gets are taken
-taken_get : (p : Providers) (T U : Trace) → SameWorlds p T U → (line line' page call : ℕ) (o u : Origin) (options options' : GetOptions)
+taken_get : (p : Providers) (T U : Trace) → SameWorlds p T U
+    → (line line' page call : ℕ) (o u : Origin) (options options' : GetOptions)
     → SameOptions p options options' → length options.providers ≡ 1 → (busy : Bool)
     → Does T line page call o options (get_outcome (world_at T) busy o options)
     → Does U line' page call u options' (get_outcome (world_at U) busy u options')
@@ -264,7 +268,8 @@ record IsOther (p : Providers) (T : Trace) (line : ℕ) (event : Event) (call : 
   unseen : filter_map (seen p) (effects_of T event) ≡ []
   after : facts_at (with_event T line event) call ≡ None
 
-other_input : (p : Providers) (T : Trace) (line : ℕ) (event : Event) (call : ℕ) (i : Input) → IsInput event call i → facts_at T call ≡ None
+other_input : (p : Providers) (T : Trace) (line : ℕ) (event : Event) (call : ℕ) (i : Input) → IsInput event call i
+    → facts_at T call ≡ None
     → IsOther p T line event call
 other_input p T line event call i is none = go (is_begun T call) refl
   where
@@ -304,7 +309,8 @@ step_input p T U h line line' event event' call i i' is is' row quiet quiet' =
         → SameCall p (facts_at (with_event T line event) q) (facts_at (with_event U line' event') q)
     each here q = go (nat_eq q call) refl
       where
-        go : (own : Bool) → nat_eq q call ≡ own → SameCall p (facts_at (with_event T line event) q) (facts_at (with_event U line' event') q)
+        go : (own : Bool) → nat_eq q call ≡ own → SameCall p (facts_at (with_event T line event) q) (facts_at
+            (with_event U line' event') q)
         go false ne = call_left p T U h q _ _ (other_left T line event call i is q ne) (other_left U line' event' call i' is' q ne)
         go true key =
             let key_is : call ≡ q = grind (arith, nat_tests, key) in

@@ -1,5 +1,6 @@
 -- Two traces that grow together stay the same, as far as providers can tell, until either asks for a token.
-use Rattle.std.proofs.Common.{◌≡◌, ℕ, zero, suc, Bool, true, false, cond, ◌||◌, ◌⊎◌, inl, inr, List, [], ◌∷◌, ◌++◌, map, zip, length}
+use Rattle.std.proofs.Common.{◌≡◌, ℕ, zero, suc, Bool, true, false, cond, ◌||◌, ◌⊎◌, inl, inr, List, [], ◌∷◌}
+use Rattle.std.proofs.Common.{◌++◌, map, zip, length}
 use Rattle.std.proofs.Common.{Option, refl, sym, ap, subst, arith}
 use Rattle.std.proofs.lemmas.Slice.Eq.{bytes_eq-Decides}
 use Rattle.std.specs.Prelude.{bytes_eq, if◌then◌else◌}
@@ -36,7 +37,8 @@ use Rattle.fed_twin.proofs.worlds.Steps.{is_cancel, is_abort}
 
 -- ---- one row more
 
-step_alike : (p : Providers) (T U : Trace) → SameWorlds p T U → AreRuns T U → (line line' : ℕ) {event event' : Event} → Alike p event event'
+step_alike : (p : Providers) (T U : Trace) → SameWorlds p T U → AreRuns T U → (line line' : ℕ) {event event' : Event}
+    → Alike p event event'
     → list_any names (effects_of T event) ≡ false → list_any names (effects_of U event') ≡ false
     → SameWorlds p (with_event T line event) (with_event U line' event')
 step_alike p T U h runs line line' (Haves have) q q' = step_have p T U h line line' have

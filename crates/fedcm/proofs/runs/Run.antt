@@ -1,5 +1,6 @@
 -- A run goes on by one line.
-use Rattle.std.proofs.Common.{◌≡◌, ℕ, ◌+◌, Bool, true, false, cond, nat_eq, List, [], ◌∷◌, Some, None, Ok, Err, refl, sym, ap, subst, ◌∙◌}
+use Rattle.std.proofs.Common.{◌≡◌, ℕ, ◌+◌, Bool, true, false, cond, nat_eq, List, [], ◌∷◌, Some, None, Ok, Err, refl, sym}
+use Rattle.std.proofs.Common.{ap, subst, ◌∙◌}
 use Rattle.std.proofs.Common.{arith}
 use Rattle.std.specs.List.{list_any}
 use Rattle.std.specs.Prelude.{Option, Result, IfOk}
@@ -91,7 +92,8 @@ pub no_line : (rest : List ℕ) → first_line rest ≡ None → lines_of rest �
 no_line [] h = refl
 no_line (b ∷ bytes) h = absurd (cc)
 
-bad_leaves : (T : Trace) (n : ℕ) (cause : LineCause) (blank : Bool) (r : Result Event LineCause) → cond blank None (cause_of r) ≡ Some cause
+bad_leaves : (T : Trace) (n : ℕ) (cause : LineCause) (blank : Bool) (r : Result Event LineCause)
+    → cond blank None (cause_of r) ≡ Some cause
     → cond blank T (after_read T n r) ≡ T
 bad_leaves T n cause true r bad = refl
 bad_leaves T n cause false (Ok event) bad = absurd (cc)
@@ -124,7 +126,8 @@ goes_on_as {used = used} n rest line further reads good used_is taken lines befo
     }
 
 -- at a bad line
-pub stops_as : {session session' : State} {used used' : UsedState} {written written' : List ℕ} {whole : Outcome} {found : Option LineCause}
+pub stops_as : {session session' : State} {used used' : UsedState} {written written' : List ℕ} {whole : Outcome}
+    {found : Option LineCause}
     (n : ℕ) (rest line further : List ℕ) (cause : LineCause)
     → found ≡ line_cause used line → found ≡ Some cause
     → ((T : Trace) → IsAt session used written T → IsAt session' used' written' (after_line T used n line))

@@ -9,7 +9,11 @@ returns-in-Err-Invalid-clause-refused c =
 pub returns-in-Err-Invalid-from_bytes-clause-refused :
     goal.returns-in-Err-Invalid-from_bytes-clause-refused
 returns-in-Err-Invalid-from_bytes-clause-refused c =
-    λ step e. (same_step step e, refused_value _ _ (c.in-Err-Invalid-from_bytes.ensures.invalid.0 (ap Err c.in-Err-Invalid-from_bytes.field-0-is)))
+    λ step e. (
+      same_step step e,
+      refused_value _ _
+          (c.in-Err-Invalid-from_bytes.ensures.invalid.0 (ap Err c.in-Err-Invalid-from_bytes.field-0-is)),
+    )
 
 pub returns-in-Ok-append-clause-taken : goal.returns-in-Ok-append-clause-taken
 returns-in-Ok-append-clause-taken c =

@@ -15,8 +15,16 @@ returns-in-Err c =
 pub loop-span-preserved : goal.loop-span-preserved
 loop-span-preserved c =
     let d : HeaderSpan = record { name = record { start = 0; end = 0 }; value = record { start = 0; end = 0 } } in
-    let now : is_taken_field (header_bytes c.args.raw.now (slice_index_or c.args.spans.now c.loop-span.span-index d)) ≡ true = rw (← c.of.ensures, ← c.of-in-loop-span.ensures) c.in-Ok.ensures.taken in
+    let now : is_taken_field (header_bytes c.args.raw.now (slice_index_or c.args.spans.now c.loop-span.span-index d)) ≡ true =
+    rw (← c.of.ensures, ← c.of-in-loop-span.ensures) c.in-Ok.ensures.taken in
     record {
-      kept = rw (c.in-Ok.ensures.ok, c.of.ensures, c.of-in-loop-span.ensures, c.loop-span.invariant.kept) (sym (fields_more c.args.raw.now c.args.spans.now c.loop-span.span-index d c.loop-span-test.true));
+      kept =
+          rw (
+            c.in-Ok.ensures.ok,
+            c.of.ensures,
+            c.of-in-loop-span.ensures,
+            c.loop-span.invariant.kept,
+          ) (sym (fields_more c.args.raw.now c.args.spans.now c.loop-span.span-index d
+          c.loop-span-test.true));
       taken = taken_more c.args.raw.now c.args.spans.now c.loop-span.span-index d c.loop-span-test.true c.loop-span.invariant.taken now;
     }

@@ -21,7 +21,8 @@ returns-clause-outs c =
     c.in_ok-kept.ensures.effects
     ∙ ap (λ w. call_records c.args.line (cookies_of c.args.sight.now) c.args.call c.in-Some-page.page
     (outcome_at w (Some known) c.args.input.now).effects) c.lent.ensures
-    ∙ brought_records c.args.line (world_in c.args.sight.now) (cookies_of c.args.sight.now) c.args.call c.in-Some-page.page c.args.input.now
+    ∙ brought_records c.args.line (world_in c.args.sight.now) (cookies_of c.args.sight.now) c.args.call c.in-Some-page.page
+    c.args.input.now
     known (lookup (nat_eq c.args.call) c.args.calls.now.entries) found c.in-Some-page.ensures
 
 pub returns-clause-sight : goal.returns-clause-sight

@@ -4,7 +4,8 @@ use Rattle.std.proofs.lemmas.List.{length-take}
 use Rattle.fedcm.proofs.read.read_all.Goals as goal
 
 -- so many bytes more
-length-append-take : (bytes piece : List ℕ) (n room most : ℕ) → length bytes + room ≤ most → n ≤ length piece → length piece ≤ room
+length-append-take : (bytes piece : List ℕ) (n room most : ℕ) → length bytes + room ≤ most → n ≤ length piece
+    → length piece ≤ room
     → length (bytes ++ take n piece) < most + 1
 length-append-take bytes piece n room most h read within = simp (length-append, length-take) (omega arith)
 

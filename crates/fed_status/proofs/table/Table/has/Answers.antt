@@ -5,9 +5,11 @@ use Rattle.fed_status.proofs.table.Table.has.Goals as goal
 
 pub returns-in-Some : goal.returns-in-Some
 returns-in-Some c =
-    c.contains_key.ensures
-    ∙ found c.args.self.now c.requires (triple_of c.args.page.now c.args.provider.now c.args.account.now) c.in-Some.place (sym c.place.ensures ∙ c.in-Some.is)
+    c.has.ensures
+    ∙ found c.args.self.now c.requires (triple_of c.args.page.now c.args.provider.now c.args.account.now) c.in-Some.place
+    (sym c.place.ensures ∙ c.in-Some.is)
 
 pub returns-in-None : goal.returns-in-None
 returns-in-None c =
-    sym (not_found c.args.self.now c.requires (triple_of c.args.page.now c.args.provider.now c.args.account.now) (sym c.place.ensures ∙ c.in-None.is))
+    sym (not_found c.args.self.now c.requires (triple_of c.args.page.now c.args.provider.now c.args.account.now) (sym c.place.ensures
+    ∙ c.in-None.is))

@@ -1,28 +1,33 @@
-use Rattle.std.proofs.Common.{◌∙◌, sym, ap, cond, true}
-use Rattle.std.specs.List.{list_any}
+use Rattle.std.proofs.Common.{◌∙◌, sym, ap, refl}
 use Rattle.std.specs.Map.{values_of}
-use Rattle.fed_status.specs.Place.{same_pair, pair_at}
-use Rattle.fed_status.proofs.numbers.Tables.{present, put_last, with_one, are_distinct}
+use Rattle.fed_status.proofs.numbers.Listed.{one_undone}
+use Rattle.fed_status.proofs.numbers.Tables.{present, put_last, with_one, undone}
 use Rattle.fed_status.proofs.table.Table.put.Goals as goal
 
-pub returns-then-contains_key-clause-ok : goal.returns-then-contains_key-clause-ok
-returns-then-contains_key-clause-ok c =
-    present c.args.self.now c.requires.table c.args.triple c.args.place c.requires.place (sym c.contains_key.ensures ∙ c.if-contains_key.true)
+pub returns-then-has-clause-ok : goal.returns-then-has-clause-ok
+returns-then-has-clause-ok c =
+    present c.args.self.now c.requires.table c.args.triple c.args.place c.requires.place (sym c.has.ensures ∙ c.if-has.true)
+
+pub returns-in_err-list-clause-table : goal.returns-in_err-list-clause-table
+returns-in_err-list-clause-table c =
+    undone c.args.self.now c.requires.table _ refl refl (λ other. c.in_err-list.ensures.err other ∙ c.requires.table.pairs other)
+
+pub put-requires : goal.put-requires
+put-requires c = sym c.has.ensures ∙ c.if-has.false
 
 pub returns-in-Ok-clause-ok : goal.returns-in-Ok-clause-ok
 returns-in-Ok-clause-ok c =
-    ap values_of c.in-Ok.ensures.entries
-    ∙ put_last c.args.self.now c.requires.table c.args.triple c.args.place c.requires.place (sym c.contains_key.ensures ∙ c.if-contains_key.false)
+    ap values_of c.in-Ok.ensures.ok
+    ∙ put_last c.args.self.now c.requires.table c.args.triple c.args.place c.requires.place (sym c.has.ensures ∙ c.if-has.false)
 
 pub returns-in-Ok-clause-table : goal.returns-in-Ok-clause-table
 returns-in-Ok-clause-table c =
-    let one = with_one c.args.self.now c.requires.table c.args.triple c.args.place c.requires.place (sym c.contains_key.ensures ∙ c.if-contains_key.false)
-    c.insert.new.self.entries c.in-Ok.ensures.entries c.put_pair.new.pairs.keys
-    (λ other. c.put_pair.ensures other
-    ∙ ap (λ p. cond (same_pair p other) true (list_any (same_pair other) c.reserve.new.self.keys)) c.pair.ensures
-    ∙ ap (λ ks. cond (same_pair (pair_at c.args.place) other) true (list_any (same_pair other) ks)) c.in_ok-reserve.ensures.keys) in
-    record {
-      in_place = one.0;
-      pairs = one.1;
-      distinct = are_distinct c.args.self.now.names c.insert.new.self.entries one.0 c.insert.ensures.unique;
-    }
+    with_one c.args.self.now c.requires.table c.args.triple c.args.place c.requires.place _ refl c.in-Ok.ensures.ok
+    c.put.ensures.distinct c.in_ok-list.ensures.ok
+
+pub returns-in-Err-clause-table : goal.returns-in-Err-clause-table
+returns-in-Err-clause-table c =
+    undone c.args.self.now c.requires.table _ refl c.in-Err.ensures.err
+    (one_undone c.args.self.now.kept c.args.self.now.pairs.entries c.requires.table.pairs c.args.place c.list.new.pairs.entries
+    c.unlist.new.pairs.entries
+    (sym c.has.ensures ∙ c.if-has.false) c.in_ok-list.ensures.ok c.unlist.ensures)

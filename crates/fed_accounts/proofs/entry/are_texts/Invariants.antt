@@ -1,0 +1,10 @@
+use Rattle.std.proofs.Common.{◌≡◌, length}
+use Rattle.fed_json.specs.Part.{items_at}
+use Rattle.fed_accounts.specs.Entry.{are_texts}
+use Rattle.fed_accounts.proofs.entry.are_texts.Given as goal
+
+abbrev pub invariant-loop-item : goal.invariant-loop-item
+invariant-loop-item l = are_texts (items_at l.fn.items) ≡ are_texts (items_at l.items)
+
+abbrev pub decreases-loop-item : goal.decreases-loop-item
+decreases-loop-item l = length l.items

@@ -1,0 +1,2 @@
+-- Lists of texts in entries.
+pub mod Texts

@@ -1,0 +1,2 @@
+-- The account that is reselected.
+pub mod Within

@@ -1,0 +1,78 @@
+//! An account that is signed in again without the user.
+ghost use Rattle.std.specs.Prelude.{◌≡◌, Some, length};
+ghost use Rattle.fed_accounts.specs.Connection.{Reselect};
+ghost use Rattle.fed_consent.specs.Consent.{grounds_of, reselection_on, by_reselection};
+
+use super::{Consent, Manner};
+use fed_accounts::{Account, Accounts};
+use fed_io::Text;
+use fed_origin::Mediation;
+use std::marker::Model;
+
+/// The account that the rules of reselection name (FedCM, "auto re-authentication"; the rules are this profile's own). Contracts
+/// see it with the call and the place of the provider in its list; it is connected.
+#[derive(Drop)]
+pub struct Reselection {
+    call: u32,
+    provider: u32,
+    account: Account,
+}
+
+impl Model for Reselection {
+    ghost use Rattle.std.specs.Prelude.{true};
+    ghost use Rattle.fed_consent.specs.Consent.{Pick};
+
+    ghost Value = { Pick };
+
+    ghost view = { λ r. record { call = r.call; provider = r.provider; candidate = record { account = r.account; connected = true } } };
+}
+
+impl Reselection {
+    /// The account at `place`, which the rules name: `reselect` answers it for these accounts, the client, whether each
+    /// permission is `kept`, the flag of the page's origin and the mediation of the call. It takes no memory.
+    pub fn new(
+        call: u32,
+        provider: u32,
+        accounts: Accounts,
+        client: &Text,
+        kept: &[bool],
+        flag: bool,
+        mediation: Mediation,
+        place: usize,
+    ) -> Reselection
+        requires each { length kept.now ≡ length accounts }
+        requires named { Reselect accounts client.now kept.now flag mediation ≡ Some place }
+        ensures { reselection_on (grounds_of call provider accounts client.now kept.now flag mediation) ≡ Some result }
+    {
+        Reselection {
+            call,
+            provider,
+            account: accounts.take(place),
+        }
+    }
+
+    /// The account as a consent, of which the user was shown nothing. It takes no memory.
+    pub fn proceed(self) -> Consent
+        ensures { result ≡ by_reselection self }
+    {
+        let Reselection {
+            call,
+            provider,
+            account,
+        } = self;
+        Consent {
+            call,
+            provider,
+            account,
+            manner: Manner::Reselected,
+            disclosure: false,
+        }
+    }
+
+    /// The account. It takes no memory.
+    pub fn account(&self) -> &Account
+        ensures { result.now ≡ self.now.candidate.account }
+    {
+        &self.account
+    }
+}

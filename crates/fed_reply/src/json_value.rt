@@ -1,0 +1,163 @@
+//! The JSON value of a reply.
+ghost use Rattle.std.specs.Prelude.{◌≡◌};
+ghost use Rattle.std.specs.List.{list_all};
+ghost use Rattle.std.specs.Option.{option_copied};
+ghost use Rattle.httparse.specs.Grammar as grammar;
+ghost use Rattle.fed_json.specs.Part.{data_at};
+ghost use Rattle.fed_io.specs.Fault.{AnswersBy};
+ghost use Rattle.fed_reply.specs.Json as spec;
+
+use crate::fields::is_in_any_case;
+use crate::{Reply, ReplyStep, read_reply};
+use fed_io::{Fault, NoRoom, place_of, trim};
+use fed_json::tape_of;
+use json::{Scratch, Tape};
+use std::alloc::Global;
+
+// The byte order mark of UTF-8.
+const MARK: [u8; 3] = [0xEF, 0xBB, 0xBF];
+
+/// What a value is read from: its reply, and memory for the reading. Both are lent to the tape.
+#[derive(Drop)]
+pub struct JsonBuffer {
+    reply: Option<Reply>,
+    scratch: Scratch,
+}
+
+impl JsonBuffer {
+    /// Nothing to read from. It takes no memory.
+    pub fn new(alloc: Global) -> JsonBuffer {
+        JsonBuffer {
+            reply: None,
+            scratch: Scratch::new(alloc),
+        }
+    }
+}
+
+/// The tape of the JSON value of a reply of the class 2xx whose first content type is JSON (WHATWG
+/// MIME Sniffing, 4.6); one byte order mark before it is dropped. The steps are `Status`, `Mime` and
+/// `Json`, in this order.
+pub fn json_of<'a>(
+    alloc: Global,
+    reply: Reply,
+    buffer: &'a mut JsonBuffer,
+) -> Result<Tape<'a>, Fault<ReplyStep>>
+    ensures { AnswersBy data_at result (spec.JsonOf reply) }
+{
+    reply_tape(alloc, buffer.reply.insert(reply), &mut buffer.scratch)
+}
+
+/// The tape of the JSON value that the bytes of a reply carry. The steps are those of `read_reply`,
+/// and then those of `json_of`.
+pub fn read_json<'a>(
+    alloc: Global,
+    raw: &[u8],
+    buffer: &'a mut JsonBuffer,
+) -> Result<Tape<'a>, Fault<ReplyStep>>
+    ensures { AnswersBy data_at result (spec.ReplyJsonOf raw.now) }
+{
+    match read_reply(alloc, raw) {
+        Ok(reply) => json_of(alloc, reply, buffer),
+        Err(fault) => Err(fault),
+    }
+}
+
+// The tape of the JSON value of a reply.
+#[tactic(auto, unfolding(crate::specs::Json::JsonOf))]
+fn reply_tape<'a>(
+    alloc: Global,
+    reply: &'a Reply,
+    scratch: &'a mut Scratch,
+) -> Result<Tape<'a>, Fault<ReplyStep>>
+    ensures { AnswersBy data_at result (spec.JsonOf reply.now) }
+{
+    if !(200..300).contains(&reply.status()) {
+        return Err(Fault::Step(ReplyStep::Status));
+    }
+    if !is_json_type(reply.field("content-type", 0)) {
+        return Err(Fault::Step(ReplyStep::Mime));
+    }
+    match tape_of(alloc, scratch, after_mark(reply.body())) {
+        Ok(Some(tape)) => Ok(tape),
+        Ok(None) => Err(Fault::Step(ReplyStep::Json)),
+        Err(NoRoom) => Err(Fault::NoRoom),
+    }
+}
+
+// The bytes without a byte order mark before them.
+fn after_mark(body: &[u8]) -> &[u8]
+    ensures { result.now ≡ spec.without_mark body.now }
+{
+    body.strip_prefix(MARK.as_slice()).unwrap_or(body)
+}
+
+// Whether a content type is there and names JSON.
+fn is_json_type(value: Option<&[u8]>) -> bool
+    ensures { result ≡ spec.is_json_type (option_copied value.entry) }
+{
+    match value {
+        Some(value) => is_json_media(essence(value)),
+        None => false,
+    }
+}
+
+/// What a field's value says before its parameters: the part up to the first `;`, without spaces and tabs at its ends
+/// (RFC 9110, 5.6.6). It takes no memory.
+pub fn essence(value: &[u8]) -> &[u8]
+    ensures { result.now ≡ spec.essence value.now }
+{
+    match place_of(b';', value) {
+        Some(at) => trim(&value[..at]),
+        None => trim(value),
+    }
+}
+
+// Whether the media type is two tokens round a slash that name JSON.
+#[tactic(auto, unfolding(crate::specs::Json::is_json_media))]
+fn is_json_media(media: &[u8]) -> bool
+    ensures { result ≡ spec.is_json_media media.now }
+{
+    let Some(slash) = place_of(b'/', media) else {
+        return false;
+    };
+    let subtype = &media[slash + 1..];
+    is_token(&media[..slash]) && is_token(subtype) && names_json(media, subtype)
+}
+
+// Whether the media type with that subtype names JSON.
+fn names_json(media: &[u8], subtype: &[u8]) -> bool
+    ensures { result ≡ spec.names_json media.now subtype.now }
+{
+    is_in_any_case(media, b"application/json")
+        || is_in_any_case(media, b"text/json")
+        || has_json_suffix(subtype)
+}
+
+// Whether the last five bytes are `+json`, in any case.
+fn has_json_suffix(subtype: &[u8]) -> bool
+    ensures { result ≡ spec.has_json_suffix subtype.now }
+{
+    let start = subtype.len().saturating_sub(5);
+    is_in_any_case(&subtype[start..], b"+json")
+}
+
+// Whether the bytes are a token (RFC 9110, 5.6.2).
+fn is_token(bytes: &[u8]) -> bool
+    ensures { result ≡ grammar.is_token bytes.now }
+{
+    !bytes.is_empty() && has_token_bytes(bytes)
+}
+
+// Whether each byte is one of a token.
+fn has_token_bytes(bytes: &[u8]) -> bool
+    ensures { result ≡ list_all grammar.is_token_byte bytes.now }
+{
+    bytes.iter().all(|byte| is_token_byte(*byte))
+}
+
+#[tactic(auto, unfolding(httparse::specs::Grammar::is_token_byte))]
+fn is_token_byte(byte: u8) -> bool
+    ensures { result ≡ grammar.is_token_byte byte }
+{
+    byte.is_ascii_alphanumeric() || b"!#$%&'*+-.^_`|~".contains(&byte)
+}

@@ -1,0 +1,34 @@
+-- The accounts of which a permission is kept, by pairs.
+use Rattle.std.specs.Prelude.{◌≡◌, ℕ, Bool, false, cond, nat_eq, List, [], Option}
+use Rattle.std.specs.List.{list_any}
+use Rattle.std.specs.Map.{lookup}
+use Rattle.std.specs.Option.{option_map_or}
+use Rattle.indexmap.specs.IndexSet.{IndexSet}
+use Rattle.fed_status.specs.declared.place.Pair.{Pair}
+use Rattle.fed_status.specs.declared.place.Place.{Place}
+use Rattle.fed_status.specs.Place.{same_place, same_pair, pair_at, is_at_pair}
+
+module _ {S : Type 0} where
+  -- the accounts in a set, none where there is no set
+  abbrev pub accounts_in : Option (IndexSet ℕ S) → List ℕ
+  accounts_in set = option_map_or (λ accounts. accounts.keys) set []
+
+  -- the accounts of a pair
+  abbrev pub accounts_of : List (Pair × IndexSet ℕ S) → Pair → List ℕ
+  accounts_of pairs pair = accounts_in (lookup (same_pair pair) pairs)
+
+  -- the account is among those of its pair
+  abbrev pub is_listed : List (Pair × IndexSet ℕ S) → Place → Bool
+  is_listed pairs place = list_any (nat_eq place.account) (accounts_of pairs (pair_at place))
+
+  -- the same accounts are listed
+  abbrev pub ListsSame : List (Pair × IndexSet ℕ S) → List (Pair × IndexSet ℕ S) → Type 0
+  ListsSame old new = (place : Place) → is_listed new place ≡ is_listed old place
+
+  -- of one account it changes to `there` whether it is listed
+  abbrev pub ListsOne : Place → Bool → List (Pair × IndexSet ℕ S) → List (Pair × IndexSet ℕ S) → Type 0
+  ListsOne one there old new = (place : Place) → is_listed new place ≡ cond (same_place one place) there (is_listed old place)
+
+  -- the accounts of one pair are listed no longer
+  abbrev pub ListsNone : Pair → List (Pair × IndexSet ℕ S) → List (Pair × IndexSet ℕ S) → Type 0
+  ListsNone pair old new = (place : Place) → is_listed new place ≡ cond (is_at_pair pair place) false (is_listed old place)
