@@ -26,13 +26,13 @@ text_then None more = more
 text_then (Some text) more = text ∷ more
 
 -- the texts among the items
-abbrev pub texts_of : Items → List (List ℕ)
-texts_of no_items = []
-texts_of (item d ds) = text_then (as_str d) (texts_of ds)
+abbrev pub item_texts : Items → List (List ℕ)
+item_texts no_items = []
+item_texts (item d ds) = text_then (as_str d) (item_texts ds)
 
 abbrev pub some_texts : Option Items → List (List ℕ)
 some_texts None = []
-some_texts (Some ds) = texts_of ds
+some_texts (Some ds) = item_texts ds
 
 -- the texts among the items of the value here
 abbrev pub texts_at : List Token → List (List ℕ)

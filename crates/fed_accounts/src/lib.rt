@@ -15,6 +15,3 @@ pub use connection::{connected, eligible, reselect};
 pub use hints::keep_hinted;
 pub use read::{read_accounts, read_hinted};
 pub use step::AccountsStep;
-
-#[cfg(test)]
-mod tests;

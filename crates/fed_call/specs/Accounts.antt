@@ -2,6 +2,7 @@
 use Rattle.std.specs.Prelude.{ℕ, Bool, true, false, List, map, Option, Some, None, Result, Ok, Err}
 use Rattle.url.specs.Parts.{Parts}
 use Rattle.fed_origin.specs.declared.origin.Origin.{Origin}
+use Rattle.fed_origin.specs.declared.options.Mediation.{Mediation}
 use Rattle.fed_origin.specs.declared.options.ProviderOptions.{ProviderOptions}
 use Rattle.fed_origin.specs.declared.status.Triple.{Triple}
 use Rattle.fed_origin.specs.WebUrl.{origin_of}
@@ -11,9 +12,10 @@ use Rattle.fed_accounts.specs.declared.step.AccountsStep.{AccountsStep}
 use Rattle.fed_accounts.specs.Connection.{Connected}
 use Rattle.fed_accounts.specs.Hints.{Hinted}
 use Rattle.fed_accounts.specs.Read.{AccountsOf}
+use Rattle.fed_status.specs.Flags.{has_flag}
 use Rattle.fed_status.specs.Kept.{has_triple, triple_of}
 use Rattle.fed_status.specs.Shared.{World}
-use Rattle.fed_consent.specs.Consent.{Listed, Candidate}
+use Rattle.fed_consent.specs.Consent.{Listed, Candidate, Grounds, grounds_of}
 
 -- the accounts in the reply `raw` that the hints of the call ask for, or the first step
 unfoldable pub accounts_of : List ℕ → ProviderOptions → Result (List Account) AccountsStep
@@ -21,13 +23,24 @@ accounts_of raw provider = do
   accounts ← AccountsOf raw
   Hinted accounts provider.login_hint provider.domain_hint
 
+-- the permission of an account of the provider's origin at pages of an origin is kept
+abbrev pub is_kept : List Triple → Origin → Origin → Account → Bool
+is_kept kept page provider account = has_triple kept (triple_of page provider account.id)
+
 -- an account of the provider's origin is connected to the client at pages of an origin, by the permissions that are kept
 abbrev pub is_connected : List Triple → Origin → Origin → List ℕ → Account → Bool
-is_connected kept page provider client account = Connected account client (has_triple kept (triple_of page provider account.id))
+is_connected kept page provider client account = Connected account client (is_kept kept page provider account)
 
 -- the same by the permissions that are kept now, of a provider of a call
 abbrev pub connects : World → Origin → ProviderOptions → Account → Bool
 connects world page provider account = is_connected world.kept page (origin_of provider.config) provider.client account
+
+-- what the rules of reselection look at: the call of this number and mediation, by a page of this origin, and these accounts of
+-- its provider at a place
+abbrev pub grounds_at : World → ℕ → Origin → Mediation → ℕ → ProviderOptions → List Account → Grounds
+grounds_at world call page mediation place provider accounts =
+    grounds_of call place accounts provider.client (map (is_kept world.kept page (origin_of provider.config)) accounts)
+    (has_flag world.flags page) mediation
 
 -- each of these accounts, with its connection
 abbrev pub listed_of : World → Origin → ProviderOptions → List Account → Listed

@@ -19,9 +19,9 @@ use Rattle.fed_accounts.specs.declared.step.AccountsStep.{AccountsStep}
 use Rattle.fed_status.specs.Shared.{World}
 use Rattle.fed_consent.specs.declared.table.input.Input.{Input}
 use Rattle.fed_consent.specs.declared.table.input.Input.TheVariants.{Reply, Choose}
-use Rattle.fed_consent.specs.Consent.{Listed, Candidate, chosen}
+use Rattle.fed_consent.specs.Consent.{Listed, Candidate, Pick, chosen, reselection_on}
 use Rattle.fed_consent.specs.Outcomes.{Outcome, is_ignored}
-use Rattle.fed_call.specs.Accounts.{accounts_of, listed_of, candidate_of, needs_metadata}
+use Rattle.fed_call.specs.Accounts.{accounts_of, grounds_at, listed_of, candidate_of, needs_metadata}
 
 pub record Facts : Type 0 where
   -- its number, and that of its page
@@ -101,29 +101,48 @@ with_candidate candidate facts =
       waits = needs_metadata candidate.connected (metadata_endpoint facts.config);
     }
 
--- these accounts came: the call is about the only one, or the user is to choose among several
-abbrev pub with_accounts : World → ProviderOptions → List Account → Facts → Facts
-with_accounts world provider [] facts = facts
-with_accounts world provider (only ∷ []) facts = with_candidate (candidate_of world facts.origin provider only) facts
-with_accounts world provider (first ∷ second ∷ more) facts =
+-- the account of the provider at this place that is signed in again without the user, if the rules name one
+abbrev pub reselected : World → Facts → ℕ → ProviderOptions → List Account → Option Pick
+reselected world facts place provider accounts =
+    reselection_on (grounds_at world facts.call facts.origin facts.options.mediation place provider accounts)
+
+-- the call is about this account, which was reselected
+abbrev pub with_reselected : Pick → Facts → Facts
+with_reselected pick facts = record facts { picked = Some pick.candidate; auto = true }
+
+-- these accounts are offered: the call is about the only one, or the user is to choose among several
+abbrev pub with_offer : World → ProviderOptions → List Account → Facts → Facts
+with_offer world provider [] facts = facts
+with_offer world provider (only ∷ []) facts = with_candidate (candidate_of world facts.origin provider only) facts
+with_offer world provider (first ∷ second ∷ more) facts =
     record facts { listed = Some (listed_of world facts.origin provider (first ∷ second ∷ more)) }
 
+-- by the account that is reselected, if there is one
+abbrev pub by_account : World → ProviderOptions → List Account → Option Pick → Facts → Facts
+by_account world provider accounts None facts = with_offer world provider accounts facts
+by_account world provider accounts (Some pick) facts = with_reselected pick facts
+
+-- these accounts of the provider at this place came
+abbrev pub with_accounts : World → ℕ → ProviderOptions → List Account → Facts → Facts
+with_accounts world place provider accounts facts =
+    by_account world provider accounts (reselected world facts place provider accounts) facts
+
 -- the same by what was read
-abbrev pub with_list : World → ProviderOptions → Result (List Account) AccountsStep → Facts → Facts
-with_list world provider (Err step) facts = facts
-with_list world provider (Ok accounts) facts = with_accounts world provider accounts facts
+abbrev pub with_list : World → ℕ → ProviderOptions → Result (List Account) AccountsStep → Facts → Facts
+with_list world place provider (Err step) facts = facts
+with_list world place provider (Ok accounts) facts = with_accounts world place provider accounts facts
 
 -- the same by the reply, if the call has its provider
-abbrev pub with_listing : World → List ℕ → Option ProviderOptions → Facts → Facts
-with_listing world raw None facts = facts
-with_listing world raw (Some provider) facts = with_list world provider (accounts_of raw provider) facts
+abbrev pub with_listing : World → List ℕ → ℕ → Option ProviderOptions → Facts → Facts
+with_listing world raw place None facts = facts
+with_listing world raw place (Some provider) facts = with_list world place provider (accounts_of raw provider) facts
 
 -- what a reply of this kind says, which came for the provider at this place
 abbrev pub with_reply : World → ℕ → ReplyKind → List ℕ → Facts → Facts
 with_reply world place kinds.WellKnown raw facts = record facts { heard = true }
 with_reply world place kinds.Config raw facts =
     record facts { config = option_and_then result_ok (config_read raw (provider_at place facts.options)) }
-with_reply world place kinds.Accounts raw facts = with_listing world raw (provider_at place facts.options) facts
+with_reply world place kinds.Accounts raw facts = with_listing world raw place (provider_at place facts.options) facts
 with_reply world place kinds.Metadata raw facts = record facts { waits = false }
 with_reply world place kinds.Assertion raw facts = facts
 with_reply world place kinds.Disconnect raw facts = facts

@@ -25,13 +25,15 @@ use Rattle.fed_consent.specs.declared.table.dialog.Dialog.TheVariants as dialogs
 use Rattle.fed_consent.specs.declared.table.dialog.Shown.{Shown}
 use Rattle.fed_consent.specs.declared.table.effect.Effect.{Effect}
 use Rattle.fed_consent.specs.declared.table.effect.Effect.TheVariants.{Send, Dialog, SetLogin}
+use Rattle.fed_consent.specs.declared.table.failure.FailStep.TheVariants as steps
 use Rattle.fed_consent.specs.declared.table.failure.Failure.{Failure}
 use Rattle.fed_consent.specs.declared.table.why.Why.TheVariants.{NotWaited}
-use Rattle.fed_consent.specs.Consent.{Listed, Candidate}
+use Rattle.fed_consent.specs.Consent.{Listed, Candidate, Pick, by_reselection}
 use Rattle.fed_call.specs.Accounts.{accounts_of, listed_of, candidate_of}
-use Rattle.fed_call.specs.Facts.{Facts, metadata_endpoint}
+use Rattle.fed_call.specs.AssertingRows.{asserts}
+use Rattle.fed_call.specs.Facts.{Facts, metadata_endpoint, reselected}
 use Rattle.fed_consent.specs.Outcomes.{Outcome, fails, ignored, stays, moves, after}
-use Rattle.fed_consent.specs.Failures.{accounts_failure}
+use Rattle.fed_consent.specs.Failures.{accounts_failure, plain}
 
 -- ---- dialogs
 
@@ -118,10 +120,24 @@ offers world facts place provider (only ∷ []) =
 offers world facts place provider (first ∷ second ∷ more) =
     moves stages.Choosing (choice_dialog world facts place (listed_of world facts.origin provider (first ∷ second ∷ more)))
 
+-- no account is reselected: a silent call fails (row C18)
+abbrev pub unless_silent : Mediation → Outcome → Outcome
+unless_silent Silent offered = fails (plain steps.SilentNoAccount)
+unless_silent Optional offered = offered
+unless_silent Required offered = offered
+
+-- by the account that is reselected, if there is one (row C17)
+abbrev pub by_reselected : World → Facts → ℕ → ProviderOptions → List Account → Option Pick → Outcome
+by_reselected world facts place provider accounts None =
+    unless_silent facts.options.mediation (offers world facts place provider accounts)
+by_reselected world facts place provider accounts (Some pick) =
+    asserts facts place (Some provider) facts.config (by_reselection pick)
+
 -- good accounts: the user is logged in at the provider
 abbrev pub accepted : World → Facts → ℕ → ProviderOptions → List Account → Outcome
 accepted world facts place provider accounts =
-    after (SetLogin (origin_of provider.config) LoggedIn) (offers world facts place provider accounts)
+    after (SetLogin (origin_of provider.config) LoggedIn)
+    (by_reselected world facts place provider accounts (reselected world facts place provider accounts))
 
 -- the first accounts reply, by what was read
 abbrev pub by_accounts : World → Facts → ℕ → ProviderOptions → Result (List Account) AccountsStep → Outcome

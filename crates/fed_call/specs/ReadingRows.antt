@@ -4,6 +4,8 @@ use Rattle.url.specs.Parts.{Parts}
 use Rattle.fed_origin.specs.declared.origin.Origin.{Origin}
 use Rattle.fed_origin.specs.declared.options.GetOptions.{GetOptions}
 use Rattle.fed_origin.specs.declared.options.ProviderOptions.{ProviderOptions}
+use Rattle.fed_origin.specs.declared.options.Mediation.{Mediation}
+use Rattle.fed_origin.specs.declared.options.Mediation.TheVariants.{Silent, Optional, Required}
 use Rattle.fed_origin.specs.declared.options.Mode.{Mode}
 use Rattle.fed_origin.specs.declared.options.Mode.TheVariants.{Passive, Active}
 use Rattle.fed_origin.specs.declared.scheme.Scheme.{Scheme}
@@ -23,6 +25,7 @@ use Rattle.fed_provider.specs.declared.first_replies.Heard.TheVariants.{Refused,
 use Rattle.fed_provider.specs.FirstReplies as first_replies
 use Rattle.fed_provider.specs.FirstReplies.{config_read, wellknown_of}
 use Rattle.fed_provider.specs.WellKnown.{WellKnownUrlOf}
+use Rattle.fed_status.specs.Flags.{has_flag}
 use Rattle.fed_status.specs.Login.{status_of}
 use Rattle.fed_status.specs.Shared.{World}
 use Rattle.fed_consent.specs.declared.table.ask.Ask.TheVariants.{WellKnown, Config, Accounts}
@@ -37,6 +40,12 @@ use Rattle.fed_consent.specs.Failures.{plain, provider_failure}
 
 -- ---- a get, from row C2 on
 
+-- the call is silent, and the flag of its page's origin is set
+abbrev pub is_prevented : Mediation → Bool → Bool
+is_prevented Silent flag = flag
+is_prevented Optional flag = false
+is_prevented Required flag = false
+
 -- the call is passive, and the user is logged out at the provider
 abbrev pub is_gated : Mode → LoginStatus → Bool
 is_gated Passive LoggedOut = true
@@ -50,26 +59,32 @@ by_gate place config wellknown true = fails (plain steps.LoggedOut)
 by_gate place config wellknown false =
     record { effects = Send place (WellKnown wellknown) ∷ Send place (Config config) ∷ []; stage = Some Reading }
 
+-- by whether silent access is prevented (row C5)
+abbrev pub by_silence : ℕ → Parts → Parts → Bool → Bool → Outcome
+by_silence place config wellknown true gated = fails (plain steps.SilentPrevented)
+by_silence place config wellknown false gated = by_gate place config wellknown gated
+
 -- by the well-known URL, if there is one (row C4)
-abbrev pub by_site : ℕ → Parts → Result Parts ProviderStep → Bool → Outcome
-by_site place config (Err step) gated = fails (plain steps.NoSite)
-by_site place config (Ok wellknown) gated = by_gate place config wellknown gated
+abbrev pub by_site : ℕ → Parts → Result Parts ProviderStep → Bool → Bool → Outcome
+by_site place config (Err step) prevented gated = fails (plain steps.NoSite)
+by_site place config (Ok wellknown) prevented gated = by_silence place config wellknown prevented gated
 
 -- by the scheme of the configuration URL (row C2)
-abbrev pub by_scheme : ℕ → Scheme → Parts → Result Parts ProviderStep → Bool → Outcome
-by_scheme place Http config wellknown gated = fails (plain steps.ConfigScheme)
-by_scheme place Https config wellknown gated = by_site place config wellknown gated
+abbrev pub by_scheme : ℕ → Scheme → Parts → Result Parts ProviderStep → Bool → Bool → Outcome
+by_scheme place Http config wellknown prevented gated = fails (plain steps.ConfigScheme)
+by_scheme place Https config wellknown prevented gated = by_site place config wellknown prevented gated
 
--- by the provider at this place, if the call has it
-abbrev pub start_at : World → Mode → ℕ → Option ProviderOptions → Outcome
-start_at world mode place None = stays
-start_at world mode place (Some provider) =
+-- by the provider at this place, if the call of a page of this origin has it
+abbrev pub start_at : World → Origin → GetOptions → ℕ → Option ProviderOptions → Outcome
+start_at world origin options place None = stays
+start_at world origin options place (Some provider) =
     by_scheme place (scheme_of provider.config) provider.config (WellKnownUrlOf world.rules provider.config)
-    (is_gated mode (status_of world.login (origin_of provider.config)))
+    (is_prevented options.mediation (has_flag world.flags origin))
+    (is_gated options.mode (status_of world.login (origin_of provider.config)))
 
 -- a get of a page of this origin that no earlier row fails
 abbrev pub start_row : World → Origin → GetOptions → Outcome
-start_row world origin options = start_at world options.mode only_place (provider_at only_place options)
+start_row world origin options = start_at world origin options only_place (provider_at only_place options)
 
 -- ---- replies in Reading, for the provider at a place
 

@@ -4,14 +4,14 @@ ghost use Rattle.fed_origin.specs.WebUrl.{origin_of};
 ghost use Rattle.fed_call.specs.Accounts as spec;
 
 use crate::begun::Call;
-use fed_accounts::{Account, Accounts, AccountsStep, connected, read_hinted};
+use fed_accounts::{Account, Accounts, AccountsStep, connected, keep_hinted, read_accounts};
 use fed_io::{Fault, Items, NoRoom, Text};
 use fed_origin::{Origin, ProviderOptions};
 use fed_status::KeptSet;
 use std::alloc::Global;
 
 /// The accounts in an accounts reply that the hints of the call ask for, or the step at which they are refused.
-#[tactic(auto, unfolding(crate::specs::Accounts::accounts_of, fed_accounts::specs::Hints::HintedOf))]
+#[tactic(auto, unfolding(crate::specs::Accounts::accounts_of))]
 pub fn hinted_accounts(
     alloc: Global,
     raw: &[u8],
@@ -19,13 +19,54 @@ pub fn hinted_accounts(
 ) -> Result<Result<Accounts, AccountsStep>, NoRoom>
     ensures { IfOk result (λ read. read ≡ spec.accounts_of raw.now provider.now) }
 {
+    let accounts = match read_accounts(alloc, raw) {
+        Ok(accounts) => accounts,
+        Err(Fault::Step(step)) => return Ok(Err(step)),
+        Err(Fault::NoRoom) => return Err(NoRoom),
+    };
     let login = provider.login_hint.as_ref();
     let domain = provider.domain_hint.as_ref();
-    match read_hinted(alloc, raw, login, domain) {
+    match keep_hinted(alloc, accounts, login, domain) {
         Ok(accounts) => Ok(Ok(accounts)),
         Err(Fault::Step(step)) => Ok(Err(step)),
         Err(Fault::NoRoom) => Err(NoRoom),
     }
+}
+
+// Of each of these accounts of the provider's origin, in their order, whether its permission at pages of an origin is kept.
+fn kept_at(
+    alloc: Global,
+    kept: &KeptSet,
+    page: &Origin,
+    provider: &Origin,
+    accounts: &[Account],
+) -> Result<Items<bool>, NoRoom>
+    ensures { IfOk result (λ all. all ≡ map (spec.is_kept kept.now page.now provider.now) accounts.now) }
+{
+    let mut all = Items::new(alloc);
+    for account in accounts {
+        all.push(kept.has(page, provider, &account.id))?;
+    }
+    Ok(all)
+}
+
+/// Of each of these accounts of the call's provider, in their order, whether its permission is kept.
+pub fn kept_each(
+    alloc: Global,
+    kept: &KeptSet,
+    begun: &Call,
+    accounts: &[Account],
+) -> Result<Items<bool>, NoRoom>
+    ensures { IfOk result (λ all. all ≡ map (spec.is_kept kept.now begun.now.origin (origin_of begun.now.provider.config))
+        accounts.now) }
+{
+    kept_at(
+        alloc,
+        kept,
+        &begun.origin,
+        begun.provider_origin(),
+        accounts,
+    )
 }
 
 // Whether an account of the provider's origin is connected to the client at pages of an origin.

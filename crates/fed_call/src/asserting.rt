@@ -1,5 +1,5 @@
 //! A call whose token is awaited.
-ghost use Rattle.std.specs.Prelude.{◌≡◌, ◌∷◌, [], Some, None, false, IfOk};
+ghost use Rattle.std.specs.Prelude.{◌≡◌, ◌∷◌, [], Some, None, Ok, false, IfOk};
 ghost use Rattle.fed_consent.specs.declared.table.input.Input.TheVariants as inputs;
 ghost use Rattle.fed_consent.specs.Consent.{assertion_fields};
 ghost use Rattle.fed_call.specs.AssertingRows as spec;
@@ -7,17 +7,17 @@ ghost use Rattle.fed_call.specs.Begun.{options_of};
 ghost use Rattle.fed_call.specs.Facts.{provider_at};
 ghost use Rattle.fed_call.specs.Row.{input_facts, input_row, stage_reply};
 ghost use Rattle.fed_call.specs.State.{begun_facts, facts_of, asserting_facts};
-ghost use Rattle.fed_origin.specs.Origin.{origin_text};
+ghost use Rattle.fed_origin.specs.WebUrl.{origin_of};
 ghost use Rattle.fed_status.specs.Shared.{world_of};
-ghost use Rattle.fed_token.specs.Read.{AssertionOf};
+ghost use Rattle.fed_status.specs.Kept.{triple_of};
 
-use crate::CallState;
 use crate::begun::Call;
 use crate::effects::finishes;
+use crate::{CallState, Ended};
 use fed_accounts::Account;
 use fed_consent::{Ask, Consent, Detail, Effect, FailStep, Failure, Finish, Input, Why};
-use fed_io::{Fault, Items, NoRoom};
-use fed_origin::{Origin, ReplyKind, Stage};
+use fed_io::{Fault, Items, NoRoom, Text};
+use fed_origin::{ReplyKind, Stage, Triple};
 use fed_provider::Config;
 use fed_status::Shared;
 use fed_token::{TokenStep, read_assertion};
@@ -117,7 +117,7 @@ impl Asserting {
         CallState::Asserting(self).ignores(alloc, Why::NotWaited)
     }
 
-    // The assertion reply of the provider at this place.
+    // The assertion reply of the provider at this place: a token (row C32), or a step (row C33).
     fn answered(
         self,
         alloc: Global,
@@ -128,45 +128,49 @@ impl Asserting {
             raw.now).effects) }
         ensures state { IfOk result (λ r. facts_of r.0 ≡ None) }
     {
-        ended(alloc, &self.begun.origin, self.auto, place, raw)
+        match read_assertion(alloc, raw, &self.begun.origin) {
+            Ok(token) => self.signs_in(alloc, place, token),
+            Err(Fault::Step(step)) => finishes(alloc, token_refused(step)),
+            Err(Fault::NoRoom) => Err(NoRoom),
+        }
     }
-}
 
-// The page of this origin gets what the reply says, and the call is over.
-fn ended(
-    alloc: Global,
-    origin: &Origin,
-    auto: bool,
-    place: u32,
-    raw: &[u8],
-) -> Result<(CallState, Items<Effect>), NoRoom>
-    ensures effects { IfOk result (λ r. r.1 ≡ Effect.Finish (spec.token_given auto place (AssertionOf raw.now (origin_text origin.now)))
-        ∷ []) }
-    ensures state { IfOk result (λ r. facts_of r.0 ≡ None) }
-{
-    let finish = token_given(alloc, origin, auto, place, raw)?;
-    finishes(alloc, finish)
-}
-
-// What the page of this origin gets by the reply: the token, the step at which the reply is refused, or the provider's error.
-fn token_given(
-    alloc: Global,
-    origin: &Origin,
-    auto: bool,
-    place: u32,
-    raw: &[u8],
-) -> Result<Finish, NoRoom>
-    ensures { IfOk result (λ finish. finish ≡ spec.token_given auto place (AssertionOf raw.now (origin_text origin.now))) }
-{
-    match read_assertion(alloc, raw, origin) {
-        Ok(token) => Ok(Finish::Token {
+    // The page gets the token. The permission of the account is kept from now on, and silent access is prevented no longer where
+    // the user took part.
+    fn signs_in(
+        self,
+        alloc: Global,
+        place: u32,
+        token: Text,
+    ) -> Result<(CallState, Items<Effect>), NoRoom>
+        ensures effects { IfOk result (λ r. r.1 ≡ (spec.by_token (asserting_facts self) place self.begun.provider (Ok token)).effects) }
+        ensures state { IfOk result (λ r. facts_of r.0 ≡ None) }
+    {
+        let begun = &self.begun;
+        let auto = self.auto;
+        let mut effects = Effect::Keep(permission(alloc, begun, &self.account)?).alone(alloc)?;
+        if !auto {
+            effects.push(Effect::ClearFlag(begun.origin.copy(alloc)?))?;
+        }
+        effects.push(Effect::Finish(Finish::Token {
             auto,
             provider: place,
             token,
-        }),
-        Err(Fault::Step(step)) => Ok(token_refused(step)),
-        Err(Fault::NoRoom) => Err(NoRoom),
+        }))?;
+        Ok((CallState::Ended(Ended), effects))
     }
+}
+
+// The permission of an account of the call's provider.
+fn permission(alloc: Global, begun: &Call, account: &Account) -> Result<Triple, NoRoom>
+    ensures { IfOk result (λ triple. triple
+        ≡ triple_of begun.now.origin (origin_of begun.now.provider.config) account.now.id) }
+{
+    Ok(Triple {
+        page: begun.origin.copy(alloc)?,
+        provider: begun.provider_origin().copy(alloc)?,
+        account: account.id.copy(alloc)?,
+    })
 }
 
 // What the page gets where the reply is refused, or gives an error (row C33).
@@ -184,19 +188,19 @@ fn token_refused(step: TokenStep) -> Finish
     }
 }
 
-// The request for a token, on which the consent is spent; on want of memory it is voided.
-fn assertion_request(
+/// The request for a token, on which the consent is spent; on want of memory it is voided.
+pub fn assertion_request(
     alloc: Global,
     begun: &Call,
     config: &Config,
     place: u32,
     consent: Consent,
-) -> Result<Items<Effect>, NoRoom>
-    ensures { IfOk result (λ effects. effects ≡ Effect.Send place (Ask.Assertion
-        (assertion_fields consent config.now.assertion begun.now.origin begun.now.provider)) ∷ []) }
+) -> Result<Effect, NoRoom>
+    ensures { IfOk result (λ effect. effect ≡ Effect.Send place (Ask.Assertion
+        (assertion_fields consent config.now.assertion begun.now.origin begun.now.provider))) }
 {
     match consent.spend(alloc, &config.assertion, &begun.origin, &begun.provider) {
-        Ok(ask) => Effect::Send(place, ask).alone(alloc),
+        Ok(ask) => Ok(Effect::Send(place, ask)),
         Err((NoRoom, consent)) => {
             consent.void();
             Err(NoRoom)
@@ -219,7 +223,8 @@ pub fn asserts(
     ensures state { IfOk result (λ r. r.0 ≡ CallState.Asserting (record
         { begun = begun; config = config; account = account; connected = connected; auto = false })) }
 {
-    let effects = assertion_request(alloc, &begun, &config, place, consent)?;
+    let effect = assertion_request(alloc, &begun, &config, place, consent)?;
+    let effects = effect.alone(alloc)?;
     let state = Asserting {
         begun,
         config,

@@ -3,12 +3,8 @@
 
 mod accounts;
 mod asserting;
-#[cfg(test)]
-mod assertion_tests;
 mod begun;
 mod choosing;
-#[cfg(test)]
-mod dialog_tests;
 mod dialogs;
 mod effects;
 mod listing;
@@ -17,12 +13,6 @@ mod prompting;
 mod reading;
 mod start;
 mod state;
-#[cfg(test)]
-mod test_calls;
-#[cfg(test)]
-mod test_replies;
-#[cfg(test)]
-mod tests;
 
 pub use asserting::Asserting;
 pub use choosing::Choosing;

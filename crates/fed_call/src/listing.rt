@@ -1,22 +1,27 @@
 //! A call whose accounts are awaited.
-ghost use Rattle.std.specs.Prelude.{◌≡◌, ◌<◌, ◌≤◌, ◌∷◌, [], Some, IfOk, length, map, unwrap_or};
+ghost use Rattle.std.specs.Prelude.{◌≡◌, ◌<◌, ◌≤◌, ◌∷◌, [], true, None, Some, IfOk, length, map, unwrap_or};
 ghost use Rattle.fed_origin.specs.WebUrl.{origin_of};
 ghost use Rattle.fed_consent.specs.declared.table.input.Input.TheVariants as inputs;
 ghost use Rattle.fed_call.specs.Accounts.{connects};
 ghost use Rattle.fed_call.specs.Begun.{options_of};
-ghost use Rattle.fed_call.specs.Facts.{at_stage, provider_at, with_accounts, with_listing};
+ghost use Rattle.fed_call.specs.AssertingRows.{asserts};
+ghost use Rattle.fed_call.specs.Facts.{at_stage, provider_at, with_accounts, with_listing, with_offer, with_reselected};
+ghost use Rattle.fed_consent.specs.Consent.{by_reselection};
 ghost use Rattle.fed_call.specs.ListingRows as spec;
 ghost use Rattle.fed_call.specs.Row.{input_facts, input_row, stage_reply};
 ghost use Rattle.fed_call.specs.State.{begun_facts, facts_of, listing_facts};
 ghost use Rattle.fed_status.specs.Login.{status_of};
 ghost use Rattle.fed_status.specs.Shared.{world_of};
 
-use crate::accounts::{connections, hinted_accounts};
+use crate::accounts::{connections, hinted_accounts, kept_each};
+use crate::asserting::assertion_request;
 use crate::begun::Call;
 use crate::dialogs::{choice_dialog, prompt_effect, site};
-use crate::{CallState, Choosing, Ended, Mismatch, Prompting};
-use fed_accounts::Accounts;
-use fed_consent::{Chooser, Dialog, Effect, Failure, Finish, Input, Prompt, Why};
+use crate::{Asserting, CallState, Choosing, Ended, Mismatch, Prompting};
+use fed_accounts::{Accounts, reselect};
+use fed_consent::{
+    Chooser, Dialog, Effect, FailStep, Failure, Finish, Input, Prompt, Reselection, Why,
+};
 use fed_io::{Items, NoRoom};
 use fed_origin::{LoginStatus, Mediation, Mode, ReplyKind, Stage};
 use fed_provider::Config;
@@ -122,7 +127,7 @@ impl Listing {
         ensures state { IfOk result (λ r. facts_of r.0
             ≡ at_stage (unwrap_or (spec.accounts_reply (world_of shared.now) (listing_facts self) place
             (Some self.begun.provider) raw.now).stage Stage.Listing)
-            (with_listing (world_of shared.now) raw.now (Some self.begun.provider) (listing_facts self))) }
+            (with_listing (world_of shared.now) raw.now place (Some self.begun.provider) (listing_facts self))) }
     {
         match hinted_accounts(alloc, raw, &self.begun.provider)? {
             Ok(accounts) => self.accepts(alloc, shared, place, accounts),
@@ -149,7 +154,7 @@ impl Listing {
         if is_mismatch(&self.begun, shared) {
             return self.shows_mismatch(alloc, shared, place, failure);
         }
-        let effects = failed(alloc, &self.begun, failure)?;
+        let effects = failed(alloc, &self.begun, LoginStatus::LoggedOut, failure)?;
         Ok((CallState::Ended(Ended), effects))
     }
 
@@ -170,7 +175,7 @@ impl Listing {
         Ok((CallState::Mismatch(Mismatch { begun, config }), effects))
     }
 
-    // The accounts are good: one is asked about (rows C20 and C21), among several the user chooses (row C19).
+    // The accounts are good: one is reselected (row C17), and else they are offered.
     fn accepts(
         self,
         alloc: Global,
@@ -183,7 +188,90 @@ impl Listing {
         ensures state { IfOk result (λ r. facts_of r.0
             ≡ at_stage (unwrap_or (spec.accepted (world_of shared.now) (listing_facts self) place
             self.begun.provider accounts).stage Stage.Listing)
-            (with_accounts (world_of shared.now) self.begun.provider accounts (listing_facts self))) }
+            (with_accounts (world_of shared.now) place self.begun.provider accounts (listing_facts self))) }
+    {
+        let kept = kept_each(alloc, shared.kept, &self.begun, accounts.list())?;
+        let flag = shared.flags.is_set(&self.begun.origin);
+        let client = &self.begun.provider.client;
+        let mediation = self.begun.mediation;
+        match reselect(&accounts, client, kept.as_slice(), flag, mediation) {
+            Some(account) => {
+                let call = self.begun.call;
+                let kept = kept.as_slice();
+                let reselection = Reselection::new(
+                    call, place, accounts, client, kept, flag, mediation, account,
+                );
+                self.reselects(alloc, place, reselection)
+            }
+            None => self.offers(alloc, shared, place, accounts),
+        }
+    }
+
+    // The token of the account that is reselected is asked for.
+    fn reselects(
+        self,
+        alloc: Global,
+        place: u32,
+        reselection: Reselection,
+    ) -> Result<(CallState, Items<Effect>), NoRoom>
+        requires { reselection.candidate.connected ≡ true }
+        ensures effects { IfOk result (λ r. r.1 ≡ Effect.SetLogin (origin_of self.begun.provider.config) LoginStatus.LoggedIn
+            ∷ (asserts (listing_facts self) place (Some self.begun.provider) (Some self.config) (by_reselection reselection)).effects) }
+        ensures state { IfOk result (λ r. facts_of r.0 ≡ at_stage Stage.Asserting (with_reselected reselection (listing_facts self))) }
+    {
+        let account = reselection.account().copy(alloc)?;
+        let Listing { begun, config } = self;
+        let provider = begun.provider_origin().copy(alloc)?;
+        let consent = reselection.proceed();
+        let effect = assertion_request(alloc, &begun, &config, place, consent)?;
+        let effects = Effect::SetLogin(provider, LoginStatus::LoggedIn).then(alloc, effect)?;
+        let state = Asserting {
+            begun,
+            config,
+            account,
+            connected: true,
+            auto: true,
+        };
+        Ok((CallState::Asserting(state), effects))
+    }
+
+    // No account is reselected: a silent call fails (row C18), and else the user is asked.
+    fn offers(
+        self,
+        alloc: Global,
+        shared: &Shared<'_>,
+        place: u32,
+        accounts: Accounts,
+    ) -> Result<(CallState, Items<Effect>), NoRoom>
+        ensures effects { IfOk result (λ r. r.1 ≡ Effect.SetLogin (origin_of self.begun.provider.config) LoginStatus.LoggedIn
+            ∷ (spec.by_reselected (world_of shared.now) (listing_facts self) place self.begun.provider accounts None).effects) }
+        ensures state { IfOk result (λ r. facts_of r.0
+            ≡ at_stage (unwrap_or (spec.by_reselected (world_of shared.now) (listing_facts self) place
+            self.begun.provider accounts None).stage Stage.Listing)
+            (with_offer (world_of shared.now) self.begun.provider accounts (listing_facts self))) }
+    {
+        if self.begun.mediation == Mediation::Silent {
+            let failure = Failure::plain(FailStep::SilentNoAccount);
+            let effects = failed(alloc, &self.begun, LoginStatus::LoggedIn, failure)?;
+            return Ok((CallState::Ended(Ended), effects));
+        }
+        self.asks(alloc, shared, place, accounts)
+    }
+
+    // One account is asked about (rows C20 and C21), among several the user chooses (row C19).
+    fn asks(
+        self,
+        alloc: Global,
+        shared: &Shared<'_>,
+        place: u32,
+        accounts: Accounts,
+    ) -> Result<(CallState, Items<Effect>), NoRoom>
+        ensures effects { IfOk result (λ r. r.1 ≡ Effect.SetLogin (origin_of self.begun.provider.config) LoginStatus.LoggedIn
+            ∷ (spec.offers (world_of shared.now) (listing_facts self) place self.begun.provider accounts).effects) }
+        ensures state { IfOk result (λ r. facts_of r.0
+            ≡ at_stage (unwrap_or (spec.offers (world_of shared.now) (listing_facts self) place
+            self.begun.provider accounts).stage Stage.Listing)
+            (with_offer (world_of shared.now) self.begun.provider accounts (listing_facts self))) }
     {
         let connected = connections(alloc, shared.kept, &self.begun, accounts.list())?;
         if accounts.list().len() == 1 {
@@ -204,12 +292,12 @@ impl Listing {
     ) -> Result<(CallState, Items<Effect>), NoRoom>
         requires one { length accounts ≡ 1 }
         requires each { connected ∷ [] ≡ map (connects (world_of shared.now) self.begun.origin self.begun.provider) accounts }
-        ensures effects { IfOk result (λ r. r.1 ≡ (spec.accepted (world_of shared.now) (listing_facts self) place self.begun.provider
-            accounts).effects) }
+        ensures effects { IfOk result (λ r. r.1 ≡ Effect.SetLogin (origin_of self.begun.provider.config) LoginStatus.LoggedIn
+            ∷ (spec.offers (world_of shared.now) (listing_facts self) place self.begun.provider accounts).effects) }
         ensures state { IfOk result (λ r. facts_of r.0
-            ≡ at_stage (unwrap_or (spec.accepted (world_of shared.now) (listing_facts self) place
+            ≡ at_stage (unwrap_or (spec.offers (world_of shared.now) (listing_facts self) place
             self.begun.provider accounts).stage Stage.Listing)
-            (with_accounts (world_of shared.now) self.begun.provider accounts (listing_facts self))) }
+            (with_offer (world_of shared.now) self.begun.provider accounts (listing_facts self))) }
     {
         let waits = !connected && self.config.metadata.is_some();
         let prompt = Prompt::single(self.begun.call, place, accounts, connected, waits);
@@ -234,12 +322,12 @@ impl Listing {
     ) -> Result<(CallState, Items<Effect>), NoRoom>
         requires several { 2 ≤ length accounts }
         requires each { connected ≡ map (connects (world_of shared.now) self.begun.origin self.begun.provider) accounts }
-        ensures effects { IfOk result (λ r. r.1 ≡ (spec.accepted (world_of shared.now) (listing_facts self) place self.begun.provider
-            accounts).effects) }
+        ensures effects { IfOk result (λ r. r.1 ≡ Effect.SetLogin (origin_of self.begun.provider.config) LoginStatus.LoggedIn
+            ∷ (spec.offers (world_of shared.now) (listing_facts self) place self.begun.provider accounts).effects) }
         ensures state { IfOk result (λ r. facts_of r.0
-            ≡ at_stage (unwrap_or (spec.accepted (world_of shared.now) (listing_facts self) place
+            ≡ at_stage (unwrap_or (spec.offers (world_of shared.now) (listing_facts self) place
             self.begun.provider accounts).stage Stage.Listing)
-            (with_accounts (world_of shared.now) self.begun.provider accounts (listing_facts self))) }
+            (with_offer (world_of shared.now) self.begun.provider accounts (listing_facts self))) }
     {
         let chooser = Chooser::new(self.begun.call, place, accounts, connected);
         let effects = choice_shown(alloc, shared, &self.begun, place, &chooser)?;
@@ -264,26 +352,18 @@ fn is_mismatch(begun: &Call, shared: &Shared<'_>) -> bool
         && was == LoginStatus::LoggedIn
 }
 
-// The status of the provider is set, and then this.
-fn with_status(
+// The status of the user at the provider, and the page gets the failure.
+fn failed(
     alloc: Global,
     begun: &Call,
     status: LoginStatus,
-    next: Effect,
+    failure: Failure,
 ) -> Result<Items<Effect>, NoRoom>
-    ensures { IfOk result (λ effects. effects ≡ Effect.SetLogin (origin_of begun.now.provider.config) status ∷ next ∷ []) }
-{
-    let provider = begun.provider_origin().copy(alloc)?;
-    Effect::SetLogin(provider, status).then(alloc, next)
-}
-
-// The user is logged out at the provider, and the page gets the failure.
-fn failed(alloc: Global, begun: &Call, failure: Failure) -> Result<Items<Effect>, NoRoom>
-    ensures { IfOk result (λ effects. effects ≡ Effect.SetLogin (origin_of begun.now.provider.config) LoginStatus.LoggedOut
+    ensures { IfOk result (λ effects. effects ≡ Effect.SetLogin (origin_of begun.now.provider.config) status
         ∷ Effect.Finish (Finish.Failed failure) ∷ []) }
 {
-    let finish = Effect::Finish(Finish::Failed(failure));
-    with_status(alloc, begun, LoginStatus::LoggedOut, finish)
+    let provider = begun.provider_origin().copy(alloc)?;
+    Effect::SetLogin(provider, status).then(alloc, Effect::Finish(Finish::Failed(failure)))
 }
 
 // The user is logged out, and is shown that the provider at this place gave no account.
@@ -297,12 +377,13 @@ fn mismatch_shown(
     ensures { IfOk result (λ effects. effects ≡ Effect.SetLogin (origin_of begun.now.provider.config) LoginStatus.LoggedOut
         ∷ Effect.Dialog (Dialog.Mismatch place (spec.site_of (world_of shared.now) begun.now.origin) failure) ∷ []) }
 {
+    let provider = begun.provider_origin().copy(alloc)?;
     let dialog = Effect::Dialog(Dialog::Mismatch {
         provider: place,
         site: site(alloc, shared.rules, &begun.origin.host)?,
         failure,
     });
-    with_status(alloc, begun, LoginStatus::LoggedOut, dialog)
+    Effect::SetLogin(provider, LoginStatus::LoggedOut).then(alloc, dialog)
 }
 
 // The user is logged in, and what comes first of the prompt.
@@ -318,6 +399,7 @@ fn prompt_shown(
         prompt.now.pick.candidate prompt.now.pick.candidate.connected listing.now.config.metadata ∷ []) }
 {
     let begun = &listing.begun;
+    let provider = begun.provider_origin().copy(alloc)?;
     let effect = prompt_effect(
         alloc,
         shared,
@@ -326,7 +408,7 @@ fn prompt_shown(
         prompt,
         &listing.config.metadata,
     )?;
-    with_status(alloc, begun, LoginStatus::LoggedIn, effect)
+    Effect::SetLogin(provider, LoginStatus::LoggedIn).then(alloc, effect)
 }
 
 // The user is logged in, and is to choose.
@@ -340,6 +422,7 @@ fn choice_shown(
     ensures { IfOk result (λ effects. effects ≡ Effect.SetLogin (origin_of begun.now.provider.config) LoginStatus.LoggedIn
         ∷ spec.choice_dialog (world_of shared.now) (begun_facts begun.now) place chooser.now.listed ∷ []) }
 {
+    let provider = begun.provider_origin().copy(alloc)?;
     let dialog = choice_dialog(alloc, shared, begun, place, chooser)?;
-    with_status(alloc, begun, LoginStatus::LoggedIn, dialog)
+    Effect::SetLogin(provider, LoginStatus::LoggedIn).then(alloc, dialog)
 }

@@ -1,6 +1,7 @@
 //! The beginning of a call.
 ghost use Rattle.std.specs.Prelude.{◌≡◌, [], ◌∷◌, Some, IfOk, IfSome, length};
 ghost use Rattle.fed_origin.specs.WebUrl.{origin_of, scheme_of};
+ghost use Rattle.fed_status.specs.Flags.{has_flag};
 ghost use Rattle.fed_status.specs.Login.{status_of};
 ghost use Rattle.fed_status.specs.Shared.{world_of};
 ghost use Rattle.fed_consent.specs.Outcomes.{only_place};
@@ -9,9 +10,11 @@ ghost use Rattle.fed_call.specs.ReadingRows as spec;
 
 use fed_consent::{Ask, Effect, FailStep, ONLY_PLACE};
 use fed_io::{Fault, Items, NoRoom};
-use fed_origin::{GetOptions, LoginStatus, Mode, Origin, ProviderOptions, Scheme, WebUrl};
+use fed_origin::{
+    GetOptions, LoginStatus, Mediation, Mode, Origin, ProviderOptions, Scheme, WebUrl,
+};
 use fed_provider::wellknown_url;
-use fed_status::{LoginMap, Shared};
+use fed_status::{LoginMap, Shared, SilentFlags};
 use std::alloc::Global;
 
 /// The origin of the only provider.
@@ -30,9 +33,11 @@ fn only_provider(options: &GetOptions) -> &ProviderOptions
     &options.providers.as_slice()[ONLY_PLACE as usize]
 }
 
-/// The first requests of a call to its only provider, which is of this origin, or the step at which the call fails.
+/// The first requests of a call of a page of the first origin to its only provider, which is of the second origin, or the step
+/// at which the call fails.
 pub fn first_requests(
     alloc: Global,
+    origin: &Origin,
     options: &GetOptions,
     provider: &Origin,
     shared: &Shared<'_>,
@@ -40,7 +45,7 @@ pub fn first_requests(
     requires one { length options.now.providers ≡ 1 }
     requires its { IfSome (provider_at only_place options.now) (λ p. provider.now ≡ origin_of p.config) }
     ensures value { IfOk result (λ first. spec.first_outcome first
-        ≡ spec.start_at (world_of shared.now) options.now.mode only_place (provider_at only_place options.now)) }
+        ≡ spec.start_at (world_of shared.now) origin.now options.now only_place (provider_at only_place options.now)) }
     ensures secure { IfOk result (λ first. IfOk first (λ _. IfSome (provider_at only_place options.now)
         (λ p. scheme_of p.config ≡ Scheme.Https))) }
 {
@@ -55,12 +60,26 @@ pub fn first_requests(
         Err(Fault::Step(_)) => return Ok(Err(FailStep::NoSite)),
         Err(Fault::NoRoom) => return Err(NoRoom),
     };
+    // Row C5.
+    if is_prevented(options.mediation, shared.flags, origin) {
+        return Ok(Err(FailStep::SilentPrevented));
+    }
     // Row C6.
     if is_gated(options.mode, shared.login, provider) {
         return Ok(Err(FailStep::LoggedOut));
     }
     // Row C7.
     Ok(Ok(requests(alloc, wellknown, config)?))
+}
+
+// Whether the call is silent and the flag of its page's origin is set.
+fn is_prevented(mediation: Mediation, flags: &SilentFlags, origin: &Origin) -> bool
+    ensures { result ≡ spec.is_prevented mediation (has_flag flags.now origin.now) }
+{
+    match mediation {
+        Mediation::Silent => flags.is_set(origin),
+        Mediation::Optional | Mediation::Required => false,
+    }
 }
 
 // Whether the call is passive and the user is logged out at the provider.

@@ -49,7 +49,7 @@ impl Drop for CallState {
 }
 
 impl CallState {
-    /// A call that begins, and what it does: it fails by the rows C2, C4 or C6, or sends its first requests by row C7. The
+    /// A call that begins, and what it does: it fails by the rows C2 or C4 to C6, or sends its first requests by row C7. The
     /// call has exactly one provider.
     pub fn start(
         alloc: Global,
@@ -66,7 +66,7 @@ impl CallState {
         ensures stage { IfOk result (λ r. Some (stage_of (facts_of r.0)) ≡ (start_row (world_of shared.now) origin options).stage) }
     {
         let provider = provider_origin(alloc, &options)?;
-        match first_requests(alloc, &options, &provider, shared)? {
+        match first_requests(alloc, &origin, &options, &provider, shared)? {
             Ok(effects) => {
                 let state = Reading {
                     begun: Call::new(call, page, origin, options, provider),
@@ -78,8 +78,8 @@ impl CallState {
         }
     }
 
-    /// The call after an input, and what it does there: rows C8 to C13, C15, C16, C19 to C27, C31 to
-    /// C34 and C36. A call that is over ignores each input. On want of memory the call is gone, and a consent that was made is
+    /// The call after an input, and what it does there: rows C8 to C13, C15 to C27, C31 to C34 and C36. A call that is over ignores each
+    /// input. On want of memory the call is gone, and a consent that was made is
     /// voided.
     pub fn advance(
         self,

@@ -3,8 +3,6 @@
 
 mod consent;
 mod table;
-#[cfg(test)]
-mod tests;
 
 pub use consent::{AssertionAsk, Chooser, Consent, Manner, Picked, Prompt, Reselection};
 pub use table::{

@@ -8,8 +8,6 @@ mod matches;
 mod raw_cookie;
 mod same_site;
 mod set_cookie;
-#[cfg(test)]
-mod tests;
 
 pub use date::cookie_date;
 pub use matches::{default_path, domain_matches, path_matches};

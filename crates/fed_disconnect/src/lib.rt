@@ -6,12 +6,6 @@ mod effects;
 mod reading;
 mod sending;
 mod state;
-#[cfg(test)]
-mod test_calls;
-#[cfg(test)]
-mod test_replies;
-#[cfg(test)]
-mod tests;
 
 pub use reading::DReading;
 pub use sending::DSending;

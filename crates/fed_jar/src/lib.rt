@@ -7,8 +7,6 @@ mod jar;
 pub mod laws;
 mod send;
 mod store;
-#[cfg(test)]
-mod tests;
 
 pub use cookie::Cookie;
 pub use jar::Jar;

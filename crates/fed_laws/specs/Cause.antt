@@ -1,33 +1,44 @@
 -- Why a token is asked for, and to whom it is given: what happened, by events alone.
 use Rattle.std.specs.Prelude.{◌≡◌, ℕ, Bool, true, false, ◌&&◌, nat_eq, ◌≤◌, List, [], ◌∷◌, ◌++◌, length, Option}
 use Rattle.std.specs.Prelude.{Some, None, is_some}
-use Rattle.std.specs.Prelude.{option_and_then, option_map, not, if◌then◌else◌, Result as Answer, Ok, ◌⊎◌}
+use Rattle.std.specs.Prelude.{option_and_then, option_map, not, if◌then◌else◌, Result as Answer, Ok, Err, ◌⊎◌}
 use Rattle.std.specs.Option.{option_or}
 use Rattle.std.specs.List.{list_any}
 use Rattle.std.specs.Result.{result_ok}
+use Rattle.url.specs.Parts.{Parts}
 use Rattle.fed_origin.specs.declared.options.GetOptions.{GetOptions}
 use Rattle.fed_origin.specs.declared.options.ProviderOptions.{ProviderOptions}
+use Rattle.fed_origin.specs.declared.origin.Origin.{Origin}
 use Rattle.fed_origin.specs.declared.status.LoginStatus.TheVariants.{LoggedIn}
+use Rattle.fed_origin.specs.declared.status.Triple.{Triple}
 use Rattle.fed_origin.specs.Origin.{origin_text}
 use Rattle.fed_origin.specs.WebUrl.{origin_of}
 use Rattle.fed_reply.specs.Steps.{with_ok}
 use Rattle.fed_provider.specs.declared.config.Config.{Config}
+use Rattle.fed_accounts.specs.declared.account.Account.{Account}
 use Rattle.fed_accounts.specs.declared.step.AccountsStep.{AccountsStep}
-use Rattle.fed_token.specs.Read.{AssertionOf}
+use Rattle.fed_token.specs.declared.step.TokenStep.{TokenStep}
+use Rattle.fed_token.specs.Read.{AssertionOf, DisconnectOf}
+use Rattle.fed_status.specs.Kept.{has_triple, is_of_pair, triple_of}
+use Rattle.fed_consent.specs.declared.table.finish.Finish.TheVariants.{Token}
 use Rattle.fed_consent.specs.declared.table.input.Input.{Input}
-use Rattle.fed_consent.specs.Consent.{AssertionFields, Candidate, Listed, chosen}
-use Rattle.fed_call.specs.Accounts.{accounts_of, listed_of}
+use Rattle.fed_consent.specs.Outcomes.{only_place}
+use Rattle.fed_disconnect.specs.Facts.{DisconnectOptions, provider_origin}
+use Rattle.fed_consent.specs.Consent.{AssertionFields, Candidate, Listed, Pick, chosen, reselection_on}
+use Rattle.fed_call.specs.Accounts.{accounts_of, grounds_at, listed_of}
 use Rattle.fed_call.specs.Facts.{metadata_endpoint, provider_at}
 use Rattle.fed_provider.specs.FirstReplies.{config_read}
 use Rattle.fed_script.specs.declared.event.Event.{Event}
-use Rattle.fed_script.specs.declared.event.Event.TheVariants.{Reply, Choose, GoOn}
+use Rattle.fed_script.specs.declared.event.Event.TheVariants.{Have, Reply, Choose, GoOn}
+use Rattle.fed_script.specs.declared.event.Have.TheVariants as haves
 use Rattle.fed_origin.specs.declared.stage.ReplyKind.TheVariants as kinds
 use Rattle.fed_consent.specs.declared.table.ask.Ask.TheVariants as asks
 use Rattle.fed_consent.specs.declared.table.input.Input.TheVariants as inputs
-use Rattle.fed_trace.specs.Begun.{Begun, ToGet, GetCall}
-use Rattle.fed_trace.specs.Effect.{Begin, Login, Sent, is_ignored}
+use Rattle.fed_trace.specs.Begun.{Begun, ToGet, ToDisconnect, GetCall, DisconnectCall}
+use Rattle.fed_trace.specs.Effect.{Effect, Begin, Login, Sent, Result, is_ignored}
 use Rattle.fed_trace.specs.Known.{world_at, input_to}
-use Rattle.fed_trace.specs.Trace.{Row, Trace, page_at}
+use Rattle.fed_trace.specs.Row.{effects_of}
+use Rattle.fed_trace.specs.Trace.{Row, Trace, kept, page_at}
 use Rattle.fed_trace.specs.OfCall.{Has, disturbs, call_at, assertions}
 
 -- ---- what a call began with, and what it was given
@@ -120,31 +131,67 @@ pub data Agreed (event : Event) (call provider : ℕ) (id : List ℕ) (listed : 
       → IsReady call provider config choice.after → Agreed event call provider id listed candidate config since
 
 -- The event makes the call ask the provider for a token of the account with this id: its reply of accounts offered the account, no token
--- was asked for, and the user agreed. A kept permission by itself is no cause yet.
-pub record AssertionCause (T : Trace) (event : Event) (call provider : ℕ) (id : List ℕ) : Type 0 where
+-- was asked for, and the user agreed.
+pub record UserCause (T : Trace) (event : Event) (call provider : ℕ) (id : List ℕ) : Type 0 where
   pub accepted : Accepted T call provider
   pub candidate : Candidate
   pub is_listed : chosen id accepted.listed ≡ Some candidate
   pub first : assertions call T.rows ≡ []
   pub agreed : Agreed event call provider id accepted.listed candidate (config_at T.rows call provider accepted.get) accepted.since
 
+-- The event does so by itself: it is the reply of accounts that the call took, no token was asked for, and of these accounts the rules of
+-- reselection name the one with this id, by the permissions and the flag that stood before.
+pub record PermissionCause (T : Trace) (event : Event) (call provider : ℕ) (id : List ℕ) : Type 0 where
+  -- how the call began: it is a get, of this provider
+  pub begun : Begun
+  pub began : call_at T.rows call ≡ Some begun
+  pub get : GetOptions
+  pub is_get : begun.options ≡ ToGet get
+  pub options : ProviderOptions
+  pub has_provider : provider_at provider get ≡ Some options
+  -- the reply, and the accounts in it that the call's hints ask for
+  pub raw : List ℕ
+  pub is_reply : event ≡ Reply call provider kinds.Accounts raw
+  pub logged_in : Has (effects_of T event) (Login (origin_of options.config) LoggedIn)
+  pub accounts : List Account
+  pub reads : accounts_of raw options ≡ Ok accounts
+  pub first : assertions call T.rows ≡ []
+  pub pick : Pick
+  pub names : reselection_on (grounds_at (world_at T) call begun.origin get.mediation provider options accounts) ≡ Some pick
+  pub is_account : pick.candidate.account.id ≡ id
+
+-- why a token is asked for: the user agreed, or a permission that is kept suffices
+pub data AssertionCause (T : Trace) (event : Event) (call provider : ℕ) (id : List ℕ) : Type 0 where
+  ByUser : UserCause T event call provider id → AssertionCause T event call provider id
+  ByPermission : PermissionCause T event call provider id → AssertionCause T event call provider id
+
 -- the event is that the user went on with the call's prompt
 abbrev pub is_going : Event → Bool
 is_going (GoOn call) = true
 is_going _ = false
 
--- The request goes to the assertion endpoint, names the call's page, client, nonce and text and the account, and says that the user took
--- part, and whether that was by going on with an account that was not connected.
-pub record SaysWhy (T : Trace) (event : Event) (call provider : ℕ) (id : List ℕ) (cause : AssertionCause T event call provider id)
-    (ask : AssertionFields) : Type 0 where
-  pub to : Some ask.to ≡ option_map (λ config. config.assertion) (config_at T.rows call provider cause.accepted.get)
-  pub origin : ask.origin ≡ cause.accepted.begun.origin
-  pub client : ask.client ≡ cause.accepted.options.client
-  pub nonce : ask.nonce ≡ cause.accepted.options.nonce
-  pub params : ask.params ≡ cause.accepted.options.params
+-- The request goes to the assertion endpoint, names the call's page, client, nonce and text and the account, and says whether the account
+-- was reselected, and whether the user was shown what the provider tells the page.
+pub record Says (rows : List Row) (call provider : ℕ) (begun : Begun) (get : GetOptions) (options : ProviderOptions) (id : List ℕ)
+    (auto disclosure : Bool) (ask : AssertionFields) : Type 0 where
+  pub to : Some ask.to ≡ option_map (λ config. config.assertion) (config_at rows call provider get)
+  pub origin : ask.origin ≡ begun.origin
+  pub client : ask.client ≡ options.client
+  pub nonce : ask.nonce ≡ options.nonce
+  pub params : ask.params ≡ options.params
   pub account : ask.account ≡ id
-  pub auto : ask.auto ≡ false
-  pub disclosure : ask.disclosure ≡ (is_going event && not cause.candidate.connected)
+  pub auto_is : ask.auto ≡ auto
+  pub disclosure_is : ask.disclosure ≡ disclosure
+
+-- the request says why: the account was reselected exactly where a permission suffices, and something was disclosed exactly where the
+-- user went on with an account that was not connected
+abbrev pub SaysWhy : (T : Trace) (event : Event) (call provider : ℕ) (id : List ℕ) → AssertionCause T event call provider id
+    → AssertionFields → Type 0
+SaysWhy T event call provider id (ByUser cause) ask =
+    Says T.rows call provider cause.accepted.begun cause.accepted.get cause.accepted.options id false
+    (is_going event && not cause.candidate.connected) ask
+SaysWhy T event call provider id (ByPermission cause) ask =
+    Says T.rows call provider cause.begun cause.get cause.options id true false ask
 
 -- ---- to whom a token is given
 
@@ -179,3 +226,61 @@ pub record Delivers (T : Trace) (event : Event) (call page provider : ℕ) (toke
   pub raw : List ℕ
   pub is_reply : event ≡ Reply call provider kinds.Assertion raw
   pub reads : AssertionOf raw (origin_text begun.origin) ≡ Ok token
+
+-- ---- where permissions come from, and where they go
+
+-- The row gives a token to the page of a call, and the permission is that of the call: of its page's origin, its provider's origin, and
+-- the account that the token was asked for.
+pub record SignsIn (rows : List Row) (effects : List Effect) (triple : Triple) : Type 0 where
+  pub call : ℕ
+  pub provider : ℕ
+  pub auto : Bool
+  pub token : List ℕ
+  pub begun : Begun
+  pub began : call_at rows call ≡ Some begun
+  pub gives : Has effects (Result call begun.page (Token auto provider token))
+  pub get : GetOptions
+  pub is_get : begun.options ≡ ToGet get
+  pub options : ProviderOptions
+  pub has_provider : provider_at provider get ≡ Some options
+  pub asked : Asked rows call provider
+  pub is_triple : triple ≡ triple_of begun.origin (origin_of options.config) asked.ask.account
+
+-- why a permission is kept: a line says that it was kept before, or a page was given a token
+pub data IsKept (T : Trace) (event : Event) (triple : Triple) : Type 0 where
+  FromBefore : event ≡ Have (haves.Kept triple) → IsKept T event triple
+  BySigningIn : SignsIn T.rows (effects_of T event) triple → IsKept T event triple
+
+-- what was read of a disconnect reply makes the permission go: alone, where it is the one of the account that the reply names, or
+-- with all of its pair, where that one is not kept or the reply is refused
+pub data Takes (kept : List Triple) (page provider : Origin) (triple : Triple) : Answer (List ℕ) TokenStep → Type 0 where
+  Alone : (account : List ℕ) → triple ≡ triple_of page provider account → Takes kept page provider triple (Ok account)
+  WithPair : (account : List ℕ) → is_of_pair page provider triple ≡ true
+      → has_triple kept (triple_of page provider account) ≡ false → Takes kept page provider triple (Ok account)
+  Refused : (step : TokenStep) → is_of_pair page provider triple ≡ true → Takes kept page provider triple (Err step)
+
+-- an earlier row sent the request of a disconnect call, for its page and for what that asked
+pub record AskedToDisconnect (rows : List Row) (call : ℕ) (page : Origin) (options : DisconnectOptions) : Type 0 where
+  pub since : List Row
+  pub asking : Row
+  pub before : List Row
+  pub rows_are : rows ≡ since ++ asking ∷ before
+  pub to : Parts
+  pub cookies : List ℕ
+  pub sends : Has asking.effects (Sent DisconnectCall call only_place (asks.Disconnect to options.client options.hint page) cookies)
+
+-- Why a permission goes: the event is the reply to the request of a disconnect call, the call is of a page that stands, with the origin
+-- that it had when the call began and neither loaded nor closed since, and the permission was kept.
+pub record IsTaken (T : Trace) (event : Event) (triple : Triple) : Type 0 where
+  pub call : ℕ
+  pub begun : Begun
+  pub began : call_at T.rows call ≡ Some begun
+  pub options : DisconnectOptions
+  pub is_disconnect : begun.options ≡ ToDisconnect options
+  pub undisturbed : Undisturbed T.rows call begun
+  pub stands : page_at T begun.page ≡ Some begun.origin
+  pub asked : AskedToDisconnect T.rows call begun.origin options
+  pub raw : List ℕ
+  pub is_reply : event ≡ Reply call only_place kinds.Disconnect raw
+  pub was_kept : has_triple (kept T) triple ≡ true
+  pub takes : Takes (kept T) begun.origin (provider_origin options) triple (DisconnectOf raw (origin_text begun.origin))

@@ -1,7 +1,8 @@
 -- What the traces promise.
-use Rattle.std.specs.Prelude.{◌≡◌, ℕ, Bool, false, ◌≤◌, List, ◌∷◌, ◌++◌, length, Some, Ok, Err}
+use Rattle.std.specs.Prelude.{◌≡◌, ℕ, Bool, true, false, ◌≤◌, List, ◌∷◌, ◌++◌, length, Some, Ok, Err}
 use Rattle.std.specs.List.{list_any}
 use Rattle.fed_origin.specs.declared.stage.ReplyKind.TheVariants as kinds
+use Rattle.fed_origin.specs.declared.status.Triple.{Triple}
 use Rattle.fed_origin.specs.Origin.{origin_text}
 use Rattle.fed_token.specs.Read.{AssertionOf}
 use Rattle.fed_consent.specs.declared.table.ask.Ask.TheVariants as asks
@@ -9,9 +10,9 @@ use Rattle.fed_consent.specs.declared.table.finish.Finish.TheVariants.{Token}
 use Rattle.fed_consent.specs.Consent.{AssertionFields}
 use Rattle.fed_trace.specs.Begun.{Begun, CallKind, GetCall}
 use Rattle.fed_trace.specs.OfCall.{Has, assertions, call_at, disturbs}
-use Rattle.fed_laws.specs.Cause.{AssertionCause, SaysWhy, Delivers}
+use Rattle.fed_laws.specs.Cause.{AssertionCause, SaysWhy, Delivers, IsKept, IsTaken}
 use Rattle.fed_script.specs.declared.event.Event.TheVariants.{Reply}
-use Rattle.fed_trace.specs.Effect.{Sent, Result}
+use Rattle.fed_trace.specs.Effect.{Sent, Kept, Result}
 use Rattle.fed_trace.specs.Row.{IsRun}
 use Rattle.fed_session.specs.Session.{State, Stands}
 use Rattle.fed_trace.specs.Trace.{Row, Trace}
@@ -78,3 +79,15 @@ IsAskedFor T =
     → T.rows ≡ after ++ row ∷ before → AssertionCause (at T before) row.event call provider id
     → (ask : AssertionFields) × (cookies : List ℕ) × (ask.account ≡ id)
     × Has row.effects (Sent GetCall call provider (asks.Assertion ask) cookies)
+
+-- a permission that is kept from a row on was kept before the script, or is that of a call whose page is given a token by the row
+abbrev pub ComesByToken : Trace → Type 0
+ComesByToken T =
+    (after before : List Row) (row : Row) (triple : Triple)
+    → T.rows ≡ after ++ row ∷ before → Has row.effects (Kept triple true) → IsKept (at T before) row.event triple
+
+-- a permission that goes at a row goes by the reply to a disconnect call
+abbrev pub GoesByDisconnect : Trace → Type 0
+GoesByDisconnect T =
+    (after before : List Row) (row : Row) (triple : Triple)
+    → T.rows ≡ after ++ row ∷ before → Has row.effects (Kept triple false) → IsTaken (at T before) row.event triple

@@ -1,5 +1,6 @@
 //! Laws of every run of events, of every trace that a session stands for, and of the trace of every script.
 ghost use Rattle.fed_laws.specs.Laws.{OfRuns, OfSessions, OfScripts, AsksOnce, HasCause, ReachesItsPage, IsAnswered, IsAskedFor};
+ghost use Rattle.fed_laws.specs.Laws.{ComesByToken, GoesByDisconnect};
 
 /// No call asks for two tokens.
 pub fn asks_once()
@@ -9,7 +10,8 @@ pub fn asks_once()
 {}
 
 /// Where a call asks for a token, the user had agreed: by choosing an account that was connected, or by going on at the prompt of the one
-/// that was offered, or chosen. The request names that account and the call's own page, client, nonce and text.
+/// that was offered, or chosen; or the event is the reply of accounts, and a kept permission satisfies the rules of reselection. The
+/// request names that account and the call's own page, client, nonce and text, and says that the account was reselected exactly there.
 pub fn assertion_has_cause()
     ensures runs { OfRuns HasCause }
     ensures sessions { OfSessions HasCause }
@@ -37,4 +39,18 @@ pub fn cause_is_followed()
     ensures runs { OfRuns IsAskedFor }
     ensures sessions { OfSessions IsAskedFor }
     ensures scripts { OfScripts IsAskedFor }
+{}
+
+/// A permission is kept since before the script, or since its page was given a token for its account.
+pub fn permission_comes_by_token()
+    ensures runs { OfRuns ComesByToken }
+    ensures sessions { OfSessions ComesByToken }
+    ensures scripts { OfScripts ComesByToken }
+{}
+
+/// A permission goes only by the reply to a disconnect call of its page's origin and its provider.
+pub fn permission_goes_by_disconnect()
+    ensures runs { OfRuns GoesByDisconnect }
+    ensures sessions { OfSessions GoesByDisconnect }
+    ensures scripts { OfScripts GoesByDisconnect }
 {}

@@ -1,11 +1,22 @@
--- The words of contexts, of kinds of replies and of login statuses, in scripts, in transcripts and in Set-Login fields.
+-- The words of mediations, of contexts, of kinds of replies and of login statuses, in scripts, in transcripts and in Set-Login fields.
 use Rattle.std.specs.Prelude.{ℕ, Bool, false, List, [], ◌∷◌, find, codes, bytes_eq, Option, Some, None}
 use Rattle.fed_origin.specs.declared.options.Context.{Context}
 use Rattle.fed_origin.specs.declared.options.Context.TheVariants.{SignIn, SignUp, UseHere, GoOn}
+use Rattle.fed_origin.specs.declared.options.Mediation.{Mediation}
+use Rattle.fed_origin.specs.declared.options.Mediation.TheVariants.{Silent, Optional, Required}
 use Rattle.fed_origin.specs.declared.stage.ReplyKind.{ReplyKind}
 use Rattle.fed_origin.specs.declared.stage.ReplyKind.TheVariants.{WellKnown, Config, Accounts, Metadata, Assertion, Disconnect}
 use Rattle.fed_origin.specs.declared.status.LoginStatus.{LoginStatus}
 use Rattle.fed_origin.specs.declared.status.LoginStatus.TheVariants.{Unknown, LoggedIn, LoggedOut}
+
+abbrev pub mediation_text : Mediation → List ℕ
+mediation_text Silent = codes "silent"
+mediation_text Optional = codes "optional"
+mediation_text Required = codes "required"
+
+-- the mediation that a word stands for
+abbrev pub mediation_of_word : List ℕ → Option Mediation
+mediation_of_word word = find (λ mediation. bytes_eq word (mediation_text mediation)) (Silent ∷ Optional ∷ Required ∷ [])
 
 abbrev pub context_text : Context → List ℕ
 context_text SignIn = codes "signin"

@@ -11,8 +11,6 @@ mod refusal;
 mod scheme;
 mod stage;
 mod status;
-#[cfg(test)]
-mod tests;
 mod web_url;
 
 pub use host::{Host, HostKind};

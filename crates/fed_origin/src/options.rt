@@ -16,6 +16,23 @@ pub enum Mediation {
     Required,
 }
 
+impl Mediation {
+    ghost use Rattle.std.specs.Prelude.{◌≡◌};
+    ghost use Rattle.fed_origin.specs.Words.{mediation_of_word};
+
+    /// The mediation that a word stands for, if it is the word of one.
+    pub fn of_word(word: &str) -> Option<Mediation>
+        ensures { result ≡ mediation_of_word word.now }
+    {
+        match word {
+            "silent" => Some(Mediation::Silent),
+            "optional" => Some(Mediation::Optional),
+            "required" => Some(Mediation::Required),
+            _ => None,
+        }
+    }
+}
+
 /// Who began the call (FedCM, IdentityCredentialRequestOptionsMode).
 #[derive(Clone, Copy, Debug, PartialEq, Eq)]
 pub enum Mode {

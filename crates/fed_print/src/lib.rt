@@ -7,8 +7,6 @@ mod dialogs;
 mod object;
 mod printer;
 mod records;
-#[cfg(test)]
-mod tests;
 mod words;
 
 pub use object::Object;

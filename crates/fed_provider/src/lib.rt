@@ -15,6 +15,3 @@ pub use fed_origin::Endpoint;
 pub use metadata::{PolicyLinks, read_metadata};
 pub use step::ProviderStep;
 pub use wellknown::{read_wellknown, wellknown_url};
-
-#[cfg(test)]
-mod tests;

@@ -1,4 +1,5 @@
 -- The head of a reply and its fields.
 pub mod Fields
 pub mod Values
+pub mod Named
 pub mod Front

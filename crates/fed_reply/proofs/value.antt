@@ -1,2 +1,3 @@
 -- The JSON value of a body.
+pub mod Json
 pub mod Trim

@@ -1,5 +1,5 @@
 -- The fields of a reply: a multimap from names in lower case to values.
-use Rattle.std.specs.Prelude.{ℕ, Bool, ◌&&◌, List, [], map, slice_get, bytes_eq, Option, Result, Ok, Err, if◌then◌else◌}
+use Rattle.std.specs.Prelude.{ℕ, Bool, ◌&&◌, List, [], map, filter, slice_get, bytes_eq, Option, Result, Ok, Err, if◌then◌else◌}
 use Rattle.std.specs.List.{list_all}
 use Rattle.http_header.specs.Token.{lowercase, is_value_byte}
 use Rattle.http_header.specs.FieldName.{is_field_name}
@@ -36,6 +36,10 @@ value_at name k fields = slice_get (values name fields) k
 -- the bytes are the word, in any case
 abbrev pub is_word : List ℕ → List ℕ → Bool
 is_word word bytes = bytes_eq (lowercase bytes) word
+
+-- for private clauses: the values of the fields of a name in lower case, in their order
+unfoldable pub values_in : List ℕ → List FieldPair → List (List ℕ)
+values_in name pairs = map (λ p. p.1) (filter (λ p. is_word name p.0) pairs)
 
 -- the multimap of fields that are all taken
 abbrev pub taken_fields : List FieldPair → Result Fields ReplyStep

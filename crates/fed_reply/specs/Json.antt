@@ -1,7 +1,7 @@
 -- The JSON value of a reply.
-use Rattle.std.specs.Prelude.{ℕ, Bool, false, not, ◌&&◌, ◌||◌, ◌==◌, ◌-◌, nat_eq, nat_le, nat_lt, List, [], ◌∷◌}
-use Rattle.std.specs.Prelude.{length, take, drop, codes}
-use Rattle.std.specs.Prelude.{Option, Some, None, ok_or, Result, Err, if◌then◌else◌}
+use Rattle.std.specs.Prelude.{◌≡◌, ◌≤◌, ℕ, Bool, false, not, ◌&&◌, ◌||◌, ◌==◌, ◌-◌, nat_eq, nat_le, nat_lt, List, [], ◌∷◌}
+use Rattle.std.specs.Prelude.{length, take, drop, map, codes}
+use Rattle.std.specs.Prelude.{Option, Some, None, ok_or, Result, Ok, Err, if◌then◌else◌}
 use Rattle.std.specs.List.{before_first, after_first}
 use Rattle.std.specs.Cmp.Lexicographic.{pointwise}
 use Rattle.httparse.specs.Grammar.{is_token, trim_ows}
@@ -10,7 +10,11 @@ use Rattle.fed_json.specs.Value.{value_of}
 use Rattle.fed_reply.specs.declared.step.ReplyStep.{ReplyStep}
 use Rattle.fed_reply.specs.declared.step.ReplyStep.TheVariants.{Status, Mime, Json}
 use Rattle.fed_reply.specs.Parts.{ReplyParts}
-use Rattle.fed_reply.specs.Fields.{value_at, is_word}
+use Rattle.fed_head.specs.Head.{HeadParts}
+use Rattle.fed_head.specs.Section.{name_and_trimmed}
+use Rattle.fed_reply.specs.declared.json_head.JsonHead.{JsonHead}
+use Rattle.fed_reply.specs.Body.{framing_of}
+use Rattle.fed_reply.specs.Fields.{fields_of, value_at, is_word}
 use Rattle.fed_reply.specs.Steps.{and_then}
 use Rattle.fed_reply.specs.Reply.{ReplyOf}
 
@@ -66,3 +70,26 @@ JsonOf reply =
 -- the value that the bytes of a reply carry, or the first step
 abbrev pub ReplyJsonOf : List ℕ → Result Data ReplyStep
 ReplyJsonOf raw = and_then JsonOf (ReplyOf raw)
+
+-- ---- for private clauses
+
+-- the step of a reply of that status, whose first content type is JSON or not
+abbrev pub refusal : ℕ → Bool → Option ReplyStep
+refusal status is_json = if is_success status then (if is_json then None else Some Mime) else Some Status
+
+-- the value that a body is
+abbrev pub body_value : List ℕ → Result Data ReplyStep
+body_value body = ok_or (value_of (without_mark body)) Json
+
+-- the status, the content type, the framing of the body and the end of the head are those
+pub record IsJsonHeadOf (raw : List ℕ) (head : HeadParts) (found : JsonHead) : Type 0 where
+  pub status : found.status ≡ head.status
+  pub is_json : found.is_json ≡ is_json_type (value_at (codes "content-type") 0 (fields_of (map name_and_trimmed head.fields)))
+  pub framing : found.framing ≡ framing_of (fields_of (map name_and_trimmed head.fields))
+  pub rest : drop found.len raw ≡ head.rest
+  pub len : found.len ≤ length raw
+
+-- the head that was read is the expected one, and the step exactly where there is none
+abbrev pub FindsJsonHead : List ℕ → Result HeadParts ReplyStep → Result JsonHead ReplyStep → Type 0
+FindsJsonHead raw expected (Ok found) = (head : HeadParts) × (expected ≡ Ok head) × IsJsonHeadOf raw head found
+FindsJsonHead raw expected (Err step) = expected ≡ Err step

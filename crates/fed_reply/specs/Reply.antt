@@ -12,7 +12,7 @@ use Rattle.fed_reply.specs.declared.step.ReplyStep.{ReplyStep}
 use Rattle.fed_reply.specs.declared.step.ReplyStep.TheVariants.{Head}
 use Rattle.fed_reply.specs.Parts.{ReplyParts}
 use Rattle.fed_reply.specs.Fields.{fields_of, is_taken_field}
-use Rattle.fed_reply.specs.Body.{body_of}
+use Rattle.fed_reply.specs.Body.{framing_of, body_of}
 use Rattle.fed_reply.specs.Steps.{and_then, with_ok}
 
 -- a status code (RFC 9110, 15): three digits, the first of them not 0
@@ -45,10 +45,11 @@ unfoldable pub ReplyOf : List ℕ → Result ReplyParts ReplyStep
 ReplyOf raw =
     and_then (λ h. with_ok (reply_with h) (body_of (fields_of (map name_and_trimmed h.fields)) h.rest)) (FrontOf raw)
 
--- the status, the fields and the end of the head are those
+-- the status, the fields, the framing of the body and the end of the head are those
 pub record IsFrontOf (raw : List ℕ) (head : HeadParts) (front : Front) : Type 0 where
   pub status : front.status ≡ head.status
   pub fields : front.fields ≡ fields_of (map name_and_trimmed head.fields)
+  pub framing : front.framing ≡ framing_of (fields_of (map name_and_trimmed head.fields))
   pub rest : drop front.len raw ≡ head.rest
   pub len : front.len ≤ length raw
 

@@ -1,11 +1,11 @@
 //! The fields of a reply.
-ghost use Rattle.std.specs.Prelude.{◌≡◌, true, false, All, length, map, OnOk, Err};
+ghost use Rattle.std.specs.Prelude.{◌≡◌, ◌<◌, ◌∷◌, [], true, false, nat_le, ◌-◌, All, length, map, IfSome, IfNone, OnOk, Err};
 ghost use Rattle.std.specs.List.{list_all};
 ghost use Rattle.http_header.specs.HeaderMap.{append};
 ghost use Rattle.http_header.specs.Token.{lowercase};
 ghost use Rattle.httparse.specs.Spans.{IsHeaderWithin, header_bytes};
 ghost use Rattle.fed_io.specs.Fault.{Answers};
-ghost use Rattle.fed_reply.specs.Fields.{kept_field, is_taken_field, is_word, taken_fields};
+ghost use Rattle.fed_reply.specs.Fields.{kept_field, is_taken_field, is_word, taken_fields, values_in};
 
 use crate::ReplyStep;
 use fed_io::Fault;
@@ -64,4 +64,34 @@ pub fn is_in_any_case(bytes: &[u8], word: &[u8]) -> bool
     ensures { result ≡ is_word (lowercase word.now) bytes.now }
 {
     bytes.eq_ignore_ascii_case(word)
+}
+
+/// The first value of the fields of that name, in any case, and the fields after it.
+pub fn first_named<'a, 's>(
+    raw: &'a [u8],
+    spans: &'s [HeaderSpan],
+    name: &[u8],
+) -> Option<(&'a [u8], &'s [HeaderSpan])>
+    requires { All (IsHeaderWithin (length raw.now)) spans.now }
+    ensures some { IfSome result (λ found. values_in (lowercase name.now) (map (header_bytes raw.now) spans.now)
+        ≡ found.0.now ∷ values_in (lowercase name.now) (map (header_bytes raw.now) found.1.now)) }
+    ensures none { IfNone result (values_in (lowercase name.now) (map (header_bytes raw.now) spans.now) ≡ []) }
+    ensures inside { IfSome result (λ found. All (IsHeaderWithin (length raw.now)) found.1.now) }
+    ensures shorter { IfSome result (λ found. length found.1.now < length spans.now) }
+{
+    let mut rest = spans;
+    while let Some((span, after)) = rest.split_first() {
+        if is_in_any_case(span.name.of(raw), name) {
+            return Some((span.value.of(raw), after));
+        }
+        rest = after;
+    }
+    None
+}
+
+/// Whether `http_header` takes each name: none has more than 65,535 bytes.
+pub fn are_short(spans: &[HeaderSpan]) -> bool
+    ensures { result ≡ list_all (λ s. nat_le (s.name.end - s.name.start) 65535) spans.now }
+{
+    spans.iter().all(|span| span.name.end.saturating_sub(span.name.start) <= 65535)
 }

@@ -1,13 +1,13 @@
 //! How the body of a reply is framed.
-ghost use Rattle.std.specs.Prelude.{◌≡◌, codes, bytes_eq};
+ghost use Rattle.std.specs.Prelude.{◌≡◌, All, length, map, codes, bytes_eq};
 ghost use Rattle.std.specs.List.{list_all};
-ghost use Rattle.http_header.specs.HeaderMap.{get_all};
+ghost use Rattle.httparse.specs.Spans.{IsHeaderWithin, header_bytes};
 ghost use Rattle.fed_reply.specs.Body.{framing_of, framed_by, counted_by, length_of};
-ghost use Rattle.fed_reply.specs.Fields.{values, is_word};
+ghost use Rattle.fed_reply.specs.Fields.{fields_of, values_in, is_word};
 
 use crate::ReplyStep;
-use crate::fields::is_in_any_case;
-use http_header::{HeaderMap, HeaderValue, ValueIter};
+use crate::fields::{first_named, is_in_any_case};
+use httparse::spans::HeaderSpan;
 
 /// How a body is framed (RFC 9112, 6.3).
 #[derive(Clone, Copy, Debug, PartialEq, Eq)]
@@ -22,33 +22,42 @@ pub enum Framing {
 
 /// The framing of a body by the fields of its reply: no content coding, then one transfer coding,
 /// then the content length.
-pub fn body_framing(fields: &HeaderMap) -> Result<Framing, ReplyStep>
-    ensures { result ≡ framing_of fields.now }
+pub fn body_framing(raw: &[u8], spans: &[HeaderSpan]) -> Result<Framing, ReplyStep>
+    requires { All (IsHeaderWithin (length raw.now)) spans.now }
+    ensures { result ≡ framing_of (fields_of (map (header_bytes raw.now) spans.now)) }
 {
-    if is_identity(fields) {
-        transfer_framing(fields)
+    if is_identity(raw, spans) {
+        transfer_framing(raw, spans)
     } else {
         Err(ReplyStep::Coding)
     }
 }
 
 // Whether there is no content coding but `identity`.
-fn is_identity(fields: &HeaderMap) -> bool
-    ensures { result ≡ list_all (λ v. is_word (codes "identity") v.bytes) (get_all fields.now (codes "content-encoding")) }
+fn is_identity(raw: &[u8], spans: &[HeaderSpan]) -> bool
+    requires { All (IsHeaderWithin (length raw.now)) spans.now }
+    ensures { result ≡ list_all (is_word (codes "identity")) (values_in (codes "content-encoding") (map (header_bytes raw.now) spans.now)) }
 {
-    let mut codings = fields.get_all("content-encoding").iter();
-    codings.all(|coding| is_in_any_case(coding.as_bytes(), b"identity"))
+    let mut rest = spans;
+    while let Some((coding, after)) = first_named(raw, rest, b"content-encoding") {
+        if !is_in_any_case(coding, b"identity") {
+            return false;
+        }
+        rest = after;
+    }
+    true
 }
 
 // The framing by the transfer coding, and else by the content length.
-fn transfer_framing(fields: &HeaderMap) -> Result<Framing, ReplyStep>
-    ensures { result ≡ framed_by (values (codes "transfer-encoding") fields.now) (values (codes "content-length") fields.now) }
+fn transfer_framing(raw: &[u8], spans: &[HeaderSpan]) -> Result<Framing, ReplyStep>
+    requires { All (IsHeaderWithin (length raw.now)) spans.now }
+    ensures { result ≡ framed_by (values_in (codes "transfer-encoding") (map (header_bytes raw.now) spans.now))
+        (values_in (codes "content-length") (map (header_bytes raw.now) spans.now)) }
 {
-    let mut codings = fields.get_all("transfer-encoding").iter();
-    let Some(first) = codings.next() else {
-        return counted_framing(fields);
+    let Some((first, rest)) = first_named(raw, spans, b"transfer-encoding") else {
+        return counted_framing(raw, spans);
     };
-    if codings.next().is_none() && is_in_any_case(first.as_bytes(), b"chunked") {
+    if first_named(raw, rest, b"transfer-encoding").is_none() && is_in_any_case(first, b"chunked") {
         Ok(Framing::Chunked)
     } else {
         Err(ReplyStep::Coding)
@@ -56,15 +65,14 @@ fn transfer_framing(fields: &HeaderMap) -> Result<Framing, ReplyStep>
 }
 
 // The framing by the content length.
-fn counted_framing(fields: &HeaderMap) -> Result<Framing, ReplyStep>
-    ensures { result ≡ counted_by (values (codes "content-length") fields.now) }
+fn counted_framing(raw: &[u8], spans: &[HeaderSpan]) -> Result<Framing, ReplyStep>
+    requires { All (IsHeaderWithin (length raw.now)) spans.now }
+    ensures { result ≡ counted_by (values_in (codes "content-length") (map (header_bytes raw.now) spans.now)) }
 {
-    let mut lengths = fields.get_all("content-length").iter();
-    let Some(first) = lengths.next() else {
+    let Some((first, rest)) = first_named(raw, spans, b"content-length") else {
         return Ok(Framing::ToTheEnd);
     };
-    let first = first.as_bytes();
-    if !are_all(first, lengths) {
+    if !are_all(first, raw, rest) {
         return Err(ReplyStep::Length);
     }
     match length(first) {
@@ -73,11 +81,19 @@ fn counted_framing(fields: &HeaderMap) -> Result<Framing, ReplyStep>
     }
 }
 
-// Whether the values are all these bytes.
-fn are_all(bytes: &[u8], mut values: ValueIter<'_, HeaderValue>) -> bool
-    ensures { result ≡ list_all (λ v. bytes_eq bytes.now v.bytes) values.entry }
+// Whether the content lengths are all these bytes.
+fn are_all(bytes: &[u8], raw: &[u8], spans: &[HeaderSpan]) -> bool
+    requires { All (IsHeaderWithin (length raw.now)) spans.now }
+    ensures { result ≡ list_all (bytes_eq bytes.now) (values_in (codes "content-length") (map (header_bytes raw.now) spans.now)) }
 {
-    values.all(|value| bytes == value.as_bytes())
+    let mut rest = spans;
+    while let Some((value, after)) = first_named(raw, rest, b"content-length") {
+        if bytes != value {
+            return false;
+        }
+        rest = after;
+    }
+    true
 }
 
 // The number that 1 to 19 decimal digits write.

@@ -8,8 +8,10 @@ ghost use Rattle.fed_io.specs.Fault.{AnswersBy};
 ghost use Rattle.fed_reply.specs.Json as spec;
 
 use crate::fields::is_in_any_case;
-use crate::{Reply, ReplyStep, read_reply};
-use fed_io::{Fault, NoRoom, place_of, trim};
+use crate::json_head::read_json_head;
+use crate::read::read_body;
+use crate::{Reply, ReplyStep};
+use fed_io::{Bytes, Fault, NoRoom, place_of, trim};
 use fed_json::tape_of;
 use json::{Scratch, Tape};
 use std::alloc::Global;
@@ -17,10 +19,10 @@ use std::alloc::Global;
 // The byte order mark of UTF-8.
 const MARK: [u8; 3] = [0xEF, 0xBB, 0xBF];
 
-/// What a value is read from: its reply, and memory for the reading. Both are lent to the tape.
+/// What a value is read from: the body of its reply, and memory for the reading. Both are lent to the tape.
 #[derive(Drop)]
 pub struct JsonBuffer {
-    reply: Option<Reply>,
+    body: Option<Bytes>,
     scratch: Scratch,
 }
 
@@ -28,7 +30,7 @@ impl JsonBuffer {
     /// Nothing to read from. It takes no memory.
     pub fn new(alloc: Global) -> JsonBuffer {
         JsonBuffer {
-            reply: None,
+            body: None,
             scratch: Scratch::new(alloc),
         }
     }
@@ -37,6 +39,7 @@ impl JsonBuffer {
 /// The tape of the JSON value of a reply of the class 2xx whose first content type is JSON (WHATWG
 /// MIME Sniffing, 4.6); one byte order mark before it is dropped. The steps are `Status`, `Mime` and
 /// `Json`, in this order.
+#[tactic(auto, unfolding(crate::specs::Json::JsonOf))]
 pub fn json_of<'a>(
     alloc: Global,
     reply: Reply,
@@ -44,7 +47,10 @@ pub fn json_of<'a>(
 ) -> Result<Tape<'a>, Fault<ReplyStep>>
     ensures { AnswersBy data_at result (spec.JsonOf reply) }
 {
-    reply_tape(alloc, buffer.reply.insert(reply), &mut buffer.scratch)
+    match refusal(reply.status(), is_json_type(reply.field("content-type", 0))) {
+        Some(step) => Err(Fault::Step(step)),
+        None => body_tape(alloc, reply.into_body(), buffer),
+    }
 }
 
 /// The tape of the JSON value that the bytes of a reply carry. The steps are those of `read_reply`,
@@ -56,28 +62,40 @@ pub fn read_json<'a>(
 ) -> Result<Tape<'a>, Fault<ReplyStep>>
     ensures { AnswersBy data_at result (spec.ReplyJsonOf raw.now) }
 {
-    match read_reply(alloc, raw) {
-        Ok(reply) => json_of(alloc, reply, buffer),
-        Err(fault) => Err(fault),
+    let head = match read_json_head(raw) {
+        Ok(head) => head,
+        Err(step) => return Err(Fault::Step(step)),
+    };
+    let body = match read_body(alloc, head.framing, &raw[head.len..]) {
+        Ok(body) => body,
+        Err(fault) => return Err(fault),
+    };
+    match refusal(head.status, head.is_json) {
+        Some(step) => Err(Fault::Step(step)),
+        None => body_tape(alloc, body, buffer),
     }
 }
 
-// The tape of the JSON value of a reply.
-#[tactic(auto, unfolding(crate::specs::Json::JsonOf))]
-fn reply_tape<'a>(
-    alloc: Global,
-    reply: &'a Reply,
-    scratch: &'a mut Scratch,
-) -> Result<Tape<'a>, Fault<ReplyStep>>
-    ensures { AnswersBy data_at result (spec.JsonOf reply.now) }
+// The step at which a reply of that status is refused, whose first content type is JSON or not.
+fn refusal(status: u16, is_json: bool) -> Option<ReplyStep>
+    ensures { result ≡ spec.refusal status is_json }
 {
-    if !(200..300).contains(&reply.status()) {
-        return Err(Fault::Step(ReplyStep::Status));
+    if !(200..300).contains(&status) {
+        return Some(ReplyStep::Status);
     }
-    if !is_json_type(reply.field("content-type", 0)) {
-        return Err(Fault::Step(ReplyStep::Mime));
-    }
-    match tape_of(alloc, scratch, after_mark(reply.body())) {
+    if is_json { None } else { Some(ReplyStep::Mime) }
+}
+
+// The tape of the JSON value that a body is.
+fn body_tape<'a>(
+    alloc: Global,
+    body: Bytes,
+    buffer: &'a mut JsonBuffer,
+) -> Result<Tape<'a>, Fault<ReplyStep>>
+    ensures { AnswersBy data_at result (spec.body_value body) }
+{
+    let body = buffer.body.insert(body);
+    match tape_of(alloc, &mut buffer.scratch, after_mark(body.as_slice())) {
         Ok(Some(tape)) => Ok(tape),
         Ok(None) => Err(Fault::Step(ReplyStep::Json)),
         Err(NoRoom) => Err(Fault::NoRoom),
@@ -91,8 +109,8 @@ fn after_mark(body: &[u8]) -> &[u8]
     body.strip_prefix(MARK.as_slice()).unwrap_or(body)
 }
 
-// Whether a content type is there and names JSON.
-fn is_json_type(value: Option<&[u8]>) -> bool
+/// Whether a content type is there and names JSON.
+pub fn is_json_type(value: Option<&[u8]>) -> bool
     ensures { result ≡ spec.is_json_type (option_copied value.entry) }
 {
     match value {

@@ -4,6 +4,7 @@
 mod chunks;
 mod fields;
 mod framing;
+mod json_head;
 mod json_value;
 pub mod laws;
 mod member;
@@ -16,6 +17,3 @@ pub use member::{Member, list_member, object_member, text_member, value_member};
 pub use read::{read_head, read_reply};
 pub use reply::Reply;
 pub use step::ReplyStep;
-
-#[cfg(test)]
-mod tests;

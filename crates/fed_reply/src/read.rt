@@ -1,25 +1,29 @@
 //! Reading a reply.
-ghost use Rattle.std.specs.Prelude.{◌≡◌};
+ghost use Rattle.std.specs.Prelude.{Some};
 ghost use Rattle.fed_io.specs.Fault.{Answers};
-ghost use Rattle.fed_reply.specs.Body.{body_of};
+ghost use Rattle.fed_head.specs.Found.{FindsHead};
+ghost use Rattle.fed_head.specs.Head.{head_of, within};
+ghost use Rattle.fed_reply.specs.Body.{framed};
 ghost use Rattle.fed_reply.specs.Reply.{HeadOf, ReplyOf, FrontOf, FindsFront};
+ghost use Rattle.fed_reply.specs.Steps.{and_then};
 
 use crate::chunks::read_chunks;
 use crate::fields::read_fields;
 use crate::framing::{Framing, body_framing};
 use crate::{Reply, ReplyStep};
-use fed_head::read_head_spans;
+use fed_head::{HeadSpans, read_head_spans};
 use fed_io::{Bytes, Fault};
 use http::StatusCode;
 use http_header::HeaderMap;
-use httparse::spans::EMPTY_HEADER_SPAN;
+use httparse::spans::{EMPTY_HEADER_SPAN, HeaderSpan};
 use std::alloc::Global;
 
-// A head, and how many bytes it has.
+// A head, how the body after it is framed, and how many bytes it has.
 #[derive(Drop)]
 struct Front {
     status: StatusCode,
     fields: HeaderMap,
+    framing: Result<Framing, ReplyStep>,
     len: usize,
 }
 
@@ -46,7 +50,7 @@ pub fn read_reply(alloc: Global, raw: &[u8]) -> Result<Reply, Fault<ReplyStep>>
         Ok(front) => front,
         Err(fault) => return Err(fault),
     };
-    match read_body(alloc, &front.fields, &raw[front.len..]) {
+    match read_body(alloc, front.framing, &raw[front.len..]) {
         Ok(body) => Ok(Reply::new(front.status, front.fields, body)),
         Err(fault) => Err(fault),
     }
@@ -56,28 +60,58 @@ pub fn read_reply(alloc: Global, raw: &[u8]) -> Result<Reply, Fault<ReplyStep>>
 fn read_front(alloc: Global, raw: &[u8]) -> Result<Front, Fault<ReplyStep>>
     ensures { FindsFront raw.now (FrontOf raw.now) result }
 {
+    let mut spans = [EMPTY_HEADER_SPAN; 16];
+    match read_head_spans(raw, &mut spans) {
+        Some(head) => front_at(alloc, raw, &spans, head),
+        None => read_long_front(alloc, raw),
+    }
+}
+
+// The same of a head of more than 16 fields.
+fn read_long_front(alloc: Global, raw: &[u8]) -> Result<Front, Fault<ReplyStep>>
+    ensures { FindsFront raw.now (FrontOf raw.now) result }
+{
     let mut spans = [EMPTY_HEADER_SPAN; 128];
-    let Some(head) = read_head_spans(raw, &mut spans) else {
-        return Err(Fault::Step(ReplyStep::Head));
-    };
+    match read_head_spans(raw, &mut spans) {
+        Some(head) => front_at(alloc, raw, &spans, head),
+        None => Err(Fault::Step(ReplyStep::Head)),
+    }
+}
+
+// The head whose fields stand at the first spans.
+fn front_at(
+    alloc: Global,
+    raw: &[u8],
+    spans: &[HeaderSpan],
+    head: HeadSpans,
+) -> Result<Front, Fault<ReplyStep>>
+    requires { FindsHead raw.now spans.now (within 128 (head_of raw.now)) (Some head) }
+    ensures { FindsFront raw.now (FrontOf raw.now) result }
+{
+    let spans = &spans[..head.count];
     let Ok(status) = StatusCode::from_u16(head.status) else {
         return Err(Fault::Step(ReplyStep::Head));
     };
-    match read_fields(alloc, raw, &spans[..head.count]) {
+    match read_fields(alloc, raw, spans) {
         Ok(fields) => Ok(Front {
             status,
             fields,
+            framing: body_framing(raw, spans),
             len: head.len,
         }),
         Err(fault) => Err(fault),
     }
 }
 
-// The body in the bytes after the head.
-fn read_body(alloc: Global, fields: &HeaderMap, rest: &[u8]) -> Result<Bytes, Fault<ReplyStep>>
-    ensures { Answers result (body_of fields.now rest.now) }
+/// The body that is framed so, in the bytes after the head.
+pub fn read_body(
+    alloc: Global,
+    framing: Result<Framing, ReplyStep>,
+    rest: &[u8],
+) -> Result<Bytes, Fault<ReplyStep>>
+    ensures { Answers result (and_then (framed rest.now) framing) }
 {
-    match body_framing(fields) {
+    match framing {
         Ok(Framing::Chunked) => read_chunks(alloc, rest),
         Ok(Framing::Counted(length)) => {
             if (rest.len() as u64) < length {

@@ -71,6 +71,13 @@ impl Reply {
     {
         self.body.as_slice()
     }
+
+    pub(crate) fn into_body(self) -> Bytes
+        ensures { result ≡ self.body }
+    {
+        let Reply { body, .. } = self;
+        body
+    }
 }
 
 // The `k`-th value under a name, from 0.

@@ -3,8 +3,6 @@
 
 mod form;
 mod request;
-#[cfg(test)]
-mod tests;
 mod text;
 
 pub use request::build;

@@ -37,6 +37,7 @@ name_text names.Params = codes "params"
 name_text names.Provider = codes "provider"
 name_text names.To = codes "to"
 name_text names.Account = codes "account"
+name_text names.Hint = codes "hint"
 
 -- the word of a cause
 abbrev pub cause_text : LineCause → List ℕ

@@ -7,6 +7,7 @@ pub mod Have
 pub mod Single
 pub mod Reply
 pub mod Choose
+pub mod Disconnect
 pub mod Load
 pub mod Options
 pub mod Get

@@ -11,11 +11,12 @@ use Rattle.fed_script.specs.declared.event.Header.{Header}
 use Rattle.fed_script.specs.Member.{◌>>=◌, unless, or_cause, json_of, member_of}
 use Rattle.fed_script.specs.Header.{header_named}
 use Rattle.fed_script.specs.Have.{have_of}
-use Rattle.fed_script.specs.Single.{at_of, closepage_of, abort_of, go_on_of, cancel_of}
+use Rattle.fed_script.specs.Single.{at_of, closepage_of, abort_of, go_on_of, cancel_of, prevent_of}
 use Rattle.fed_script.specs.Load.{load_of}
 use Rattle.fed_script.specs.Get.{get_of}
 use Rattle.fed_script.specs.Reply.{reply_of}
 use Rattle.fed_script.specs.Choose.{choose_of}
+use Rattle.fed_script.specs.Disconnect.{disconnect_of}
 use Rattle.fed_script.specs.Status.{setstatus_of}
 use Rattle.fed_script.specs.Used.{UsedState, is_used, is_late, is_back}
 
@@ -25,8 +26,7 @@ header_of line = json_of line >>= header_named
 
 -- the kinds of event that are not read yet
 abbrev pub kinds_to_come : List (List ℕ)
-kinds_to_come =
-    codes "signin" ∷ codes "shutwindow" ∷ codes "idpclose" ∷ codes "prevent" ∷ codes "disconnect" ∷ []
+kinds_to_come = codes "signin" ∷ codes "shutwindow" ∷ codes "idpclose" ∷ []
 
 -- why no event is read of a line of this kind
 abbrev pub unread_kind : List ℕ → LineCause
@@ -45,8 +45,10 @@ event_of_kind kind d =
     else (if bytes_eq kind (codes "cancel") then cancel_of d
     else (if bytes_eq kind (codes "reply") then reply_of d
     else (if bytes_eq kind (codes "choose") then choose_of d
+    else (if bytes_eq kind (codes "prevent") then prevent_of d
     else (if bytes_eq kind (codes "setstatus") then setstatus_of d
-    else Err (unread_kind kind)))))))))))
+    else (if bytes_eq kind (codes "disconnect") then disconnect_of d
+    else Err (unread_kind kind)))))))))))))
 
 -- the kind that a line names
 abbrev pub kind_of : Data → Result (List ℕ) LineCause

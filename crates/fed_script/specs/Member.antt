@@ -1,13 +1,13 @@
 -- What a line holds, and what one of its members is read as.
 use Rattle.std.specs.Prelude.{⊤, ℕ, Bool, true, false, ◌^◌, nat_lt, List, Option, Some}
 use Rattle.std.specs.Prelude.{None, option_and_then, Result, Ok, Err, if◌then◌else◌}
-use Rattle.std.specs.Str.{is_utf8}
 use Rattle.serde_json.specs.Data.{Data, null}
 use Rattle.serde_json.specs.Find.{get, as_str, as_number, as_u64}
-use Rattle.serde_json.specs.Read.{read}
 use Rattle.url.specs.Parts.{Parts}
+use Rattle.fed_json.specs.Value.{value_of}
 use Rattle.fed_origin.specs.declared.refusal.UrlRefusal.{UrlRefusal}
-use Rattle.fed_origin.specs.WebUrl.{web_url}
+use Rattle.fed_origin.specs.declared.origin.Origin.{Origin}
+use Rattle.fed_origin.specs.WebUrl.{origin_of, web_url}
 use Rattle.fed_script.specs.declared.cause.LineCause.{LineCause}
 use Rattle.fed_script.specs.declared.cause.LineCause.TheVariants.{NotJson, Member, BadUrl}
 use Rattle.fed_script.specs.declared.cause.MemberName.{MemberName}
@@ -31,7 +31,7 @@ or_cause cause (Some x) = Ok x
 
 -- the JSON value of a line: what `serde_json` reads of a text in UTF-8
 abbrev pub json_of : List ℕ → Result Data LineCause
-json_of line = or_cause NotJson (if is_utf8 line then read line else None)
+json_of line = or_cause NotJson (value_of line)
 
 -- null counts as absent
 abbrev pub unless_null : Option Data → Option Data
@@ -86,3 +86,9 @@ good_url (Err refusal) = Err BadUrl
 -- the URL of a text
 abbrev pub url_of : List ℕ → Result Parts LineCause
 url_of text = good_url (web_url text)
+
+-- the origin of the URL of a text
+abbrev pub origin_of_text : List ℕ → Result Origin LineCause
+origin_of_text text = do
+  url ← url_of text
+  Ok (origin_of url)

@@ -4,7 +4,7 @@ use Rattle.serde_json.specs.Data.{Data}
 use Rattle.fed_script.specs.declared.cause.LineCause.{LineCause}
 use Rattle.fed_script.specs.declared.cause.MemberName.TheVariants as names
 use Rattle.fed_script.specs.declared.event.Event.{Event}
-use Rattle.fed_script.specs.declared.event.Event.TheVariants.{At, ClosePage, Abort, GoOn, Cancel}
+use Rattle.fed_script.specs.declared.event.Event.TheVariants.{At, ClosePage, Abort, GoOn, Cancel, Prevent}
 use Rattle.fed_script.specs.Member.{◌>>=◌, required, as_whole, as_u32}
 
 -- the time that a line names
@@ -36,3 +36,9 @@ abbrev pub cancel_of : Data → Result Event LineCause
 cancel_of d = do
   call ← required as_u32 names.Call d
   Ok (Cancel call)
+
+-- the page that prevents silent access
+abbrev pub prevent_of : Data → Result Event LineCause
+prevent_of d = do
+  page ← required as_u32 names.Page d
+  Ok (Prevent page)

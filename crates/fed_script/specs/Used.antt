@@ -22,9 +22,10 @@ pub record UsedState : Type 0 where
 abbrev pub unused : ℕ → UsedState
 unused time = record { calls = []; started = false; events = 0; time = time }
 
--- an earlier line used the number of this get
+-- an earlier line used the number of this get or disconnect
 abbrev pub is_used : UsedState → Event → Bool
 is_used used (events.Get page call options) = list_any (nat_eq call) used.calls
+is_used used (events.Disconnect page call config client hint) = list_any (nat_eq call) used.calls
 is_used used _ = false
 
 -- a `have` after an event of another kind
@@ -37,7 +38,7 @@ abbrev pub is_back : UsedState → Event → Bool
 is_back used (events.At time) = nat_lt time used.time
 is_back used _ = false
 
--- no earlier line used the number of this get
+-- no earlier line used the number of this get or disconnect
 abbrev pub IsUnused : UsedState → Event → Type 0
 IsUnused used event = is_used used event ≡ false
 
@@ -64,6 +65,7 @@ HasKnownStatus _ = ⊤
 -- the numbers of the calls after an event
 abbrev pub calls_after : Event → List ℕ → List ℕ
 calls_after (events.Get page call options) calls = calls ++ call ∷ []
+calls_after (events.Disconnect page call config client hint) calls = calls ++ call ∷ []
 calls_after _ calls = calls
 
 -- whether an event other than a `have` came, after an event

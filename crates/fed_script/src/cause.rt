@@ -30,6 +30,7 @@ pub enum MemberName {
     Provider,
     To,
     Account,
+    Hint,
 }
 
 /// Why a line is bad, in the order in which the causes are tested.
@@ -112,6 +113,7 @@ impl MemberName {
             MemberName::Provider => "provider",
             MemberName::To => "to",
             MemberName::Account => "account",
+            MemberName::Hint => "hint",
         }
     }
 }

@@ -2,7 +2,7 @@
 ghost use Rattle.std.specs.Prelude.{◌≡◌, IfOk};
 
 use fed_io::{Bytes, NoRoom, Text};
-use fed_origin::{GetOptions, LoginStatus, Origin, ReplyKind, WebUrl};
+use fed_origin::{GetOptions, LoginStatus, Origin, ReplyKind, Triple, WebUrl};
 use fed_suffix::Suffixes;
 use std::alloc::Global;
 
@@ -32,6 +32,11 @@ impl Header {
 pub enum Have {
     /// The provider of this origin said this login status, which is not Unknown (Login Status API).
     Login { origin: Origin, status: LoginStatus },
+    /// A permission is kept: the user signed in to pages of this origin with this account of this provider (FedCM,
+    /// "connected accounts set").
+    Kept(Triple),
+    /// A page of this origin prevented silent access (Credential Management, "prevent silent access flag").
+    Silent { origin: Origin },
     /// A reply from the URL carried a Set-Cookie field with this value.
     Cookie { url: WebUrl, field: Bytes },
 }
@@ -87,10 +92,23 @@ pub enum Event {
         provider: u32,
         account: Text,
     },
+    /// A page calls `navigator.credentials.preventSilentAccess` (Credential Management 2.5.5).
+    Prevent {
+        page: u32,
+    },
     /// A page calls `navigator.login.setStatus` (Login Status API). The status is not Unknown.
     SetStatus {
         page: u32,
         status: LoginStatus,
+    },
+    /// A page calls `IdentityCredential.disconnect` (FedCM), under a number that names the call from then on: the
+    /// provider's configuration URL, the relying party's id there, and the account that it hints at.
+    Disconnect {
+        page: u32,
+        call: u32,
+        config: WebUrl,
+        client: Text,
+        hint: Text,
     },
 }
 
@@ -125,7 +143,15 @@ impl Drop for Event {
                 provider: _,
                 account: _,
             }
-            | Event::SetStatus { page: _, status: _ } => {}
+            | Event::Prevent { page: _ }
+            | Event::SetStatus { page: _, status: _ }
+            | Event::Disconnect {
+                page: _,
+                call: _,
+                config: _,
+                client: _,
+                hint: _,
+            } => {}
         }
     }
 }

@@ -5,12 +5,12 @@ ghost use Rattle.fed_script.specs.Have as spec;
 
 use crate::cause::{LineCause, MemberName};
 use crate::event::{Event, Have};
-use crate::member::{text, web_url};
+use crate::member::{self, text, web_url};
 use crate::raw::required_bytes;
 use crate::status::status;
-use fed_io::Fault;
+use fed_io::{Fault, Text};
 use fed_json::Part;
-use fed_origin::Origin;
+use fed_origin::Triple;
 use std::alloc::Global;
 
 // A login status that a line names.
@@ -19,9 +19,34 @@ fn login(alloc: Global, d: &Part<'_, '_>) -> Result<Have, Fault<LineCause>>
 {
     let origin = text(d, MemberName::Origin).map_err(Fault::Step)?;
     let status = status(d).map_err(Fault::Step)?;
-    let url = web_url(alloc, origin)?;
-    let origin = Origin::of_url(alloc, &url)?;
+    let origin = member::origin(alloc, origin)?;
     Ok(Have::Login { origin, status })
+}
+
+// A permission that a line names.
+fn kept(alloc: Global, d: &Part<'_, '_>) -> Result<Have, Fault<LineCause>>
+    ensures { Answers result (spec.kept_of (data_at d.now)) }
+{
+    let page = text(d, MemberName::Page).map_err(Fault::Step)?;
+    let provider = text(d, MemberName::Provider).map_err(Fault::Step)?;
+    let account = text(d, MemberName::Account).map_err(Fault::Step)?;
+    let page = member::origin(alloc, page)?;
+    let provider = member::origin(alloc, provider)?;
+    let account = Text::of(alloc, account)?;
+    Ok(Have::Kept(Triple {
+        page,
+        provider,
+        account,
+    }))
+}
+
+// An origin that a line names, whose pages prevented silent access.
+fn silent(alloc: Global, d: &Part<'_, '_>) -> Result<Have, Fault<LineCause>>
+    ensures { Answers result (spec.silent_of (data_at d.now)) }
+{
+    let origin = text(d, MemberName::Origin).map_err(Fault::Step)?;
+    let origin = member::origin(alloc, origin)?;
+    Ok(Have::Silent { origin })
 }
 
 // A cookie that a line names.
@@ -40,6 +65,8 @@ fn said(alloc: Global, what: &str, d: &Part<'_, '_>) -> Result<Have, Fault<LineC
 {
     match what {
         "login" => login(alloc, d),
+        "kept" => kept(alloc, d),
+        "silent" => silent(alloc, d),
         "cookie" => cookie(alloc, d),
         _ => Err(Fault::Step(LineCause::Member(MemberName::What))),
     }

@@ -2,13 +2,10 @@
 #![tactic(auto)]
 
 mod bytes;
-#[cfg(test)]
-mod call_tests;
 mod cause;
 mod choose;
+mod disconnect;
 mod event;
-#[cfg(test)]
-mod event_tests;
 mod get;
 mod have;
 mod header;
@@ -18,15 +15,11 @@ mod load;
 mod member;
 mod options;
 mod pair;
-#[cfg(test)]
-mod pair_tests;
 mod raw;
 mod reply;
 mod script;
 mod single;
 mod status;
-#[cfg(test)]
-mod tests;
 mod used;
 
 pub use bytes::{is_blank, next_line};

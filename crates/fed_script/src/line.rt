@@ -9,13 +9,14 @@ ghost use Rattle.std.specs.Result.{result_map_both};
 
 use crate::cause::{LineCause, MemberName};
 use crate::choose::choose;
+use crate::disconnect::disconnect;
 use crate::event::Event;
 use crate::get::get;
 use crate::have::have_named;
 use crate::load::load;
 use crate::member::{member, tape_of};
 use crate::reply::reply;
-use crate::single::{abort, at, cancel, close_page, go_on};
+use crate::single::{abort, at, cancel, close_page, go_on, prevent};
 use crate::status::set_status;
 use crate::used::Used;
 use fed_io::Fault;
@@ -41,9 +42,7 @@ fn unread_kind(kind: &str) -> LineCause
     ensures { result ≡ spec.unread_kind kind.now }
 {
     match kind {
-        "signin" | "shutwindow" | "idpclose" | "prevent" | "disconnect" => {
-            LineCause::Member(MemberName::Do)
-        }
+        "signin" | "shutwindow" | "idpclose" => LineCause::Member(MemberName::Do),
         _ => LineCause::NoKind,
     }
 }
@@ -63,7 +62,9 @@ fn event_of_kind(alloc: Global, kind: &str, d: &Part<'_, '_>) -> Result<Event, F
         "cancel" => cancel(d).map_err(Fault::Step),
         "reply" => reply(alloc, d),
         "choose" => choose(alloc, d),
+        "prevent" => prevent(d).map_err(Fault::Step),
         "setstatus" => set_status(d).map_err(Fault::Step),
+        "disconnect" => disconnect(alloc, d),
         _ => Err(Fault::Step(unread_kind(kind))),
     }
 }

@@ -10,7 +10,7 @@ ghost use Rattle.fed_script.specs.Member as spec;
 use crate::cause::{LineCause, MemberName};
 use fed_io::{Fault, NoRoom};
 use fed_json::Part;
-use fed_origin::WebUrl;
+use fed_origin::{Origin, WebUrl};
 use json::{Scratch, Tape};
 use std::alloc::Global;
 
@@ -122,4 +122,12 @@ pub(crate) fn web_url(alloc: Global, text: &str) -> Result<WebUrl, Fault<LineCau
         Err(Fault::Step(_)) => Err(Fault::Step(LineCause::BadUrl)),
         Err(Fault::NoRoom) => Err(Fault::NoRoom),
     }
+}
+
+/// The origin of the URL of a text; BadUrl where there is none.
+pub(crate) fn origin(alloc: Global, text: &str) -> Result<Origin, Fault<LineCause>>
+    ensures { Answers result (spec.origin_of_text text.now) }
+{
+    let url = web_url(alloc, text)?;
+    Ok(Origin::of_url(alloc, &url)?)
 }

@@ -2,6 +2,7 @@
 ghost use Rattle.std.specs.Prelude.{◌≡◌};
 ghost use Rattle.fed_json.specs.Part.{data_at};
 ghost use Rattle.fed_io.specs.Fault.{Answers};
+ghost use Rattle.fed_origin.specs.Words.{kind_of_word};
 ghost use Rattle.fed_script.specs.Member.{required, as_word};
 ghost use Rattle.fed_script.specs.Reply as spec;
 ghost use Rattle.fed_script.specs.declared.cause.MemberName.TheVariants as names;
@@ -15,26 +16,16 @@ use fed_json::Part;
 use fed_origin::ReplyKind;
 use std::alloc::Global;
 
-// The kind of reply that a word stands for. No call asks for a disconnection yet.
-fn reply_kind(word: &str) -> Option<ReplyKind>
-    ensures { result ≡ spec.reply_kind word.now }
-{
-    match ReplyKind::of_word(word)? {
-        ReplyKind::Disconnect => None,
-        kind => Some(kind),
-    }
-}
-
 // The kind of reply that a value names.
 fn as_kind(found: &Part<'_, '_>) -> Option<ReplyKind>
-    ensures { result ≡ as_word spec.reply_kind (data_at found.now) }
+    ensures { result ≡ as_word kind_of_word (data_at found.now) }
 {
-    reply_kind(found.as_str()?)
+    ReplyKind::of_word(found.as_str()?)
 }
 
 // The member `to`.
 fn kind(d: &Part<'_, '_>) -> Result<ReplyKind, LineCause>
-    ensures { result ≡ required (as_word spec.reply_kind) names.To (data_at d.now) }
+    ensures { result ≡ required (as_word kind_of_word) names.To (data_at d.now) }
 {
     let Some(found) = member(d, MemberName::To) else {
         return Err(LineCause::Member(MemberName::To));

@@ -47,3 +47,11 @@ pub(crate) fn cancel(d: &Part<'_, '_>) -> Result<Event, LineCause>
     let call = number(d, MemberName::Call)?;
     Ok(Event::Cancel { call })
 }
+
+/// The page that prevents silent access.
+pub(crate) fn prevent(d: &Part<'_, '_>) -> Result<Event, LineCause>
+    ensures { result ≡ spec.prevent_of (data_at d.now) }
+{
+    let page = number(d, MemberName::Page)?;
+    Ok(Event::Prevent { page })
+}

@@ -62,12 +62,12 @@ impl Used {
         self.events >= 1_000_000
     }
 
-    /// Whether the event is a get whose number is used.
+    /// Whether the event is a get or a disconnect whose number is used.
     pub(crate) fn is_used(&self, event: &Event) -> bool
         ensures { result ≡ is_used self.now event.now }
     {
         match event {
-            Event::Get { call, .. } => self.calls.contains(call),
+            Event::Get { call, .. } | Event::Disconnect { call, .. } => self.calls.contains(call),
             _ => false,
         }
     }
@@ -111,9 +111,10 @@ impl Used {
         ensures ok { OnOk result (self.new ≡ used_after event.now self.old) }
         ensures err { OnErr result (self.new ≡ self.old) }
     {
-        if let Event::Get { call, .. } = event {
-            self.calls.insert(*call)?;
-        }
+        match event {
+            Event::Get { call, .. } | Event::Disconnect { call, .. } => self.calls.insert(*call)?,
+            _ => false,
+        };
         self.started = started_after(event, self.started);
         self.time = time_after(event, self.time);
         self.events += 1;
@@ -138,25 +139,5 @@ fn time_after(event: &Event, before: u64) -> u64
     match event {
         Event::At { time } => *time,
         _ => before,
-    }
-}
-
-#[cfg(test)]
-mod tests {
-    use super::*;
-    use crate::read_event;
-
-    const LOAD: &[u8] = br#"{"do":"load","page":1,"url":"https://rp.example/"}"#;
-
-    #[test]
-    fn a_million_events(rt: HostRuntime) {
-        let mut used = Used::new(rt.alloc(), 0);
-        used.events = 999_999;
-        assert!(rt; read_event(rt.alloc(), LOAD, &mut used).is_ok());
-        let cause = match read_event(rt.alloc(), LOAD, &mut used) {
-            Err(Fault::Step(cause)) => Some(cause),
-            _ => None,
-        };
-        assert_eq!(rt; cause, Some(LineCause::TooManyEvents));
     }
 }

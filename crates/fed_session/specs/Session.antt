@@ -11,7 +11,7 @@ use Rattle.fed_suffix.specs.Rule.{RuleSet}
 use Rattle.fed_jar.specs.Cookie.{StoredCookie}
 use Rattle.fed_status.specs.Login.{Logins}
 use Rattle.fed_script.specs.declared.event.Event.{Event}
-use Rattle.fed_script.specs.declared.event.Event.TheVariants.{Get}
+use Rattle.fed_script.specs.declared.event.Event.TheVariants.{Get, Disconnect}
 use Rattle.fed_session.specs.declared.page.Page.{Page}
 use Rattle.fed_session.specs.declared.view.View.{View}
 use Rattle.fed_trace.specs.Begun.{CallKind, is_get}
@@ -110,6 +110,7 @@ pub record Stands (s : State) (T : Trace) : Type 0 where
 -- no earlier event of the session took the call
 abbrev pub IsFresh : State → Event → Type 0
 IsFresh s (Get page call options) = lookup (nat_eq call) s.calls ≡ None
+IsFresh s (Disconnect page call config client hint) = lookup (nat_eq call) s.calls ≡ None
 IsFresh s _ = ⊤
 
 -- a call with its page and its stage, which it has

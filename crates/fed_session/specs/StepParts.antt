@@ -21,7 +21,7 @@ use Rattle.fed_consent.specs.declared.table.effect.Effect.TheVariants as does
 use Rattle.fed_consent.specs.declared.table.input.Input.{Input}
 use Rattle.fed_consent.specs.declared.table.why.Why.TheVariants.{NoPage, NoCall, CallEnded}
 use Rattle.fed_consent.specs.Outcomes.{Outcome, ignored}
-use Rattle.fed_status.specs.Flags.{without_flag}
+use Rattle.fed_status.specs.Flags.{with_flag, without_flag}
 use Rattle.fed_status.specs.Kept.{with_triple, without_triple, without_pair}
 use Rattle.fed_origin.specs.declared.status.Triple.{Triple}
 use Rattle.fed_trace.specs.Begun.{CallKind, GetCall, DisconnectCall, CallOptions, Begun}
@@ -38,7 +38,7 @@ use Rattle.fed_session.specs.declared.page.Page.{Page}
 use Rattle.fed_session.specs.declared.sight.Sight.{Sight}
 use Rattle.fed_trace.specs.Effect.{Effect, Sent, Shown, Window, Result, Ignored}
 use Rattle.fed_trace.specs.Records.{record_of, records_of}
-use Rattle.fed_trace.specs.Row.{begin_effects, input_effects, status_effects}
+use Rattle.fed_trace.specs.Row.{begin_effects, input_effects, page_says}
 use Rattle.fed_session.specs.Session.{State, get_of, held_by, kept_at}
 
 -- the session as it was before a step began, and as it is after the step is counted
@@ -202,9 +202,19 @@ abbrev pub close_records : ℕ → Option Page → List Out
 close_records line None = records_of line (Ignored NoPage ∷ [])
 close_records line (Some p) = []
 
--- the effects of a status that a page sets, by what is kept of it
-abbrev pub status_at : Option Page → LoginStatus → List Effect
-status_at found status = status_effects (option_map (λ p. p.origin) found) status
+-- the effects of what a page says of its origin, by what is kept of it
+abbrev pub says_at : Option Page → (Origin → Effect) → List Effect
+says_at found says = page_says (option_map (λ p. p.origin) found) says
+
+-- the flags after a page of this origin set its own, by whether it is trustworthy
+abbrev pub standing_flags : Bool → Origin → List Origin → List Origin
+standing_flags true origin flags = with_flag flags origin
+standing_flags false origin flags = flags
+
+-- the same of a page, if it stands
+abbrev pub flags_set : Option Origin → List Origin → List Origin
+flags_set None flags = flags
+flags_set (Some origin) flags = standing_flags (is_trustworthy origin) origin flags
 
 -- the calls after this one, if it was taken, is kept so
 abbrev pub with_kept : ℕ → Option Known → List (ℕ × Option Known) → List (ℕ × Option Known)
@@ -267,8 +277,18 @@ with_statuses origin (status ∷ statuses) logins = with_statuses origin statuse
 
 -- the statuses after a line of the kind `have`
 abbrev pub have_statuses : Have → Logins → Logins
-have_statuses (haves.Cookie url field) logins = logins
 have_statuses (haves.Login origin status) logins = with_status logins origin status
+have_statuses _ logins = logins
+
+-- the permissions after it
+abbrev pub have_kept : Have → List Triple → List Triple
+have_kept (haves.Kept triple) kept = with_triple kept triple
+have_kept _ kept = kept
+
+-- the flags after it
+abbrev pub have_flags : Have → List Origin → List Origin
+have_flags (haves.Silent origin) flags = with_flag flags origin
+have_flags _ flags = flags
 
 -- a call by what is kept of it, where it is pending
 abbrev pub shown_call : ℕ × Option Known → Option (ℕ × ℕ × Stage)

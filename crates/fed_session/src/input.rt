@@ -88,7 +88,9 @@ pub(crate) fn input_of(alloc: Global, event: &Event) -> Result<Option<(u32, Inpu
         | Event::At { .. }
         | Event::Load { .. }
         | Event::ClosePage { .. }
+        | Event::Prevent { .. }
         | Event::SetStatus { .. }
-        | Event::Get { .. } => None,
+        | Event::Get { .. }
+        | Event::Disconnect { .. } => None,
     })
 }

@@ -3,14 +3,13 @@
 
 mod apply;
 mod calls;
+mod disconnect;
 mod get;
 mod input;
 mod load;
 mod page;
 mod session;
 mod sight;
-#[cfg(test)]
-mod tests;
 mod view;
 
 pub use fed_trace::Out;

@@ -5,7 +5,7 @@ ghost use Rattle.fed_jar.specs.Cookie.{cookies_after};
 ghost use Rattle.fed_reply.specs.Fields.{values};
 ghost use Rattle.fed_script.specs.Used.{SaysKnown};
 ghost use Rattle.fed_trace.specs.Row.{cookies_from, have_cookies, set_cookies, set_cookie_name, set_logins, set_login_name};
-ghost use Rattle.fed_session.specs.StepParts.{with_statuses, logins_in, have_statuses};
+ghost use Rattle.fed_session.specs.StepParts.{with_statuses, logins_in, have_statuses, have_kept, have_flags};
 
 use crate::sight::Sight;
 use fed_io::{Bytes, Fault, NoRoom};
@@ -77,7 +77,7 @@ fn set_status(login: &mut LoginMap, origin: &Origin, field: &[u8]) -> Result<(),
     }
 }
 
-/// Stores the cookie, or sets the status, that a line of the kind `have` names.
+/// Stores the cookie, or sets the status, the permission or the flag, that a line of the kind `have` names.
 pub(crate) fn take_have(alloc: Global, sight: &mut Sight, have: &Have) -> Result<(), NoRoom>
     requires { SaysKnown have.now }
     ensures { OnOk result (sight.new ≡ record sight.old {
@@ -85,10 +85,14 @@ pub(crate) fn take_have(alloc: Global, sight: &mut Sight, have: &Have) -> Result
           cookies_after sight.old.jar (have_cookies sight.old.rules sight.old.time have.now);
       login =
           have_statuses have.now sight.old.login;
+      kept = have_kept have.now sight.old.kept;
+      flags = have_flags have.now sight.old.flags;
     }) }
 {
     match have {
         Have::Cookie { url, field } => sight.store(alloc, url, field.as_slice()),
         Have::Login { origin, status } => sight.login.set(origin, *status),
+        Have::Kept(triple) => sight.kept.add(triple.copy(alloc)?),
+        Have::Silent { origin } => sight.flags.set(origin),
     }
 }

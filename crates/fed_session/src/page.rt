@@ -1,15 +1,15 @@
 //! Pages that stand.
-ghost use Rattle.std.specs.Prelude.{◌≡◌, [], ◌∷◌, nat_eq, OnOk, IfOk, Some, None};
+ghost use Rattle.std.specs.Prelude.{◌≡◌, [], ◌∷◌, nat_eq, option_map, OnOk, IfOk, Some, None, true};
 ghost use Rattle.std.specs.Map.{lookup};
 ghost use Rattle.indexmap.specs.IndexMap.{insert_entry, shift_remove_entry};
 ghost use Rattle.fed_origin.specs.Origin.{same_origin};
 ghost use Rattle.fed_origin.specs.WebUrl.{origin_of};
 ghost use Rattle.fed_script.specs.Used.{IsKnown};
-ghost use Rattle.fed_trace.specs.Effect.{login_change};
+ghost use Rattle.fed_trace.specs.Effect.{Login, Flag, login_change};
 ghost use Rattle.fed_trace.specs.Keyed.{entries_after};
 ghost use Rattle.fed_trace.specs.Records.{records_of};
-ghost use Rattle.fed_session.specs.StepParts.{kind_in, with_all_ended, without_held, holding, page_with, page_without, freed_at, status_at};
-ghost use Rattle.fed_session.specs.StepParts.{close_records};
+ghost use Rattle.fed_session.specs.StepParts.{kind_in, with_all_ended, without_held, holding, page_with, page_without, freed_at, says_at};
+ghost use Rattle.fed_session.specs.StepParts.{close_records, flags_set};
 ghost use Rattle.fed_session.specs.StepParts as spec;
 
 use crate::apply::ignored;
@@ -17,7 +17,7 @@ use crate::calls::{Calls, Kept, Pending, end};
 use fed_consent::Why;
 use fed_io::{Items, NoRoom};
 use fed_origin::{LoginStatus, Origin, WebUrl};
-use fed_status::LoginMap;
+use fed_status::{LoginMap, SilentFlags};
 use fed_trace::Out;
 use indexmap::IndexMap;
 use std::alloc::Global;
@@ -133,10 +133,10 @@ pub(crate) fn set_page_status(
     status: LoginStatus,
 ) -> Result<Items<Out>, NoRoom>
     requires { IsKnown status }
-    ensures outs { IfOk result (λ outs. outs ≡ records_of line (status_at (lookup (nat_eq page) pages.now.entries) status)) }
-    ensures login { OnOk result (login.new ≡ entries_after same_origin login_change (status_at (lookup (nat_eq page) pages.now.entries)
-        status)
-        login.old) }
+    ensures outs { IfOk result (λ outs. outs ≡ records_of line (says_at (lookup (nat_eq page) pages.now.entries)
+        (λ origin. Login origin status))) }
+    ensures login { OnOk result (login.new ≡ entries_after same_origin login_change (says_at (lookup (nat_eq page) pages.now.entries)
+        (λ origin. Login origin status)) login.old) }
 {
     let Some(found) = pages.get(&page) else {
         return ignored(alloc, line, Why::NoPage);
@@ -145,6 +145,29 @@ pub(crate) fn set_page_status(
         return ignored(alloc, line, Why::PageInsecure);
     }
     login.set(&found.origin, status)?;
+    Ok(Items::new(alloc))
+}
+
+/// The page prevents silent access at its origin; ignored where it does not stand, or is not trustworthy.
+pub(crate) fn prevent(
+    alloc: Global,
+    line: u32,
+    pages: &IndexMap<u32, Page>,
+    flags: &mut SilentFlags,
+    page: u32,
+) -> Result<Items<Out>, NoRoom>
+    ensures outs { IfOk result (λ outs. outs ≡ records_of line (says_at (lookup (nat_eq page) pages.now.entries)
+        (λ origin. Flag origin true))) }
+    ensures flags { OnOk result (flags.new ≡ flags_set (option_map (λ p. p.origin) (lookup (nat_eq page) pages.now.entries))
+        flags.old) }
+{
+    let Some(found) = pages.get(&page) else {
+        return ignored(alloc, line, Why::NoPage);
+    };
+    if !found.origin.is_trustworthy() {
+        return ignored(alloc, line, Why::PageInsecure);
+    }
+    flags.set(&found.origin)?;
     Ok(Items::new(alloc))
 }
 

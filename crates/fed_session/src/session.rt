@@ -11,13 +11,14 @@ ghost use Rattle.fed_session.specs.StepParts.{revived, stepped};
 ghost use Rattle.fed_trace.specs.Trace.{Trace};
 
 use crate::calls::Calls;
+use crate::disconnect::disconnect;
 use crate::get::get;
 use crate::input::{input_of, take_input};
 use crate::load::{take_have, take_head};
-use crate::page::{Page, close, load, set_page_status};
+use crate::page::{Page, close, load, prevent, set_page_status};
 use crate::sight::Sight;
-use crate::view::{View, shown_calls, shown_flags, shown_kept, shown_logins, shown_pages};
-use fed_io::{Bytes, Items, NoRoom, Steps};
+use crate::view::{View, shown_calls, shown_flags, shown_logins, shown_pages};
+use fed_io::{Bytes, Items, NoRoom, Steps, Text};
 use fed_origin::{GetOptions, WebUrl};
 use fed_script::{Event, Have, Header};
 use fed_trace::Out;
@@ -91,19 +92,6 @@ impl Session {
         })
     }
 
-    // A session that looks at this, in which nothing else stands.
-    #[cfg(test)]
-    pub(crate) fn with_sight(alloc: Global, sight: Sight) -> Session {
-        Session {
-            alloc,
-            alive: true,
-            steps: 0,
-            sight,
-            pages: IndexMap::new(alloc),
-            calls: IndexMap::new(alloc),
-        }
-    }
-
     /// Takes one event, and answers its records in their order. After want of memory the session is dead: each further
     /// step answers want of memory.
     pub fn step<L: Ledger>(
@@ -153,6 +141,11 @@ impl Session {
                 let outs = close(self.alloc, line, &mut self.pages, &mut self.calls, *page)?;
                 Ok(outs)
             }
+            Event::Prevent { page } => {
+                let (pages, flags) = (&self.pages, &mut self.sight.flags);
+                let outs = prevent(self.alloc, line, pages, flags, *page)?;
+                Ok(outs)
+            }
             Event::SetStatus { page, status } => {
                 let (pages, login) = (&self.pages, &mut self.sight.login);
                 let outs = set_page_status(self.alloc, line, pages, login, *page, *status)?;
@@ -163,6 +156,13 @@ impl Session {
                 call,
                 options,
             } => self.get(line, *page, *call, options),
+            Event::Disconnect {
+                page,
+                call,
+                config,
+                client,
+                hint,
+            } => self.disconnect(line, *page, *call, config, client, hint),
             Event::Abort { .. }
             | Event::GoOn { .. }
             | Event::Cancel { .. }
@@ -226,6 +226,38 @@ impl Session {
         Ok(outs)
     }
 
+    // A page calls to be disconnected.
+    fn disconnect(
+        &mut self,
+        line: u32,
+        page: u32,
+        call: u32,
+        config: &WebUrl,
+        client: &Text,
+        hint: &Text,
+    ) -> Result<Items<Out>, NoRoom>
+        requires { lookup (nat_eq call) self.old.calls ≡ None }
+        ensures row { (T : Trace) → Stands (revived self.old) T
+            → IfOk result (λ outs. (outs ≡ records (row_of T line (events.Disconnect page call config.now client.now hint.now)))
+            × Stands (stepped self.new) (with_event T line (events.Disconnect page call config.now client.now hint.now))) }
+        ensures steps { self.new.steps ≡ self.old.steps }
+        ensures alive { self.new.alive ≡ self.old.alive }
+    {
+        let outs = disconnect(
+            self.alloc,
+            line,
+            &self.sight,
+            &mut self.pages,
+            &mut self.calls,
+            page,
+            call,
+            config,
+            client,
+            hint,
+        )?;
+        Ok(outs)
+    }
+
     // An event that names a call, and brings it an input.
     fn called(&mut self, line: u32, event: &Event) -> Result<Items<Out>, NoRoom>
         requires { is_some (input_of event.now) ≡ true }
@@ -260,7 +292,7 @@ impl Session {
         Ok(View {
             now: self.sight.time,
             login: shown_logins(self.alloc, &self.sight.login)?,
-            kept: shown_kept(self.alloc, &self.sight.kept)?,
+            kept: self.sight.kept.list(self.alloc)?,
             silent: shown_flags(self.alloc, &self.sight.flags)?,
             cookies: Items::from_vec(self.sight.jar.list(self.alloc)?),
             pages: shown_pages(self.alloc, &self.pages)?,

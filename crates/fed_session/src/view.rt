@@ -9,7 +9,7 @@ use crate::page::Page;
 use fed_io::{Items, NoRoom};
 use fed_jar::Cookie;
 use fed_origin::{LoginStatus, Origin, Stage, Triple};
-use fed_status::{KeptSet, LoginMap, SilentFlags};
+use fed_status::{LoginMap, SilentFlags};
 use indexmap::IndexMap;
 use std::alloc::Global;
 
@@ -43,19 +43,6 @@ pub(crate) fn shown_logins(
     for place in 0..login.len() {
         if let Some((origin, status)) = login.item(place) {
             shown.push((origin.copy(alloc)?, status))?;
-        }
-    }
-    Ok(shown)
-}
-
-/// The permissions that are kept.
-pub(crate) fn shown_kept(alloc: Global, kept: &KeptSet) -> Result<Items<Triple>, NoRoom>
-    ensures { IfOk result (λ shown. shown ≡ kept.now) }
-{
-    let mut shown = Items::new(alloc);
-    for place in 0..kept.len() {
-        if let Some(triple) = kept.item(place) {
-            shown.push(triple.copy(alloc)?)?;
         }
     }
     Ok(shown)

@@ -1,7 +1,7 @@
 //! The kept permissions in order of entering.
 ghost use Rattle.std.specs.Prelude.{◌≡◌, ◌<◌, ◌++◌, ◌∷◌, [], ℕ, Some, None, false, nat_eq, is_some, length};
 ghost use Rattle.std.specs.Prelude.{slice_get};
-ghost use Rattle.std.specs.Prelude.{option_copied, option_map, OnOk, OnErr};
+ghost use Rattle.std.specs.Prelude.{option_copied, option_map, IfOk, OnOk, OnErr};
 ghost use Rattle.std.specs.List.{IsDistinct};
 ghost use Rattle.std.specs.Map.{keys_of, values_of, lookup, remove_entry};
 ghost use Rattle.indexmap.specs.IndexMap.{spare};
@@ -10,7 +10,7 @@ ghost use Rattle.fed_status.specs.Entries.{AreBelow, NumbersOne, CountsOne, with
 ghost use Rattle.fed_status.specs.Place.{same_place};
 
 use crate::place::Place;
-use fed_io::NoRoom;
+use fed_io::{Items, NoRoom};
 use fed_origin::Triple;
 use indexmap::IndexMap;
 use std::alloc::Global;
@@ -105,6 +105,13 @@ impl Entries {
             return at_slot(&self.slots, k);
         }
         standing(&self.slots, k)
+    }
+
+    /// The permissions that stand, in order of entering, each copied, by one walk.
+    pub fn list(&self, alloc: Global) -> Result<Items<Triple>, NoRoom>
+        ensures { IfOk result (λ list. list ≡ values_of self.now) }
+    {
+        all_standing(alloc, &self.slots)
     }
 }
 
@@ -202,4 +209,17 @@ fn standing(slots: &Slots, k: usize) -> Option<&Triple>
         }
     }
     None
+}
+
+// All permissions that stand.
+fn all_standing(alloc: Global, slots: &Slots) -> Result<Items<Triple>, NoRoom>
+    ensures { IfOk result (λ list. list ≡ values_of (entries_in slots.now.entries)) }
+{
+    let mut list = Items::new(alloc);
+    for (_, slot) in slots.iter() {
+        if let Some((_, triple)) = slot {
+            list.push(triple.copy(alloc)?)?;
+        }
+    }
+    Ok(list)
 }

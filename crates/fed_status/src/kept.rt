@@ -1,11 +1,11 @@
 //! Kept permissions.
-ghost use Rattle.std.specs.Prelude.{◌≡◌, [], length, slice_get, OnOk, OnErr};
+ghost use Rattle.std.specs.Prelude.{◌≡◌, [], length, slice_get, IfOk, OnOk, OnErr};
 ghost use Rattle.std.specs.Option.{option_copied};
 ghost use Rattle.fed_status.specs.Kept as spec;
 ghost use Rattle.fed_status.specs.Kept.{triple_of, with_triple, without_triple, but_triple, without_pair, triples_of_pair, without_each};
 
 use crate::table::Table;
-use fed_io::{NoRoom, Text};
+use fed_io::{Items, NoRoom, Text};
 use fed_origin::{Origin, Triple};
 use std::alloc::Global;
 use std::marker::Model;
@@ -105,5 +105,12 @@ impl KeptSet {
         ensures distinct { spec.HasDistinctTriples self.now }
     {
         self.table.item(k)
+    }
+
+    /// The permissions in order of entering, each copied.
+    pub fn list(&self, alloc: Global) -> Result<Items<Triple>, NoRoom>
+        ensures { IfOk result (λ list. list ≡ self.now) }
+    {
+        self.table.list(alloc)
     }
 }

@@ -10,8 +10,6 @@ mod place;
 mod set_login;
 mod shared;
 mod table;
-#[cfg(test)]
-mod tests;
 
 pub use fed_origin::{LoginStatus, Triple};
 pub use flags::SilentFlags;

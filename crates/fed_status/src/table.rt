@@ -1,5 +1,5 @@
 //! The table of kept permissions: each under the numbers of its parts.
-ghost use Rattle.std.specs.Prelude.{◌≡◌, [], Some, not, filter, length, slice_get, OnOk, OnErr};
+ghost use Rattle.std.specs.Prelude.{◌≡◌, [], Some, not, filter, length, slice_get, IfOk, OnOk, OnErr};
 ghost use Rattle.std.specs.List.{IsDistinct};
 ghost use Rattle.std.specs.Map.{keys_of};
 ghost use Rattle.std.specs.Option.{option_copied};
@@ -11,7 +11,7 @@ ghost use Rattle.fed_status.specs.Table.{IsTable, ArePairsOf, triples_of, withou
 use crate::entries::Entries;
 use crate::pairs::{Pairs, has_some, list, take, unlist};
 use crate::place::{Names, Pair, Place};
-use fed_io::{NoRoom, Text};
+use fed_io::{Items, NoRoom, Text};
 use fed_origin::{Origin, Triple};
 use indexmap::{IndexMap, IndexSet};
 use std::alloc::Global;
@@ -119,6 +119,12 @@ impl Table {
         ensures { option_copied result ≡ slice_get (triples_of self.now) k }
     {
         self.kept.item(k)
+    }
+
+    pub fn list(&self, alloc: Global) -> Result<Items<Triple>, NoRoom>
+        ensures { IfOk result (λ list. list ≡ triples_of self.now) }
+    {
+        self.kept.list(alloc)
     }
 }
 

@@ -10,6 +10,3 @@ mod tree;
 
 pub use refusal::SuffixRefusal;
 pub use suffixes::Suffixes;
-
-#[cfg(test)]
-mod tests;

@@ -8,6 +8,3 @@ mod step;
 pub use cors::cors_passes;
 pub use read::{read_assertion, read_disconnect};
 pub use step::TokenStep;
-
-#[cfg(test)]
-mod tests;

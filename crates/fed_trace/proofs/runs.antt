@@ -2,4 +2,3 @@
 pub mod Untaken
 pub mod Scripts
 pub mod Gets
-pub mod Only

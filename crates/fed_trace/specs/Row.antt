@@ -29,11 +29,12 @@ use Rattle.fed_consent.specs.declared.table.effect.Effect.TheVariants as does
 use Rattle.fed_consent.specs.declared.table.input.Input.{Input}
 use Rattle.fed_consent.specs.declared.table.why.Why.TheVariants.{NoPage, PageInsecure, NoCall, CallEnded}
 use Rattle.fed_consent.specs.Outcomes.{Outcome}
-use Rattle.fed_trace.specs.Begun.{Begun, CallKind, CallOptions, ToGet, kind_asked}
+use Rattle.fed_disconnect.specs.Facts.{disconnect_options}
+use Rattle.fed_trace.specs.Begun.{Begun, CallKind, CallOptions, ToGet, ToDisconnect, kind_asked}
 use Rattle.fed_trace.specs.Call.{Known, kind_of, page_of, first_row, input_row}
 use Rattle.fed_script.specs.declared.event.Event.{Event}
 use Rattle.fed_script.specs.declared.event.Event.TheVariants as events
-use Rattle.fed_script.specs.declared.event.Event.TheVariants.{At, Load, ClosePage, Get, SetStatus}
+use Rattle.fed_script.specs.declared.event.Event.TheVariants.{At, Load, ClosePage, Get, Prevent, SetStatus, Disconnect}
 use Rattle.fed_script.specs.declared.event.Have.{Have}
 use Rattle.fed_script.specs.declared.event.Have.TheVariants as haves
 use Rattle.fed_script.specs.declared.event.Header.{Header}
@@ -166,34 +167,42 @@ abbrev pub close_effects : List (ℕ × CallKind) → ℕ → Option Origin → 
 close_effects calls page None = Ignored NoPage ∷ []
 close_effects calls page (Some origin) = ends_of calls ++ Closed page ∷ []
 
--- a page sets the status of its origin, by whether it is trustworthy
-abbrev pub standing_status : Bool → Origin → LoginStatus → List Effect
-standing_status true origin status = Login origin status ∷ []
-standing_status false origin status = Ignored PageInsecure ∷ []
+-- what a page that stands says of its origin, by whether it is trustworthy
+abbrev pub standing_says : Bool → Effect → List Effect
+standing_says true said = said ∷ []
+standing_says false said = Ignored PageInsecure ∷ []
 
-abbrev pub status_effects : Option Origin → LoginStatus → List Effect
-status_effects None status = Ignored NoPage ∷ []
-status_effects (Some origin) status = standing_status (is_trustworthy origin) origin status
+-- what a page says of its origin, if it stands
+abbrev pub page_says : Option Origin → (Origin → Effect) → List Effect
+page_says None said = Ignored NoPage ∷ []
+page_says (Some origin) said = standing_says (is_trustworthy origin) (said origin)
 
--- the cookies and the statuses that a line of the kind `have` says
+-- the cookies that a line of the kind `have` says
 abbrev pub have_cookies : RuleSet → ℕ → Have → List StoredCookie
 have_cookies rules now (haves.Cookie url field) = cookies_from rules url now (field ∷ [])
-have_cookies rules now (haves.Login origin status) = []
+have_cookies rules now _ = []
 
-abbrev pub have_logins : Have → List Effect
-have_logins (haves.Cookie url field) = []
-have_logins (haves.Login origin status) = Login origin status ∷ []
+-- the status, the permission or the flag that it says
+abbrev pub have_states : Have → List Effect
+have_states (haves.Cookie url field) = []
+have_states (haves.Login origin status) = Login origin status ∷ []
+have_states (haves.Kept triple) = Kept triple true ∷ []
+have_states (haves.Silent origin) = Flag origin true ∷ []
 
 -- the effects of an event after what happened
 abbrev pub effects_of : Trace → Event → List Effect
-effects_of T (events.Have have) = cookie_effects (have_cookies T.header.rules (now_at T) have) ++ have_logins have
+effects_of T (events.Have have) = cookie_effects (have_cookies T.header.rules (now_at T) have) ++ have_states have
 effects_of T (At time) = Time time ∷ []
 effects_of T (Load page url raw) =
     load_effects (pending_of T page) page url (cookies_from T.header.rules url (now_at T) (set_cookies raw)) (set_logins raw)
 effects_of T (ClosePage page) = close_effects (pending_of T page) page (page_at T page)
 effects_of T (Get page call options) =
     begin_effects (world_at T) (cookies_with T) (page_at T page) (is_busy page (gets T)) page call (ToGet options)
-effects_of T (SetStatus page status) = status_effects (page_at T page) status
+effects_of T (Disconnect page call config client hint) =
+    begin_effects (world_at T) (cookies_with T) (page_at T page) (is_busy page (gets T)) page call
+    (ToDisconnect (disconnect_options config client hint))
+effects_of T (Prevent page) = page_says (page_at T page) (λ origin. Flag origin true)
+effects_of T (SetStatus page status) = page_says (page_at T page) (λ origin. Login origin status)
 effects_of T event = brought_effects T (input_of event)
 
 -- the row of an event at this line after what happened
@@ -204,9 +213,10 @@ row_of T line event = record { line = line; event = event; effects = effects_of 
 abbrev pub with_event : Trace → ℕ → Event → Trace
 with_event T line event = record { header = T.header; rows = row_of T line event ∷ T.rows }
 
--- the call of a get never began before, and it has one provider
+-- the call of a get or of a disconnect never began before, and a get has one provider
 abbrev pub IsNew : List Row → Event → Type 0
 IsNew rows (Get page call options) = (list_any (nat_eq call) (begun rows) ≡ false) × (length options.providers ≡ 1)
+IsNew rows (Disconnect page call config client hint) = list_any (nat_eq call) (begun rows) ≡ false
 IsNew rows _ = ⊤
 
 -- each row is that of its event after the rows before it

@@ -3,4 +3,6 @@ pub mod Call
 pub mod Row
 pub mod Get
 pub mod Outcome
+pub mod Few
+pub mod Disconnect
 pub mod Facts

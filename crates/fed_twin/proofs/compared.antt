@@ -1,4 +1,4 @@
 -- What is compared of twins.
-pub mod Sends
 pub mod Requests
+pub mod Sends
 pub mod Compare

@@ -3,4 +3,6 @@ pub mod Flip
 pub mod Grow
 pub mod Pages
 pub mod Steps
+pub mod Disconnects
+pub mod Flags
 pub mod Worlds

@@ -3,6 +3,7 @@ use Rattle.std.specs.Prelude.{◌≡◌, ℕ, true, false, ◌||◌, List, map, 
 use Rattle.std.specs.List.{list_any}
 use Rattle.std.specs.Option.{option_map_or}
 use Rattle.url.specs.Parts.{Parts}
+use Rattle.fed_origin.specs.declared.options.ProviderOptions.{ProviderOptions}
 use Rattle.fed_origin.specs.declared.origin.Origin.{Origin}
 use Rattle.fed_origin.specs.Origin.{is_trustworthy}
 use Rattle.fed_origin.specs.WebUrl.{host_of}
@@ -26,6 +27,10 @@ SameHeaders a b = (a.now ≡ b.now) × (a.rules ≡ b.rules)
 -- the parties of the hosts of these URLs
 abbrev pub parties_of : RuleSet → List Parts → List (List ℕ)
 parties_of rules urls = map (λ url. party rules (host_of url)) urls
+
+-- those of providers
+abbrev pub provider_parties : RuleSet → List ProviderOptions → List (List ℕ)
+provider_parties rules ps = parties_of rules (map (λ p. p.config) ps)
 
 abbrev pub known_by : RuleSet → List (List ℕ) → Providers
 known_by rules parties = record { rules = rules; parties = parties }

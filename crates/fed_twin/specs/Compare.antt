@@ -3,11 +3,12 @@ use Rattle.std.specs.Prelude.{◌≡◌, ℕ, ◌≤◌, Bool, true, false, List
 use Rattle.std.specs.List.{list_any, filter_map}
 use Rattle.fed_origin.specs.declared.stage.ReplyKind.{ReplyKind}
 use Rattle.fed_origin.specs.declared.stage.ReplyKind.TheVariants as kinds
+use Rattle.fed_script.specs.declared.event.Event.{Event}
 use Rattle.fed_script.specs.Script.{Script, IsRead}
 use Rattle.fed_trace.specs.declared.out.Out.{Out}
 use Rattle.fed_trace.specs.declared.out.Out.TheVariants.{Request}
 use Rattle.fed_trace.specs.Trace.{Row}
-use Rattle.fed_twin.specs.Script.{kept_events, first_sent, is_loud, Quiet, sign_in}
+use Rattle.fed_twin.specs.Script.{kept_events, first_sent, is_disconnect, is_loud, Quiet, sign_in}
 
 -- the greatest number of kept events up to which neither script asks for a token or a disconnect
 pub record IsQuietLength (a b : Script) (k : ℕ) : Type 0 where
@@ -41,11 +42,15 @@ unfoldable pub is_first_record : Out → Bool
 is_first_record (Request line call provider kind bytes) = is_first_kind kind
 is_first_record _ = false
 
--- the number of sign-in requests among records, unless one asks for a token or a disconnect
-abbrev pub quiet_count : List Out → Option ℕ
-quiet_count outs = if list_any is_naming_record outs then None else Some (length (filter is_first_record outs))
+-- the number of sign-in requests of gets among the records of an event
+abbrev pub get_count : Event → List Out → ℕ
+get_count event outs = if is_disconnect event then 0 else length (filter is_first_record outs)
 
--- the number of sign-in requests of a row, unless it asks for a token or a disconnect
+-- the same, unless a record asks for a token or a disconnect
+abbrev pub quiet_count : Event → List Out → Option ℕ
+quiet_count event outs = if list_any is_naming_record outs then None else Some (get_count event outs)
+
+-- the number of sign-in requests of gets of a row, unless it asks for a token or a disconnect
 abbrev pub quiet_requests : Row → Option ℕ
 quiet_requests row = if is_loud row then None else Some (length (filter_map first_sent row.effects))
 

@@ -1,15 +1,17 @@
 -- What is the same of a call, and of all that happened, in two worlds that providers cannot tell apart.
-use Rattle.std.specs.Prelude.{◌≡◌, ℕ, Bool, true, false, length, Option, Some, None, is_some, IfSome, ⊤, ◌⊎◌}
-use Rattle.std.specs.List.{AllZip}
+use Rattle.std.specs.Prelude.{◌≡◌, ℕ, Bool, true, false, List, length, Option, Some, None, is_some, IfSome, ⊤, ◌⊎◌}
+use Rattle.std.specs.List.{AllByRecursion, AllZip}
 use Rattle.fed_origin.specs.declared.options.GetOptions.{GetOptions}
 use Rattle.fed_origin.specs.declared.options.ProviderOptions.{ProviderOptions}
+use Rattle.fed_origin.specs.declared.origin.Origin.{Origin}
 use Rattle.fed_origin.specs.declared.stage.Stage.{Stage}
 use Rattle.fed_origin.specs.declared.stage.Stage.TheVariants as stages
 use Rattle.fed_origin.specs.WebUrl.{host_of}
+use Rattle.fed_status.specs.Flags.{has_flag}
 use Rattle.fed_consent.specs.Consent.{Listed}
 use Rattle.fed_call.specs.Facts.{Facts}
 use Rattle.fed_trace.specs.Known.{facts_at}
-use Rattle.fed_trace.specs.Trace.{Trace}
+use Rattle.fed_trace.specs.Trace.{Trace, flags}
 use Rattle.fed_twin.specs.Providers.{Providers, is_provider}
 use Rattle.fed_twin.specs.Seen.{view}
 use Rattle.fed_twin.specs.Twin.{SharesProvider}
@@ -77,3 +79,7 @@ pub record SameWorlds (p : Providers) (T U : Trace) : Type 0 where
   -- providers could tell the same of what happened
   pub seen : view p T.rows ≡ view p U.rows
   pub calls : (call : ℕ) → SameCall p (facts_at T call) (facts_at U call)
+
+-- Of each of these pairs of origins, which the scripts name together, the flag is set in both worlds or in neither.
+abbrev pub SameFlags : List (Origin × Origin) → Trace → Trace → Type 0
+SameFlags named T U = AllByRecursion (λ o. has_flag (flags T) o.0 ≡ has_flag (flags U) o.1) named

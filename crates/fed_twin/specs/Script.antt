@@ -1,12 +1,14 @@
 -- Scripts up to a kept event, and what they send there.
-use Rattle.std.specs.Prelude.{◌≡◌, ℕ, zero, suc, Bool, true, false, List, [], ◌∷◌, filter, map, Option, Some, None, if◌then◌else◌}
+use Rattle.std.specs.Prelude.{◌≡◌, ℕ, zero, suc, Bool, true, false, List, [], ◌∷◌, filter, map, Option, Some, None}
+use Rattle.std.specs.Prelude.{if◌then◌else◌}
 use Rattle.std.specs.List.{list_any, AllByRecursion}
 use Rattle.fed_origin.specs.declared.stage.ReplyKind.TheVariants as kinds
 use Rattle.fed_consent.specs.declared.table.ask.Ask.{Ask}
 use Rattle.fed_consent.specs.declared.table.ask.Ask.TheVariants as asks
 use Rattle.fed_request.specs.Request.{request_bytes}
 use Rattle.fed_script.specs.declared.event.Event.{Event}
-use Rattle.fed_script.specs.declared.event.Event.TheVariants.{Reply}
+use Rattle.fed_script.specs.declared.event.Event.TheVariants.{Disconnect, Have, Reply}
+use Rattle.fed_script.specs.declared.event.Have.TheVariants.{Kept}
 use Rattle.fed_script.specs.declared.event.Numbered.{Numbered}
 use Rattle.fed_script.specs.Script.{Script}
 use Rattle.fed_trace.specs.Begun.{of_get}
@@ -16,8 +18,9 @@ use Rattle.fed_trace.specs.Trace.{Row, Trace, all_said}
 
 -- ---- kept events
 
--- the event is compared: any but a metadata reply
+-- the event is compared: any but a metadata reply, and but a permission that is kept from before
 abbrev pub is_kept : Event → Bool
+is_kept (Have (Kept triple)) = false
 is_kept (Reply call provider kinds.Metadata raw) = false
 is_kept _ = true
 
@@ -36,6 +39,11 @@ abbrev pub trace_to : Script → ℕ → Trace
 trace_to s k = with_events (start s.header) (up_to k s.events)
 
 -- ---- what is sent
+
+-- the event begins a disconnect, which sends its first requests there and nowhere else
+abbrev pub is_disconnect : Event → Bool
+is_disconnect (Disconnect page call config client hint) = true
+is_disconnect _ = false
 
 -- the bytes of one of the first three requests of a sign-in
 abbrev pub first_bytes : Ask → List ℕ → Option (List ℕ)

@@ -36,12 +36,12 @@ pub record TokenTwin (a b : Script) (call : ℕ) : Type 0 where
   pub second : b.events ≡ before ++ reply_at line call provider raw' ∷ after
   pub reads : (origin : List ℕ) → AreTokens (AssertionOf raw origin) (AssertionOf raw' origin)
 
--- equal effects, or a result of the call with a token each, and its end
+-- equal effects; or, after equal ones, a result of the call with a token each, and its end
 pub data ButToken (call : ℕ) : List Effect → List Effect → Type 0 where
   Equal : (effects : List Effect) → ButToken call effects effects
-  Tokens : (page provider : ℕ) → (auto : Bool) → (token token' : List ℕ)
-      → ButToken call (Result call page (Token auto provider token) ∷ Move GetCall call Ended ∷ [])
-      (Result call page (Token auto provider token') ∷ Move GetCall call Ended ∷ [])
+  Tokens : (before : List Effect) → (page provider : ℕ) → (auto : Bool) → (token token' : List ℕ)
+      → ButToken call (before ++ Result call page (Token auto provider token) ∷ Move GetCall call Ended ∷ [])
+      (before ++ Result call page (Token auto provider token') ∷ Move GetCall call Ended ∷ [])
 
 -- the rows of two traces are the same, but for one, which differs in a token
 pub record OneRowDiffers (call : ℕ) (rows rows' : List Row) : Type 0 where

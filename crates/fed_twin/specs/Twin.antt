@@ -1,5 +1,5 @@
 -- Scripts that differ only in what providers are not to tell before a request names it.
-use Rattle.std.specs.Prelude.{◌≡◌, ℕ, false, List, [], ◌++◌, length, map, zip, Option, Some, None, ⊤, ◌⊎◌}
+use Rattle.std.specs.Prelude.{◌≡◌, ℕ, false, List, [], ◌∷◌, ◌++◌, length, map, zip, Option, Some, None, ⊤, ◌⊎◌}
 use Rattle.std.specs.List.{filter_map, flat_map, AllByRecursion, AllZip}
 use Rattle.url.specs.Parts.{Parts}
 use Rattle.fed_origin.specs.declared.options.GetOptions.{GetOptions}
@@ -12,6 +12,8 @@ use Rattle.fed_origin.specs.WebUrl.{host_of, origin_of}
 use Rattle.fed_suffix.specs.Registrable.{party}
 use Rattle.fed_script.specs.declared.event.Event.{Event}
 use Rattle.fed_script.specs.declared.event.Event.TheVariants as events
+use Rattle.fed_script.specs.declared.event.Have.{Have}
+use Rattle.fed_script.specs.declared.event.Have.TheVariants as haves
 use Rattle.fed_script.specs.declared.event.Numbered.{Numbered}
 use Rattle.fed_script.specs.Script.{Script}
 use Rattle.fed_twin.specs.declared.kind.Kind.{Kind}
@@ -33,7 +35,9 @@ kind_of (events.GoOn call) = kinds_of.GoOn
 kind_of (events.Cancel call) = kinds_of.Cancel
 kind_of (events.Reply call provider kind raw) = kinds_of.Reply
 kind_of (events.Choose call provider account) = kinds_of.Choose
+kind_of (events.Prevent page) = kinds_of.Prevent
 kind_of (events.SetStatus page status) = kinds_of.SetStatus
+kind_of (events.Disconnect page call config client hint) = kinds_of.Disconnect
 
 -- ---- 3: members
 
@@ -56,9 +60,17 @@ SharesBytes kinds.Assertion raw raw' = ⊤
 SharesBytes kinds.Disconnect raw raw' = ⊤
 SharesBytes _ raw raw' = raw ≡ raw'
 
+-- what stands from before is of one kind, and equal but for the origin of a flag; permissions are not compared
+abbrev pub SharesHave : Have → Have → Type 0
+SharesHave (haves.Login origin status) (haves.Login origin' status') = (origin ≡ origin') × (status ≡ status')
+SharesHave (haves.Kept triple) (haves.Kept triple') = ⊤
+SharesHave (haves.Silent origin) (haves.Silent origin') = ⊤
+SharesHave (haves.Cookie url field) (haves.Cookie url' field') = (url ≡ url') × (field ≡ field')
+SharesHave _ _ = ⊥
+
 -- two events of one kind are equal but for what is free; loads are looked at later
 abbrev pub SharesMembers : Event → Event → Type 0
-SharesMembers (events.Have have) (events.Have have') = have ≡ have'
+SharesMembers (events.Have have) (events.Have have') = SharesHave have have'
 SharesMembers (events.At time) (events.At time') = time ≡ time'
 SharesMembers (events.ClosePage page) (events.ClosePage page') = page ≡ page'
 SharesMembers (events.Get page call options) (events.Get page' call' options') =
@@ -70,7 +82,10 @@ SharesMembers (events.Reply call provider kind raw) (events.Reply call' provider
     (call ≡ call') × (provider ≡ provider') × (kind ≡ kind') × SharesBytes kind raw raw'
 SharesMembers (events.Choose call provider account) (events.Choose call' provider' account') =
     (call ≡ call') × (provider ≡ provider') × (account ≡ account')
+SharesMembers (events.Prevent page) (events.Prevent page') = page ≡ page'
 SharesMembers (events.SetStatus page status) (events.SetStatus page' status') = (page ≡ page') × (status ≡ status')
+SharesMembers (events.Disconnect page call config client hint) (events.Disconnect page' call' config' client' hint') =
+    (page ≡ page') × (call ≡ call') × (config ≡ config') × (hint ≡ hint')
 SharesMembers _ _ = ⊤
 
 -- ---- 4: loads
@@ -88,12 +103,13 @@ SharesLoad p _ _ = ⊤
 
 -- ---- 5: origins
 
--- the origin that a load names
+-- the origin that a load names, or a flag from before
 abbrev pub origin_named : Event → Option Origin
+origin_named (events.Have (haves.Silent origin)) = Some origin
 origin_named (events.Load page url raw) = Some (origin_of url)
 origin_named _ = None
 
--- those of two loads
+-- those of two events
 abbrev pub both_named : Option Origin → Option Origin → Option (Origin × Origin)
 both_named (Some o) (Some u) = Some (o, u)
 both_named _ _ = None
@@ -107,9 +123,10 @@ AreOneToOne pairs = AllByRecursion (λ p. AllByRecursion (λ q. same_origin p.0 
 
 -- ---- twins
 
--- the configuration URLs of a script
+-- the configuration URLs of an event, and of a script
 abbrev pub configs_in : Event → List Parts
 configs_in (events.Get page call options) = map (λ p. p.config) options.providers
+configs_in (events.Disconnect page call config client hint) = config ∷ []
 configs_in _ = []
 
 abbrev pub configs : List Numbered → List Parts

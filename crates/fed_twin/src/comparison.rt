@@ -7,14 +7,15 @@ ghost use Rattle.fed_trace.specs.Row.{row_of, with_event};
 ghost use Rattle.fed_session.specs.Session.{Stands, IsFresh};
 ghost use Rattle.fed_trace.specs.Trace.{Trace};
 ghost use Rattle.fed_twin.specs.Compare.{IsQuietLength, QuietRun};
-ghost use Rattle.fed_twin.specs.Compare.{is_naming_record, is_first_record, quiet_count, quiet_requests};
+ghost use Rattle.fed_twin.specs.Compare.{is_naming_record, is_first_record, get_count, quiet_count, quiet_requests};
+ghost use Rattle.fed_twin.specs.Script as spec;
 ghost use Rattle.fed_twin.specs.Script.{sign_in};
 ghost use Rattle.fed_twin.specs.Twin.{Twin};
 
 use crate::kept::is_kept;
 use fed_io::{NoRoom, Steps};
 use fed_origin::ReplyKind;
-use fed_script::{Numbered, Script};
+use fed_script::{Event, Numbered, Script};
 use fed_session::{Out, Session};
 use std::alloc::Global;
 use std::marker::Brand;
@@ -62,18 +63,37 @@ fn count_requests(outs: &[Out]) -> u64
     outs.iter().filter(|out| signs_in(out)).count() as u64
 }
 
-// The number of sign-in requests among records, unless one asks for a token or a disconnect.
-fn requests_among(outs: &[Out]) -> Option<u64>
-    ensures { result ≡ quiet_count outs.now }
+// Whether the event begins a disconnect.
+fn is_disconnect(event: &Event) -> bool
+    ensures { result ≡ spec.is_disconnect event.now }
+{
+    matches!(event, Event::Disconnect { .. })
+}
+
+// The number of sign-in requests of gets among the records of an event. A disconnect sends its first requests where it begins,
+// and nowhere else.
+fn count_of_gets(event: &Event, outs: &[Out]) -> u64
+    ensures { result ≡ get_count event.now outs.now }
+{
+    if is_disconnect(event) {
+        0
+    } else {
+        count_requests(outs)
+    }
+}
+
+// The same, unless a record asks for a token or a disconnect.
+fn requests_among(event: &Event, outs: &[Out]) -> Option<u64>
+    ensures { result ≡ quiet_count event.now outs.now }
 {
     if any_names_user(outs) {
         None
     } else {
-        Some(count_requests(outs))
+        Some(count_of_gets(event, outs))
     }
 }
 
-// Takes an event, and answers the number of its sign-in requests, unless it asks for a token or a disconnect.
+// Takes an event, and answers the number of its sign-in requests of gets, unless it asks for a token or a disconnect.
 fn take_event<L: Ledger>(
     session: &mut Session,
     n: &Numbered,
@@ -88,7 +108,7 @@ fn take_event<L: Ledger>(
         × Stands session.new (with_event T n.now.line n.now.event)) }
 {
     let outs = session.step(n.line, &n.event, steps)?;
-    let found = requests_among(outs.as_slice());
+    let found = requests_among(&n.event, outs.as_slice());
     Ok(found)
 }
 

@@ -4,14 +4,15 @@ ghost use Rattle.fed_twin.specs.Script as spec;
 ghost use Rattle.fed_twin.specs.Script.{kept_events};
 
 use fed_origin::ReplyKind;
-use fed_script::{Event, Numbered};
+use fed_script::{Event, Have, Numbered};
 
-/// Whether the event is compared: any but a metadata reply. It takes no memory.
+/// Whether the event is compared: any but a metadata reply and a kept permission. It takes no memory.
 pub fn is_kept(event: &Event) -> bool
     ensures { result ≡ spec.is_kept event.now }
 {
     match event {
         Event::Reply { kind, .. } => *kind != ReplyKind::Metadata,
+        Event::Have(Have::Kept(_)) => false,
         _ => true,
     }
 }

@@ -17,7 +17,9 @@ pub enum Kind {
     Cancel,
     Reply,
     Choose,
+    Prevent,
     SetStatus,
+    Disconnect,
 }
 
 /// The kind of an event. It takes no memory.
@@ -35,6 +37,8 @@ pub fn kind_of(event: &Event) -> Kind
         Event::Cancel { .. } => Kind::Cancel,
         Event::Reply { .. } => Kind::Reply,
         Event::Choose { .. } => Kind::Choose,
+        Event::Prevent { .. } => Kind::Prevent,
         Event::SetStatus { .. } => Kind::SetStatus,
+        Event::Disconnect { .. } => Kind::Disconnect,
     }
 }

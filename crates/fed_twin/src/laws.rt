@@ -11,9 +11,9 @@ ghost use Rattle.fed_twin.specs.Looks.{LooksAreSeen};
 ghost use Rattle.fed_twin.specs.Origins.{NumbersDecide};
 ghost use Rattle.fed_twin.specs.Tokens.{OneToken};
 
-/// Two scripts that differ only in relying parties that are of no provider's party, their clients, nonces, params, contexts and metadata
-/// replies send the same requests for well-known files, configurations and accounts, byte for byte and in the same order, until either asks
-/// for a token.
+/// Two scripts that differ only in relying parties that are of no provider's party, their clients, nonces, params and contexts, kept
+/// permissions and metadata replies send the same requests of gets for well-known files, configurations and accounts, byte for byte and in
+/// the same order, until either asks for a token or a disconnect.
 pub fn two_worlds()
     ensures { TwoWorlds }
 {}

@@ -1,35 +1,51 @@
-//! The clause of the twin test on loads.
+//! The clause of the twin test on loads, and the origins that events name.
 ghost use Rattle.std.specs.Prelude.{◌≡◌, ◌↔◌, Some, IsTrue, IfOk};
 ghost use Rattle.fed_twin.specs.Clauses.{known_by, AreFarOrigins};
-ghost use Rattle.fed_twin.specs.Twin.{SharesLoad, origin_named, both_named};
+ghost use Rattle.fed_twin.specs.Twin as spec;
+ghost use Rattle.fed_twin.specs.Twin.{SharesLoad, both_named};
 
 use crate::parties::ProviderParties;
 use fed_io::{Bytes, NoRoom};
 use fed_origin::Origin;
-use fed_script::Event;
+use fed_script::{Event, Have};
 use fed_suffix::Suffixes;
 use std::alloc::Global;
 
-/// The origins that two loads name.
-pub fn named_together(
-    alloc: Global,
-    a: &Event,
-    b: &Event,
-) -> Result<Option<(Origin, Origin)>, NoRoom>
-    ensures { IfOk result (λ origins. origins ≡ both_named (origin_named a.now) (origin_named b.now)) }
+// The origin that a load names, or a flag from before.
+fn origin_named(alloc: Global, event: &Event) -> Result<Option<Origin>, NoRoom>
+    ensures { IfOk result (λ origin. origin ≡ spec.origin_named event.now) }
 {
-    match (a, b) {
-        (Event::Load { url, .. }, Event::Load { url: other, .. }) => {
-            let first = Origin::of_url(alloc, url)?;
-            let second = Origin::of_url(alloc, other)?;
-            Ok(Some((first, second)))
+    match event {
+        Event::Load { url, .. } => {
+            let origin = Origin::of_url(alloc, url)?;
+            Ok(Some(origin))
+        }
+        Event::Have(Have::Silent { origin }) => {
+            let origin = origin.copy(alloc)?;
+            Ok(Some(origin))
         }
         _ => Ok(None),
     }
 }
 
-/// Whether two loads, of which these are the origins, are of one page, and equal or far from every provider. It takes no
-/// memory.
+/// The origins that two events name.
+pub fn named_together(
+    alloc: Global,
+    a: &Event,
+    b: &Event,
+) -> Result<Option<(Origin, Origin)>, NoRoom>
+    ensures { IfOk result (λ origins. origins ≡ both_named (spec.origin_named a.now) (spec.origin_named b.now)) }
+{
+    let first = origin_named(alloc, a)?;
+    let second = origin_named(alloc, b)?;
+    match (first, second) {
+        (Some(first), Some(second)) => Ok(Some((first, second))),
+        _ => Ok(None),
+    }
+}
+
+/// Whether two loads, of which these are the origins, are of one page, and equal or far from every provider. Of other events
+/// there is nothing to look at here. It takes no memory.
 pub fn same_load(
     rules: &Suffixes,
     parties: &ProviderParties,
@@ -38,7 +54,7 @@ pub fn same_load(
     first: &Origin,
     second: &Origin,
 ) -> bool
-    requires { both_named (origin_named a.now) (origin_named b.now) ≡ Some (first.now, second.now) }
+    requires { both_named (spec.origin_named a.now) (spec.origin_named b.now) ≡ Some (first.now, second.now) }
     ensures { IsTrue result ↔ SharesLoad (known_by rules.now parties.now) a.now b.now }
 {
     match (a, b) {

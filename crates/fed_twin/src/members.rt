@@ -1,7 +1,7 @@
 //! The clause of the twin test on members.
 ghost use Rattle.std.specs.Prelude.{◌≡◌, ◌↔◌, IsTrue};
 ghost use Rattle.std.specs.List.{AllZip};
-ghost use Rattle.fed_twin.specs.Twin.{SharesProvider, SharesOptions, SharesBytes, SharesMembers};
+ghost use Rattle.fed_twin.specs.Twin.{SharesProvider, SharesOptions, SharesBytes, SharesHave, SharesMembers};
 
 use fed_io::{Bytes, Text};
 use fed_origin::{GetOptions, ProviderOptions, ReplyKind};
@@ -62,9 +62,9 @@ fn same_bytes(kind: ReplyKind, a: &Bytes, b: &Bytes) -> bool
     }
 }
 
-// What stands from before is equal.
+// What stands from before is of one kind, and equal but for the origin of a flag. Permissions are not compared.
 fn same_have(a: &Have, b: &Have) -> bool
-    ensures { IsTrue result ↔ (a.now ≡ b.now) }
+    ensures { IsTrue result ↔ SharesHave a.now b.now }
 {
     match (a, b) {
         (
@@ -81,8 +81,8 @@ fn same_have(a: &Have, b: &Have) -> bool
                 field: said,
             },
         ) => url.is_same(other) && *field == *said,
-        (Have::Login { .. }, Have::Cookie { .. }) | (Have::Cookie { .. }, Have::Login { .. }) =>
-            false,
+        (Have::Kept(_), Have::Kept(_)) | (Have::Silent { .. }, Have::Silent { .. }) => true,
+        _ => false,
     }
 }
 
@@ -139,6 +139,7 @@ pub fn same_members(a: &Event, b: &Event) -> bool
                 account: id,
             },
         ) => *call == *number && *provider == *place && *account == *id,
+        (Event::Prevent { page }, Event::Prevent { page: other }) => *page == *other,
         (
             Event::SetStatus { page, status },
             Event::SetStatus {
@@ -146,6 +147,22 @@ pub fn same_members(a: &Event, b: &Event) -> bool
                 status: said,
             },
         ) => *page == *other && *status == *said,
+        (
+            Event::Disconnect {
+                page,
+                call,
+                config,
+                client: _,
+                hint,
+            },
+            Event::Disconnect {
+                page: other,
+                call: number,
+                config: url,
+                client: _,
+                hint: said,
+            },
+        ) => *page == *other && *call == *number && config.is_same(url) && *hint == *said,
         _ => true,
     }
 }

@@ -1,11 +1,11 @@
 //! The parties of providers.
 ghost use Rattle.std.specs.Prelude.{◌≡◌, [], ◌∷◌, IfOk, OnOk};
-ghost use Rattle.fed_twin.specs.Clauses.{parties_of, known_by, Gathers};
+ghost use Rattle.fed_twin.specs.Clauses.{parties_of, provider_parties, known_by, Gathers};
 ghost use Rattle.fed_twin.specs.Providers.{is_provider};
 ghost use Rattle.fed_twin.specs.Twin.{configs_in, configs, providers_of};
 
 use fed_io::NoRoom;
-use fed_origin::Host;
+use fed_origin::{Host, ProviderOptions};
 use fed_script::{Event, Numbered, Script};
 use fed_suffix::Suffixes;
 use indexmap::IndexSet;
@@ -66,10 +66,25 @@ impl ProviderParties {
     fn add_of(&mut self, alloc: Global, rules: &Suffixes, event: &Event) -> Result<(), NoRoom>
         ensures { OnOk result (Gathers self.old (parties_of rules.now (configs_in event.now)) self.new) }
     {
-        let Event::Get { options, .. } = event else {
-            return Ok(());
-        };
-        for provider in options.providers.as_slice() {
+        match event {
+            Event::Get { options, .. } => {
+                self.add_each(alloc, rules, options.providers.as_slice())
+            }
+            Event::Disconnect { config, .. } => self.add(alloc, rules.party(config.host())),
+            _ => Ok(()),
+        }
+    }
+
+    // Those of the providers of a get.
+    fn add_each(
+        &mut self,
+        alloc: Global,
+        rules: &Suffixes,
+        providers: &[ProviderOptions],
+    ) -> Result<(), NoRoom>
+        ensures { OnOk result (Gathers self.old (provider_parties rules.now providers.now) self.new) }
+    {
+        for provider in providers {
             self.add(alloc, rules.party(provider.config.host()))?;
         }
         Ok(())

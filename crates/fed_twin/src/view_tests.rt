@@ -30,6 +30,35 @@ const COOKIES: &str = r#"{"fedcm":1,"now":1700000000,"rules":"example"}
 {"do":"load","page":1,"url":"https://accounts.idp.example/login/start","text":"HTTP/1.1 200 OK\r\nSet-Cookie: c=3; Secure; SameSite=None\r\nSet-Cookie: a=4; Path=/; Secure; SameSite=None\r\n\r\n"}
 "#;
 
+// A cookie that is written again keeps its place, and a path that is missing is that of the page.
+const COOKIES_OF_A_LOAD: &str = r#"{"fedcm":1,"now":1700000000,"rules":"example"}
+{"do":"load","page":1,"url":"https://accounts.idp.example/login/start","text":"HTTP/1.1 200 OK\r\nSet-Cookie: a=1; Path=/; SameSite=None; Secure\r\nSet-Cookie: b=2; Path=/accounts; SameSite=None; Secure\r\nSet-Cookie: c=3; Path=/\r\nSet-Cookie: d=4; Domain=idp.example; Path=/; SameSite=None; Secure\r\nSet-Cookie: e=6; SameSite=None; Secure\r\nSet-Cookie: a=5; Path=/; SameSite=None; Secure\r\n\r\n"}
+"#;
+
+// The second field has no name that `http_header` takes, so the head is not read.
+const UNREADABLE: &str = r#"{"fedcm":1,"now":1700000000,"rules":"example"}
+{"do":"load","page":1,"url":"https://accounts.idp.example/login/start","text":"HTTP/1.1 200 OK\r\nSet-Cookie: a=1\r\nSet Cookie: b=2\r\n\r\n"}
+"#;
+
+// Of two hosts below one domain, that of the first load is a public suffix.
+const OTHER_PARTIES: &str = r#"{"fedcm":1,"now":1700000000,"rules":"com\nblog.example.com"}
+{"do":"load","page":1,"url":"https://foo.blog.example.com/","text":"HTTP/1.1 200 OK\r\nSet-Cookie: x=1; Domain=example.com; Path=/; SameSite=None; Secure\r\n\r\n"}
+{"do":"load","page":2,"url":"https://a.example.com/","text":"HTTP/1.1 200 OK\r\nSet-Cookie: y=2; Domain=example.com; Path=/; SameSite=None; Secure\r\n\r\n"}
+"#;
+
+// The last status that counts stands.
+const STATUSES: &str = r#"{"fedcm":1,"now":1700000000,"rules":"example"}
+{"do":"load","page":1,"url":"https://accounts.idp.example/","text":"HTTP/1.1 200 OK\r\nSet-Login: logged-in\r\nSet-Login: logged-out; a\r\nSet-Login: LOGGED-IN\r\n\r\n"}
+"#;
+
+// What is said twice keeps its place.
+const PERMISSIONS: &str = r#"{"fedcm":1,"now":1700000000,"rules":"example"}
+{"do":"have","what":"kept","page":"https://a.example/","provider":"https://accounts.idp.example/","account":"u1"}
+{"do":"have","what":"kept","page":"https://b.example/","provider":"https://accounts.idp.example/","account":"u2"}
+{"do":"have","what":"kept","page":"https://a.example/","provider":"https://accounts.idp.example/","account":"u1"}
+{"do":"have","what":"silent","origin":"https://b.example/"}
+"#;
+
 // What stands after the events of a script, which goes to no token.
 fn view_by<L: Ledger>(alloc: Global, blank: Blank, script: &Script) -> Result<View, Fail>
     requires name { blank.name ≡ L.name }
@@ -101,5 +130,52 @@ fn cookies_stand_in_order_of_first_storing(rt: HostRuntime) -> Result<(), Fail> 
     let view = view_after(rt.alloc(), COOKIES)?;
     let text = cookies_text(rt.alloc(), &view)?;
     assert!(rt; text.as_slice() == "a=4 /;b=2 /;c=3 /login;".as_bytes());
+    Ok(())
+}
+
+// Whether a session shows these cookies after a script.
+fn shows_cookies(alloc: Global, script: &'static str, expected: &str) -> Result<bool, Fail> {
+    let view = view_after(alloc, script)?;
+    let text = cookies_text(alloc, &view)?;
+    Ok(text.as_slice() == expected.as_bytes())
+}
+
+#[test]
+fn cookies_of_a_load_stand_in_order(rt: HostRuntime) -> Result<(), Fail> {
+    let expected = "a=5 /;b=2 /accounts;c=3 /;d=4 /;e=6 /login;";
+    assert!(rt; shows_cookies(rt.alloc(), COOKIES_OF_A_LOAD, expected)?);
+    assert!(rt; shows_cookies(rt.alloc(), UNREADABLE, "")?);
+    Ok(())
+}
+
+#[test]
+fn cookies_of_a_load_stay_with_their_party(rt: HostRuntime) -> Result<(), Fail> {
+    assert!(rt; shows_cookies(rt.alloc(), OTHER_PARTIES, "y=2 /;")?);
+    Ok(())
+}
+
+#[test]
+fn statuses_of_a_load_are_set_in_order(rt: HostRuntime) -> Result<(), Fail> {
+    let view = view_after(rt.alloc(), STATUSES)?;
+    assert!(rt; has_one_status(&view, LoginStatus::LoggedOut));
+    assert_eq!(rt; view.pages.len(), 1);
+    assert_eq!(rt; view.calls.len(), 0);
+    Ok(())
+}
+
+// The account of the first permission that is shown.
+fn first_account(view: &View) -> &str {
+    match view.kept.as_slice().first() {
+        Some(triple) => triple.account.as_str(),
+        None => "",
+    }
+}
+
+#[test]
+fn permissions_and_flags_of_lines_stand_in_order(rt: HostRuntime) -> Result<(), Fail> {
+    let view = view_after(rt.alloc(), PERMISSIONS)?;
+    assert_eq!(rt; view.kept.len(), 2);
+    assert_eq!(rt; first_account(&view), "u1");
+    assert_eq!(rt; view.silent.len(), 1);
     Ok(())
 }

@@ -8,6 +8,8 @@ mod call_tests;
 mod dialog_tests;
 mod form;
 pub mod laws;
+#[cfg(test)]
+mod permission_tests;
 mod print;
 mod program;
 mod ran;

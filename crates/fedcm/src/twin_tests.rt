@@ -224,3 +224,157 @@ fn a_line_divides_two_scripts(rt: HostRuntime) -> Result<(), Fail> {
     assert!(rt; tells(alloc, &member, Status::BadScript, record)?);
     Ok(())
 }
+
+const KEPT: &str =
+    r#"{"do":"have","what":"kept","page":"https://rp.example/","provider":"https://accounts.idp.example/","account":"u1"}
+"#;
+
+const KEPT_OTHER: &str =
+    r#"{"do":"have","what":"kept","page":"https://rp.example/","provider":"https://accounts.idp.example/","account":"u9"}
+"#;
+
+const SILENT: &str = r#"{"do":"have","what":"silent","origin":"https://rp.example/"}
+"#;
+
+const OTHER_SILENT: &str = r#"{"do":"have","what":"silent","origin":"https://a.example/"}
+"#;
+
+const SHOP_SILENT: &str = r#"{"do":"have","what":"silent","origin":"https://shop.example/"}
+"#;
+
+const SILENT_GET: &str =
+    r#"{"do":"get","page":1,"call":1,"mediation":"silent","providers":[{"config":"https://accounts.idp.example/fedcm.json","client":"c1"}]}
+"#;
+
+const PREVENT: &str = r#"{"do":"prevent","page":1}
+"#;
+
+const DISCONNECT: &str =
+    r#"{"do":"disconnect","page":1,"call":3,"config":"https://accounts.idp.example/fedcm.json","client":"c1","hint":"u1"}
+"#;
+
+const OTHER_DISCONNECT: &str =
+    r#"{"do":"disconnect","page":1,"call":3,"config":"https://accounts.idp.example/fedcm.json","client":"x","hint":"u1"}
+"#;
+
+const DISCONNECT_WELL_KNOWN: &str =
+    r#"{"do":"reply","call":3,"to":"wellknown","text":"HTTP/1.1 200 OK\r\nContent-Type: application/json\r\n\r\n{\"provider_urls\":[\"https://accounts.idp.example/fedcm.json\"]}"}
+"#;
+
+const DISCONNECT_CONFIG: &str =
+    r#"{"do":"reply","call":3,"to":"config","text":"HTTP/1.1 200 OK\r\nContent-Type: application/json\r\n\r\n{\"accounts_endpoint\":\"/accounts\",\"id_assertion_endpoint\":\"/assert\",\"login_url\":\"/login\",\"disconnect_endpoint\":\"/disconnect\"}"}
+"#;
+
+// A permission that is kept in one script alone is not compared; where an account is reselected by it, a token is asked for.
+#[test]
+fn a_permission_may_be_kept_in_one_world(rt: HostRuntime) -> Result<(), Fail> {
+    for (kept, record) in [
+        (
+            KEPT_OTHER,
+            "{\"compared\":3,\"out\":\"twins\",\"quiet\":5}\n",
+        ),
+        (KEPT, "{\"compared\":3,\"out\":\"twins\",\"quiet\":4}\n"),
+    ] {
+        let input = [
+            HEADER, kept, PAGE, GET, WELL_KNOWN, CONFIG, ACCOUNTS, NEXT, HEADER, OTHER_PAGE,
+            OTHER_GET, WELL_KNOWN, CONFIG, ACCOUNTS,
+        ];
+        assert!(rt;
+            tells(rt.alloc(), &input, Status::Done, record)?,
+            "{record}"
+        );
+    }
+    Ok(())
+}
+
+// The origin of a flag is free, but it is that of a page in both scripts or in neither.
+#[test]
+fn flags_follow_origins(rt: HostRuntime) -> Result<(), Fail> {
+    let input = [
+        HEADER,
+        SILENT,
+        PAGE,
+        SILENT_GET,
+        NEXT,
+        HEADER,
+        OTHER_SILENT,
+        OTHER_PAGE,
+        SILENT_GET,
+    ];
+    let record = "{\"compared\":0,\"out\":\"twins\",\"quiet\":3}\n";
+    assert!(rt; tells(rt.alloc(), &input, Status::Done, record)?);
+    let input = [
+        HEADER,
+        SILENT,
+        PAGE,
+        SILENT_GET,
+        NEXT,
+        HEADER,
+        SHOP_SILENT,
+        OTHER_PAGE,
+        SILENT_GET,
+    ];
+    let record = "{\"clause\":\"origins\",\"event\":2,\"out\":\"not-twins\"}\n";
+    assert!(rt; tells(rt.alloc(), &input, Status::NotTwins, record)?);
+    let login =
+        "{\"do\":\"have\",\"what\":\"login\",\"origin\":\"https://rp.example/\",\"status\":\"logged-in\"}\n";
+    let record = "{\"clause\":\"member\",\"event\":1,\"out\":\"not-twins\"}\n";
+    let input = [HEADER, SILENT, NEXT, HEADER, login];
+    assert!(rt; tells(rt.alloc(), &input, Status::NotTwins, record)?);
+    let input = [
+        HEADER, PAGE, PREVENT, SILENT_GET, NEXT, HEADER, OTHER_PAGE, PREVENT, SILENT_GET,
+    ];
+    let record = "{\"compared\":0,\"out\":\"twins\",\"quiet\":3}\n";
+    assert!(rt; tells(rt.alloc(), &input, Status::Done, record)?);
+    Ok(())
+}
+
+// The first requests of a disconnect are not compared, and its last one ends what is.
+#[test]
+fn a_disconnect_may_begin_in_one_world(rt: HostRuntime) -> Result<(), Fail> {
+    let input = [
+        HEADER,
+        KEPT,
+        PAGE,
+        DISCONNECT,
+        NEXT,
+        HEADER,
+        OTHER_PAGE,
+        OTHER_DISCONNECT,
+    ];
+    let record = "{\"compared\":0,\"out\":\"twins\",\"quiet\":2}\n";
+    assert!(rt; tells(rt.alloc(), &input, Status::Done, record)?);
+    let input = [
+        HEADER,
+        KEPT,
+        PAGE,
+        DISCONNECT,
+        DISCONNECT_WELL_KNOWN,
+        DISCONNECT_CONFIG,
+        NEXT,
+        HEADER,
+        OTHER_PAGE,
+        OTHER_DISCONNECT,
+        DISCONNECT_WELL_KNOWN,
+        DISCONNECT_CONFIG,
+    ];
+    let record = "{\"compared\":0,\"out\":\"twins\",\"quiet\":3}\n";
+    assert!(rt; tells(rt.alloc(), &input, Status::Done, record)?);
+    let other =
+        "{\"do\":\"disconnect\",\"page\":1,\"call\":3,\"config\":\"https://accounts.idp.example/fedcm.json\",\"client\":\"c1\",\"hint\":\"u2\"}\n";
+    let record = "{\"clause\":\"member\",\"event\":2,\"out\":\"not-twins\"}\n";
+    assert!(rt; differ(rt.alloc(), DISCONNECT, other, record)?);
+    Ok(())
+}
+
+// The party of a disconnect's provider is one of those from which pages have to be far.
+#[test]
+fn a_page_of_a_disconnects_provider_is_seen(rt: HostRuntime) -> Result<(), Fail> {
+    let own = "{\"do\":\"load\",\"page\":2,\"url\":\"https://www.idp.example/\"}\n";
+    let input = [
+        HEADER, PAGE, own, DISCONNECT, NEXT, HEADER, OTHER_PAGE, OTHER_SHOP, DISCONNECT,
+    ];
+    let record = "{\"clause\":\"load\",\"event\":2,\"out\":\"not-twins\"}\n";
+    assert!(rt; tells(rt.alloc(), &input, Status::NotTwins, record)?);
+    Ok(())
+}

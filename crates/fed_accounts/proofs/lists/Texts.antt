@@ -8,7 +8,7 @@ use Rattle.fed_reply.specs.declared.member.Member.TheVariants.{Absent, Wrong, Is
 use Rattle.fed_reply.specs.Members.{is_or_wrong, member_of, member_found, value_under, list_under}
 use Rattle.fed_reply.specs.Steps.{◌>>=◌, with_ok}
 use Rattle.fed_accounts.specs.declared.step.AccountsStep.TheVariants.{Shape}
-use Rattle.fed_accounts.specs.Entry.{are_texts, are_some_texts, is_text_list, text_then, texts_of, some_texts}
+use Rattle.fed_accounts.specs.Entry.{are_texts, are_some_texts, is_text_list, text_then, item_texts, some_texts}
 use Rattle.fed_accounts.specs.Read.{each, text_of, optional_list, list_or_empty}
 
 more_read : (text : List ℕ) (texts : List (List ℕ)) (b : Bool)
@@ -16,13 +16,13 @@ more_read : (text : List ℕ) (texts : List (List ℕ)) (b : Bool)
 more_read text texts true = refl
 more_read text texts false = refl
 
-one_read : (o : Option (List ℕ)) (ds : Items) → each text_of ds ≡ cond (are_texts ds) (Ok (texts_of ds)) (Err Shape)
+one_read : (o : Option (List ℕ)) (ds : Items) → each text_of ds ≡ cond (are_texts ds) (Ok (item_texts ds)) (Err Shape)
     → (ok_or o Shape >>= (λ text. each text_of ds >>= (λ more. Ok (text ∷ more))))
-    ≡ cond (cond (is_some o) (are_texts ds) false) (Ok (text_then o (texts_of ds))) (Err Shape)
+    ≡ cond (cond (is_some o) (are_texts ds) false) (Ok (text_then o (item_texts ds))) (Err Shape)
 one_read None ds h = refl
-one_read (Some text) ds h = ap (λ r. r >>= (λ more. Ok (text ∷ more))) h ∙ more_read text (texts_of ds) (are_texts ds)
+one_read (Some text) ds h = ap (λ r. r >>= (λ more. Ok (text ∷ more))) h ∙ more_read text (item_texts ds) (are_texts ds)
 
-texts_read : (ds : Items) → each text_of ds ≡ cond (are_texts ds) (Ok (texts_of ds)) (Err Shape)
+texts_read : (ds : Items) → each text_of ds ≡ cond (are_texts ds) (Ok (item_texts ds)) (Err Shape)
 texts_read no_items = refl
 texts_read (item d ds) = one_read (as_str d) ds (texts_read ds)
 
@@ -56,7 +56,7 @@ with_some texts false = refl
 
 optional_here : (o : Option Items) → optional_list (is_or_wrong o) ≡ cond (are_some_texts o) (Ok (Some (some_texts o))) (Err Shape)
 optional_here None = refl
-optional_here (Some ds) = ap (with_ok (λ ts. Some ts)) (texts_read ds) ∙ with_some (texts_of ds) (are_texts ds)
+optional_here (Some ds) = ap (with_ok (λ ts. Some ts)) (texts_read ds) ∙ with_some (item_texts ds) (are_texts ds)
 
 list_here : (o : Option Items) → list_or_empty (is_or_wrong o) ≡ cond (are_some_texts o) (Ok (some_texts o)) (Err Shape)
 list_here None = refl

@@ -2,6 +2,8 @@
 use Rattle.std.proofs.Common.{◌≡◌, ℕ, Bool, true, false, List, [], ◌∷◌, Option, Some, None, option_and_then, Result, Ok, Err, refl}
 use Rattle.std.specs.List.{list_any}
 use Rattle.url.specs.Parts.{Parts}
+use Rattle.fed_origin.specs.declared.options.Mediation.{Mediation}
+use Rattle.fed_origin.specs.declared.options.Mediation.TheVariants.{Silent, Optional, Required}
 use Rattle.fed_origin.specs.declared.options.ProviderOptions.{ProviderOptions}
 use Rattle.fed_provider.specs.declared.config.Config.{Config}
 use Rattle.fed_accounts.specs.declared.account.Account.{Account}
@@ -9,14 +11,14 @@ use Rattle.fed_accounts.specs.declared.step.AccountsStep.{AccountsStep}
 use Rattle.fed_consent.specs.declared.table.failure.Failure.{Failure}
 use Rattle.fed_consent.specs.declared.table.input.Input.TheVariants.{Choose, GoOn}
 use Rattle.fed_consent.specs.declared.consent.manner.Manner.TheVariants.{Chosen}
-use Rattle.fed_consent.specs.Consent.{Agreement, Candidate, chosen}
+use Rattle.fed_consent.specs.Consent.{Agreement, Candidate, Pick, by_reselection, chosen}
 use Rattle.fed_status.specs.Shared.{World}
 use Rattle.fed_call.specs.Accounts.{candidate_of}
-use Rattle.fed_call.specs.Facts.{Facts, metadata_endpoint, with_choice, with_input}
-use Rattle.fed_consent.specs.Outcomes.{is_ignored}
+use Rattle.fed_call.specs.Facts.{Facts, metadata_endpoint, reselected, with_choice, with_input}
+use Rattle.fed_consent.specs.Outcomes.{Outcome, is_ignored}
 use Rattle.fed_call.specs.AssertingRows.{asserts}
 use Rattle.fed_call.specs.DialogRows.{agreed_to, settles, choice}
-use Rattle.fed_call.specs.ListingRows.{by_mismatch, prompt_effect, offers, by_accounts}
+use Rattle.fed_call.specs.ListingRows.{by_mismatch, prompt_effect, offers, unless_silent, by_reselected, by_accounts}
 
 mismatch_taken : (place : ℕ) (site : List ℕ) (failure : Failure) (mismatch : Bool)
     → list_any is_ignored (by_mismatch place site failure mismatch).effects ≡ false
@@ -38,16 +40,30 @@ offers_taken world facts place provider (only ∷ []) =
     rw (prompt_taken world facts place provider candidate candidate.connected (metadata_endpoint facts.config)) refl
 offers_taken world facts place provider (first ∷ second ∷ more) = refl
 
--- an accounts reply of the provider is taken
-pub accounts_taken : (world : World) (facts : Facts) (place : ℕ) (provider : ProviderOptions) (read : Result (List Account) AccountsStep)
-    → list_any is_ignored (by_accounts world facts place provider read).effects ≡ false
-accounts_taken world facts place provider (Err step) = mismatch_taken _ _ _ _
-accounts_taken world facts place provider (Ok accounts) = offers_taken world facts place provider accounts
-
 asserts_taken : (facts : Facts) (place : ℕ) (provider : ProviderOptions) (config : Option Config) (agreed : Agreement)
     → list_any is_ignored (asserts facts place (Some provider) config agreed).effects ≡ false
 asserts_taken facts place provider None agreed = refl
 asserts_taken facts place provider (Some config) agreed = refl
+
+silent_taken : (mediation : Mediation) (offered : Outcome) → list_any is_ignored offered.effects ≡ false
+    → list_any is_ignored (unless_silent mediation offered).effects ≡ false
+silent_taken Silent offered taken = refl
+silent_taken Optional offered taken = taken
+silent_taken Required offered taken = taken
+
+reselected_taken : (world : World) (facts : Facts) (place : ℕ) (provider : ProviderOptions) (accounts : List Account) (pick : Option Pick)
+    → list_any is_ignored (by_reselected world facts place provider accounts pick).effects ≡ false
+reselected_taken world facts place provider accounts None =
+    silent_taken facts.options.mediation (offers world facts place provider accounts) (offers_taken world facts place provider accounts)
+reselected_taken world facts place provider accounts (Some pick) =
+    asserts_taken facts place provider facts.config (by_reselection pick)
+
+-- an accounts reply of the provider is taken
+pub accounts_taken : (world : World) (facts : Facts) (place : ℕ) (provider : ProviderOptions) (read : Result (List Account) AccountsStep)
+    → list_any is_ignored (by_accounts world facts place provider read).effects ≡ false
+accounts_taken world facts place provider (Err step) = mismatch_taken _ _ _ _
+accounts_taken world facts place provider (Ok accounts) =
+    reselected_taken world facts place provider accounts (reselected world facts place provider accounts)
 
 settles_taken : (world : World) (facts : Facts) (place : ℕ) (provider : ProviderOptions) (candidate : Candidate) (connected : Bool)
     → list_any is_ignored (settles world facts place provider candidate connected).effects ≡ false

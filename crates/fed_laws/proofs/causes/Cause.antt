@@ -35,7 +35,7 @@ use Rattle.fed_trace.specs.Trace.{Row, Trace, begun}
 use Rattle.fed_laws.proofs.pending.Asked.{row_is}
 use Rattle.fed_trace.proofs.happens.First.{FirstTurn, FailsFirst, ReadsFirst, first_turn, is_first, is_beginning, known_begun}
 use Rattle.fed_laws.proofs.pending.Begun.{or_true}
-use Rattle.fed_laws.proofs.pending.Stood.{Stood, calm, left_page, no_facts, unbegun_before}
+use Rattle.fed_laws.proofs.pending.Stood.{Stood, calm, left_page, unbegun_before}
 use Rattle.fed_trace.proofs.happens.Ends.{Happens, Left, Ends, Started, Took, Leaves, Starts}
 use Rattle.fed_trace.proofs.happens.Happens.{happens}
 
@@ -246,7 +246,9 @@ unsaid_chooses (events.Abort c) call listed none = refl
 unsaid_chooses (events.Reply c place kind raw) call listed none = refl
 unsaid_chooses (events.GoOn c) call listed none = refl
 unsaid_chooses (events.Cancel c) call listed none = refl
+unsaid_chooses (events.Prevent page) call listed none = refl
 unsaid_chooses (events.SetStatus page status) call listed none = refl
+unsaid_chooses (events.Disconnect page c config client hint) call listed none = refl
 
 untold : (ignored : Bool) → config_given 0 ignored None ≡ None
 untold true = refl

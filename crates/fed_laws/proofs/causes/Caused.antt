@@ -3,9 +3,9 @@ use Rattle.std.proofs.Common.{◌≡◌, ℕ, zero, suc, Bool, true, false, nat_
 use Rattle.std.proofs.Common.{length, Option, Some, None}
 use Rattle.std.proofs.Common.{refl, sym, ap, subst, ◌∙◌, arith}
 use Rattle.std.proofs.lemmas.Bool.Decides.{nat_tests}
-use Rattle.std.specs.Prelude.{option_and_then, option_map, slice_get, unwrap_or, is_some}
+use Rattle.std.specs.Prelude.{option_and_then, slice_get, unwrap_or, is_some}
 use Rattle.fed_origin.specs.declared.options.ProviderOptions.{ProviderOptions}
-use Rattle.fed_origin.specs.declared.stage.Stage.TheVariants.{Reading, Choosing, Prompting, Ended}
+use Rattle.fed_origin.specs.declared.stage.Stage.TheVariants.{Reading, Choosing, Prompting}
 use Rattle.fed_consent.specs.declared.table.input.Input.{Input}
 use Rattle.fed_consent.specs.declared.table.input.Input.TheVariants as inputs
 use Rattle.fed_consent.specs.Consent.{Listed, chosen}
@@ -15,12 +15,12 @@ use Rattle.fed_script.specs.declared.event.Event.TheVariants as events
 use Rattle.fed_script.specs.declared.event.Event.TheVariants.{Choose, Reply}
 use Rattle.fed_script.specs.declared.event.Header.{Header}
 use Rattle.fed_laws.specs.Cause.{chooses, config_taken}
-use Rattle.fed_trace.specs.Known.{world_at, is_begun, known_in, facts_at}
+use Rattle.fed_trace.specs.Known.{world_at, is_begun, facts_at}
 use Rattle.fed_laws.specs.Laws.{at}
 use Rattle.fed_trace.specs.Row.{with_event, IsNew, IsRun}
 use Rattle.fed_trace.specs.Trace.{Row, Trace}
 use Rattle.fed_laws.proofs.pending.Asked.{invariant, row_is}
-use Rattle.fed_laws.proofs.pending.Stood.{Invariant, Stood, no_facts}
+use Rattle.fed_laws.proofs.pending.Stood.{Invariant, Stood, not_some}
 use Rattle.fed_trace.proofs.happens.First.{is_first}
 use Rattle.fed_trace.proofs.happens.Gets.{facts_same, facts_ended, others_after}
 use Rattle.fed_trace.proofs.happens.Taken.{Meets, facts_taken, outcome_of}
@@ -120,7 +120,7 @@ dialogs_then T line event call f f' s = go (way_at (world_at T) f s.meets.takes.
             ∙ ap (λ w. let g : Facts = record w { stage = stage_then T f s.meets.takes.input } in g) told_is
             ∙ ap (λ st. let g : Facts = record f { stage = unwrap_or st f.stage } in g) stays
 
-    go : Way f s.meets.takes.input (outcome_of T f s.meets.takes.input) → Dialogs (with_event T line event) call f'
+    go : Way (world_at T) f s.meets.takes.input (outcome_of T f s.meets.takes.input) → Dialogs (with_event T line event) call f'
     go (Elsewhere closed) =
         record {
           choosing = λ at. let no : true ≡ false = ap is_open (sym at ∙ at_then) ∙ closed in absurd (cc);
@@ -132,7 +132,7 @@ dialogs_then T line event call f f' s = go (way_at (world_at T) f s.meets.takes.
         only_prompting (at_then ∙ ap (λ st. unwrap_or st f.stage) to) (prompts_now T line event call f f' only s t)
     go (Picks at to t) = only_prompting (at_then ∙ ap (λ st. unwrap_or st f.stage) to) (picks_now T line event call f f' s at t)
     go (Readies at to t) = only_prompting (at_then ∙ to) (readied_now T line event call f f' s at t)
-    go (Unmoved is stays told_is none) = unmoved stays (told_is (world_at T)) none
+    go (Unmoved is stays told_is none) = unmoved stays told_is none
 
 caused_then : (T : Trace) (line : ℕ) (event : Event) (call : ℕ) (f f' : Facts) → Step T line event call f f'
     → Caused (with_event T line event) call f'
@@ -166,7 +166,7 @@ caused_by_row T line event call f' nothing new h caused then is = go (happens T 
         caused_started T line event call f' new (nothing fresh) s is
 
     by_taken : (t : Takes T event call) → (o : Option Facts) → facts_at T call ≡ o → Caused (with_event T line event) call f'
-    by_taken t None found = no_facts (facts_at (with_event T line event) call) f' (others_after T line event call t found) is
+    by_taken t None found = not_some (facts_at (with_event T line event) call) f' (others_after T line event call t found) is
     by_taken t (Some f) found =
         let m : Meets T event call f = record { takes = t; found = found } in
         caused_then T line event call f f'
@@ -182,7 +182,7 @@ caused_by_row T line event call f' nothing new h caused then is = go (happens T 
     go : Happens T event call → Caused (with_event T line event) call f'
     go (Left l) = by_left l
     go (Ends e) =
-        no_facts (facts_at (with_event T line event) call) f'
+        not_some (facts_at (with_event T line event) call) f'
         (facts_ended T line event call e.stage e.begins_none) is
     go (Started s) = by_started s
     go (Took t) = by_taken t (facts_at T call) refl

@@ -18,11 +18,11 @@ use Rattle.fed_status.specs.Shared.{World}
 use Rattle.fed_consent.specs.declared.table.finish.Finish.{Finish}
 use Rattle.fed_consent.specs.declared.table.input.Input.{Input}
 use Rattle.fed_consent.specs.declared.table.input.Input.TheVariants as inputs
-use Rattle.fed_consent.specs.Consent.{Candidate, chosen}
+use Rattle.fed_consent.specs.Consent.{Candidate, assertion_fields, chosen}
 use Rattle.fed_call.specs.Accounts.{candidate_of, listed_of, needs_metadata}
 use Rattle.fed_consent.specs.Outcomes as outcomes
-use Rattle.fed_call.specs.Facts.{Facts, at_stage, facts_after, metadata_endpoint, provider_at, with_accounts, with_candidate, with_choice}
-use Rattle.fed_call.specs.Facts.{with_input, with_list, with_listing}
+use Rattle.fed_call.specs.Facts.{Facts, at_stage, by_account, facts_after, metadata_endpoint, provider_at, with_candidate, with_choice}
+use Rattle.fed_call.specs.Facts.{with_input, with_list, with_listing, with_offer}
 use Rattle.fed_consent.specs.Outcomes.{Outcome}
 use Rattle.fed_script.specs.declared.event.Event.{Event}
 use Rattle.fed_script.specs.declared.event.Event.TheVariants.{Choose, Reply}
@@ -34,7 +34,7 @@ use Rattle.fed_trace.specs.Known.{world_at, input_to}
 use Rattle.fed_laws.specs.Laws.{at}
 use Rattle.fed_trace.specs.Row.{effects_of, row_of, with_event, cookies_with, call_effects, moves}
 use Rattle.fed_trace.specs.Trace.{Trace}
-use Rattle.fed_laws.proofs.pending.Stood.{Stood, calm, no_facts}
+use Rattle.fed_laws.proofs.pending.Stood.{Stood, calm, not_some}
 use Rattle.fed_trace.proofs.happens.Taken.{Meets, does_at, outcome_of}
 use Rattle.fed_laws.proofs.pending.Taken.{after_by, gives_at, input_keeps_pages}
 use Rattle.fed_trace.proofs.happens.Ends.{event_for}
@@ -43,7 +43,7 @@ use Rattle.fed_laws.proofs.causes.Cause.{Caused, Opened, Path, Alone, AfterChoic
 use Rattle.fed_laws.proofs.turns.Config.{AtEnd, AtReading, Configured, HasOne, config_told, has_its_provider, keeps_config, told}
 use Rattle.fed_trace.proofs.effects.Outcome.{ignored_outcome}
 use Rattle.fed_trace.proofs.happens.Says.{own, outcome_begins, finish_of}
-use Rattle.fed_laws.proofs.turns.Turn.{Turn, Asks, Gives, Goes, turn_at}
+use Rattle.fed_laws.proofs.turns.Turn.{Turn, Asks, Gives, Goes, requests_gives, turn_at}
 use Rattle.fed_laws.proofs.turns.Way.{TakesAccounts, TakesChoice, TakesMetadata}
 use Rattle.fed_laws.proofs.turns.Only.{first_place}
 
@@ -76,11 +76,14 @@ gives_no_more T line event call f f' s = gives_at T event call f s.meets ∙ go 
     o : Outcome
     o = outcome_of T f s.meets.takes.input
 
-    go : Turn f s.meets.takes.input o → map {B = ℕ × Finish} (λ finish. (f.page, finish)) (filter_map finish_of o.effects) ≡ []
-    go (Asks a) = ap (λ x. map {B = ℕ × Finish} (λ finish. (f.page, finish)) (filter_map finish_of x.effects)) a.is
-    go (Goes asks gives back) = ap (map {B = ℕ × Finish} (λ finish. (f.page, finish))) gives
+    go : Turn (world_at T) f s.meets.takes.input o
+        → map {B = ℕ × Finish} (λ finish. (f.page, finish)) (filter_map finish_of o.effects) ≡ []
+    go (Asks a) =
+        ap (map {B = ℕ × Finish} (λ finish. (f.page, finish)))
+        (requests_gives o a.place (assertion_fields a.agreed a.config.assertion f.origin a.provider) a.is)
+    go (Goes asks gives leaves back) = ap (map {B = ℕ × Finish} (λ finish. (f.page, finish))) gives
     go (Gives finish ended asks gives token) =
-        no_facts (facts_after (world_at T) f s.meets.takes.input o) f'
+        not_some (facts_after (world_at T) f s.meets.takes.input o) f'
         (ap (λ st. at_stage (unwrap_or st f.stage) (told_then T f s.meets.takes.input)) ended) s.now
 
 pub calm_step : (T : Trace) (line : ℕ) (event : Event) (call : ℕ) (f f' : Facts) → (s : Step T line event call f f') → (page : ℕ)
@@ -144,7 +147,7 @@ configured_then T line event call f f' s = go (keeps_config (world_at T) f s.mee
     go (AtReading at) = inl (ap (λ g. g.stage) is ∙ at)
     go (HasOne some) = inr (ap (λ g. is_some g.config) is ∙ some)
     go (AtEnd at) =
-        no_facts (facts_after (world_at T) f s.meets.takes.input (outcome_of T f s.meets.takes.input)) f'
+        not_some (facts_after (world_at T) f s.meets.takes.input (outcome_of T f s.meets.takes.input)) f'
         (ap (λ st. at_stage st (told_then T f s.meets.takes.input)) at) s.now
 
 -- ---- accounts come
@@ -158,7 +161,8 @@ reply_event event call place raw is first =
 -- the reply that the call takes is its accepted one
 accepted_now : (T : Trace) (line : ℕ) (event : Event) (call : ℕ) (f f' : Facts) (accounts : List Account)
     → (s : Step T line event call f f')
-    → TakesAccounts f s.meets.takes.input (outcome_of T f s.meets.takes.input) accounts → Accepted (with_event T line event) call 0
+    → TakesAccounts (world_at T) f s.meets.takes.input (outcome_of T f s.meets.takes.input) accounts
+    → Accepted (with_event T line event) call 0
 accepted_now T line event call f f' accounts s t =
     let o = outcome_of T f s.meets.takes.input in
     let begun = s.stood_then.begun in
@@ -196,21 +200,24 @@ accepted_now T line event call f f' accounts s t =
 
 -- what is told of the call by the accounts
 told_accounts : (T : Trace) (f : Facts) (input : Input) (accounts : List Account)
-    → (t : TakesAccounts f input (outcome_of T f input) accounts)
-    → told_then T f input ≡ with_accounts (world_at T) t.provider accounts f
+    → (t : TakesAccounts (world_at T) f input (outcome_of T f input) accounts)
+    → told_then T f input ≡ with_offer (world_at T) t.provider accounts f
 told_accounts T f input accounts t =
     ap (λ b. with_input (world_at T) b input f) t.taken ∙ ap (λ i. with_input (world_at T) false i f) t.is_reply
-    ∙ ap (λ p. with_listing (world_at T) t.raw p f) t.has_provider ∙ ap (λ r. with_list (world_at T) t.provider r f) t.reads
+    ∙ ap (λ p. with_listing (world_at T) t.raw t.place p f) t.has_provider
+    ∙ ap (λ r. with_list (world_at T) t.place t.provider r f) t.reads
+    ∙ ap (λ pick. by_account (world_at T) t.provider accounts pick f) t.unnamed
 
 many_listed : (world : World) (provider : ProviderOptions) (accounts : List Account) (f : Facts) → 2 ≤ length accounts
-    → (with_accounts world provider accounts f).listed ≡ Some (listed_of world f.origin provider accounts)
+    → (with_offer world provider accounts f).listed ≡ Some (listed_of world f.origin provider accounts)
 many_listed world provider [] f two = absurd (omega (arith, two))
 many_listed world provider (only ∷ []) f two = absurd (omega (arith, two))
 many_listed world provider (one ∷ more ∷ rest) f two = refl
 
 pub opened_now : (T : Trace) (line : ℕ) (event : Event) (call : ℕ) (f f' : Facts) (accounts : List Account)
     → (s : Step T line event call f f') → 2 ≤ length accounts
-    → TakesAccounts f s.meets.takes.input (outcome_of T f s.meets.takes.input) accounts → Opened (with_event T line event) call f'
+    → TakesAccounts (world_at T) f s.meets.takes.input (outcome_of T f s.meets.takes.input) accounts
+    → Opened (with_event T line event) call f'
 unfolding accepted_now
 opened_now T line event call f f' accounts s two t =
     let input = s.meets.takes.input in
@@ -231,7 +238,8 @@ needs_none false None h = inr refl
 needs_none false (Some to) h = absurd (cc)
 
 pub prompts_now : (T : Trace) (line : ℕ) (event : Event) (call : ℕ) (f f' : Facts) (only : Account) → (s : Step T line event call f f')
-    → TakesAccounts f s.meets.takes.input (outcome_of T f s.meets.takes.input) (only ∷ []) → Prompts (with_event T line event) call f'
+    → TakesAccounts (world_at T) f s.meets.takes.input (outcome_of T f s.meets.takes.input) (only ∷ [])
+    → Prompts (with_event T line event) call f'
 unfolding accepted_now
 prompts_now T line event call f f' only s t =
     record {

@@ -2,11 +2,13 @@
 use Rattle.fed_accounts.specs.declared.account.Account.{Account}
 use Rattle.fed_call.specs.AssertingRows.{asserts}
 use Rattle.fed_call.specs.DialogRows.{agreed_to, chose, choice, settles, goes_on, went_on}
-use Rattle.fed_call.specs.Facts.{Facts, provider_at}
-use Rattle.fed_call.specs.ListingRows.{offers}
+use Rattle.fed_call.specs.Accounts.{grounds_at}
+use Rattle.fed_call.specs.Facts.{Facts, provider_at, reselected}
+use Rattle.fed_call.specs.ListingRows.{by_reselected, offers}
 use Rattle.fed_consent.specs.Outcomes.{moves, after}
 use Rattle.fed_call.specs.Row.{input_row}
-use Rattle.fed_consent.specs.Consent.{AssertionFields, Candidate, Listed, assertion_fields, chosen}
+use Rattle.fed_consent.specs.Consent.{AssertionFields, Candidate, Listed, assertion_fields, by_reselection, chosen, reselection_on}
+use Rattle.fed_consent.specs.declared.table.finish.Finish.{Finish}
 use Rattle.fed_consent.specs.declared.table.input.Input.{Input}
 use Rattle.fed_consent.specs.declared.consent.manner.Manner.TheVariants.{Chosen, Prompted}
 use Rattle.fed_origin.specs.WebUrl.{origin_of}
@@ -21,11 +23,12 @@ use Rattle.fed_script.specs.declared.event.Header.{Header}
 use Rattle.fed_origin.specs.declared.options.GetOptions.{GetOptions}
 use Rattle.fed_trace.specs.Begun.{Begun, GetCall, ToGet}
 use Rattle.fed_laws.specs.Cause.{FirstChoice, IsReady, chooses, config_at, Agreed, ByChoice, BySinglePrompt, ByChosenPrompt, AssertionCause}
-use Rattle.fed_laws.specs.Cause.{offered}
-use Rattle.fed_trace.specs.OfCall.{call_at, disturbs, Has, asked, assertions}
-use Rattle.fed_trace.specs.Effect.{Move, Sent, Login}
+use Rattle.fed_laws.specs.Cause.{UserCause, PermissionCause, ByUser, ByPermission, offered}
+use Rattle.fed_trace.specs.OfCall.{call_at, disturbs, Has, asked, assertions, given, is_result, replaces}
+use Rattle.fed_trace.specs.Effect.{Effect, Sent, Login}
+use Rattle.fed_status.specs.Shared.{World}
 use Rattle.fed_trace.specs.Known.{world_at, is_begun, known_at, facts_at}
-use Rattle.fed_trace.proofs.happens.Taken.{is_get}
+use Rattle.fed_trace.proofs.happens.Taken.{Meets, does_at, is_get}
 use Rattle.fed_laws.specs.Laws.{OfRuns, at, IsAskedFor}
 use Rattle.fed_trace.specs.Row.{effects_of, IsRun, cookies_with, outcome_effects, input_effects}
 use Rattle.fed_trace.specs.Trace.{Row, Trace}
@@ -42,14 +45,17 @@ use Rattle.fed_origin.specs.declared.stage.ReplyKind.TheVariants as kinds
 use Rattle.fed_script.specs.declared.event.Event.TheVariants as events
 use Rattle.std.proofs.lemmas.List.Folds.{list_any-append}
 use Rattle.fed_laws.proofs.pending.Asked.{invariant, row_is}
-use Rattle.fed_laws.proofs.tokens.Answered.{or_left, or_right}
+use Rattle.fed_laws.proofs.tokens.Answered.{or_left, or_right, result_disturbs}
 use Rattle.fed_laws.proofs.causes.Cause.{chosen_id}
 use Rattle.fed_laws.proofs.causes.Dialog.{one_provider}
 use Rattle.fed_laws.proofs.pending.Stood.{Stood}
 use Rattle.fed_laws.proofs.tokens.Token.{row_of_trace}
 use Rattle.fed_laws.proofs.pending.Begun.{or_true}
 use Rattle.fed_laws.proofs.causes.Caused.{caused}
-use Rattle.fed_laws.proofs.followed.Offers.{tracks_first, tracks_on, accepted_begun}
+use Rattle.fed_laws.proofs.followed.Offers.{Listens, Matches, accepted_begun, accepts_meets, listing_configured, listens, matches}
+use Rattle.fed_laws.proofs.followed.Offers.{tracks_first, tracks_on}
+use Rattle.fed_laws.proofs.pending.Taken.{requests_sends}
+use Rattle.fed_laws.proofs.turns.Turn.{Requests, ByItself, AfterLogin, accepts_at}
 use Rattle.fed_trace.proofs.happens.Says.{own}
 use Rattle.fed_laws.proofs.followed.Tracks.{How, AsOnly, AsChosen, Offering, ToChoose, ToGoOn, Tracks, began_before, begun_on}
 use Rattle.fed_laws.proofs.turns.Only.{first_place, only_there}
@@ -60,31 +66,45 @@ nil_both : {A : Type 0} (xs ys : List A) → xs ++ ys ≡ [] → (xs ≡ []) × 
 nil_both [] ys h = (refl, h)
 nil_both (x ∷ xs) ys h = let none : x ∷ (xs ++ ys) ≡ [] = h in absurd (cc)
 
+-- a row that does not disturb a call gives it no result
+gives_none_of : (call : ℕ) (effects : List Effect) → list_any (is_result call) effects ≡ false
+    → filter_map (given call) effects ≡ []
+gives_none_of call effects none = go (filter_map (given call) effects) refl
+  where
+    go : (xs : List (ℕ × Finish)) → filter_map (given call) effects ≡ xs → filter_map (given call) effects ≡ []
+    go [] is = is
+    go (x ∷ xs) is = let no : true ≡ false = sym (result_disturbs call effects x xs is) ∙ none in absurd (cc)
+
 tracks_since : (header : Header) (since before : List Row) (reply : Row) (call provider : ℕ) (b : Begun) (get : GetOptions)
     (options : ProviderOptions) (raw id : List ℕ) (listed : Listed) (candidate : Candidate)
     (o : Origin) → IsRun header (since ++ reply ∷ before) → call_at before call ≡ Some b → b.options ≡ ToGet get
     → provider_at provider get ≡ Some options
     → reply.event ≡ Reply call provider kinds.Accounts raw → Has reply.effects (Login o LoggedIn)
     → offered (record { header = header; rows = before }) b options raw ≡ Ok listed → chosen id listed ≡ Some candidate
-    → list_any (disturbs call b.page) since ≡ false → assertions call (since ++ reply ∷ before) ≡ []
+    → list_any (disturbs call b.page) since ≡ false → disturbs call b.page reply ≡ false
+    → assertions call (since ++ reply ∷ before) ≡ []
     → Tracks (record { header = header; rows = since ++ reply ∷ before }) call b.page listed since
 tracks_since header [] before reply call provider b get options raw id listed candidate o run began is_get_b has_b is has offers named calm
-    first =
+    still first =
     let T : Trace = record { header = header; rows = before } in
+    let parts = nil_both (assertions call before) (filter_map (asked call) reply.effects) first in
+    let none = or_right (replaces b.page reply.event) (list_any (is_result call) reply.effects) still in
     subst (λ r. Tracks (record { header = header; rows = r ∷ before }) call b.page listed []) (sym (row_is T reply run.0))
-    (tracks_first T reply.line reply.event call provider b get options raw id listed candidate o (invariant header before call run.2) began
+    (tracks_first T reply.line reply.event call provider b get options raw id listed candidate o (invariant header before call run.2)
+    (caused header before call run.2) began
     is_get_b has_b is
-    (subst (λ es. Has es (Login o LoggedIn)) run.0 has) offers named)
+    (subst (λ es. Has es (Login o LoggedIn)) run.0 has) offers named (ap (filter_map (asked call)) (sym run.0) ∙ parts.1)
+    (ap (filter_map (given call)) (sym run.0) ∙ gives_none_of call reply.effects none))
 tracks_since header (row ∷ since) before reply call provider b get options raw id listed candidate o run began is_get_b has_b is has
     offers
-    named calm first =
+    named calm still first =
     let T : Trace = record { header = header; rows = since ++ reply ∷ before } in
     let same = row_is T row run.0 in
     let parts = nil_both (assertions call (since ++ reply ∷ before)) (filter_map (asked call) row.effects) first in
     let earlier =
     tracks_since header since before reply call provider b get options raw id listed candidate o run.2 began is_get_b has_b is has
     offers named
-    (or_right (disturbs call b.page row) (list_any (disturbs call b.page) since) calm) parts.0 in
+    (or_right (disturbs call b.page row) (list_any (disturbs call b.page) since) calm) still parts.0 in
     subst (λ r. Tracks (record { header = header; rows = r ∷ (since ++ reply ∷ before) }) call b.page listed (r ∷ since)) (sym same)
     (tracks_on T row.line row.event call b.page listed since run.1 (invariant header (since ++ reply ∷ before) call run.2)
     (caused header (since ++ reply ∷ before) call run.2) earlier
@@ -147,17 +167,13 @@ Sends T event call id =
 -- where the outcome of the input is a request for a token
 sends_by : (T : Trace) (event : Event) (call : ℕ) (f : Facts) (input : Input) (id : List ℕ) (ask : AssertionFields)
     → effects_of T event ≡ outcome_effects (world_at T) (cookies_with T) GetCall call f.page (input_row (world_at T) f input)
-    → input_row (world_at T) f input ≡ moves Asserting (does.Send 0 (asks.Assertion ask)) → ask.account ≡ id → Sends T event call id
+    → Requests (input_row (world_at T) f input) 0 ask → ask.account ≡ id → Sends T event call id
 sends_by T event call f input id ask does is named = (
   ask,
   cookies_with T (asks.Assertion ask),
   named,
-  record {
-    before = [];
-    after = Move GetCall call Asserting ∷ [];
-    all =
-        does ∙ ap (outcome_effects (world_at T) (cookies_with T) GetCall call f.page) is;
-  },
+  subst (λ es. Has es (Sent GetCall call 0 (asks.Assertion ask) (cookies_with T (asks.Assertion ask)))) (sym does)
+      (requests_sends (world_at T) (cookies_with T) call f.page (input_row (world_at T) f input) 0 ask is),
 )
 
 some_config : (o : Option Config) → is_some o ≡ true → (c : Config) × (o ≡ Some c)
@@ -195,11 +211,12 @@ sends_choice T event call id listed candidate f s found some at lists named conn
     sends_by T event call f (inputs.Choose 0 id) id
     (assertion_fields (agreed_to f 0 candidate Chosen false) cfg.0.assertion f.origin only.0)
     (does_for T event call f (inputs.Choose 0 id) s found (ap (effects_of T) is))
-    (ap (λ st. chose (world_at T) f st 0 id) at ∙ ap (λ x. choice (world_at T) f 0 x (option_and_then (chosen id) f.listed)) only.1
+    (ByItself (ap (λ st. chose (world_at T) f st 0 id) at
+    ∙ ap (λ x. choice (world_at T) f 0 x (option_and_then (chosen id) f.listed)) only.1
     ∙ ap (λ l. choice (world_at T) f 0 (Some only.0) (option_and_then (chosen id) l)) lists
     ∙ ap (choice (world_at T) f 0 (Some only.0)) named
     ∙ ap (settles (world_at T) f 0 only.0 candidate) connected
-    ∙ ap (λ x. asserts f 0 (Some only.0) x (agreed_to f 0 candidate Chosen false)) cfg.1)
+    ∙ ap (λ x. asserts f 0 (Some only.0) x (agreed_to f 0 candidate Chosen false)) cfg.1))
     (chosen_id id listed candidate named)
 
 -- the user went on with the prompt
@@ -213,8 +230,8 @@ sends_going T event call candidate f s found some at picks ready is =
     let agreed = agreed_to f 0 candidate Prompted (not candidate.connected) in
     sends_by T event call f inputs.GoOn candidate.account.id (assertion_fields agreed cfg.0.assertion f.origin only.0)
     (does_for T event call f inputs.GoOn s found (ap (effects_of T) is))
-    (ap (λ st. went_on f st) at ∙ ap (λ w. goes_on f w f.picked) ready ∙ ap (goes_on f false) picks
-    ∙ ap (λ x. asserts f 0 x f.config agreed) only.1 ∙ ap (λ x. asserts f 0 (Some only.0) x agreed) cfg.1)
+    (ByItself (ap (λ st. went_on f st) at ∙ ap (λ w. goes_on f w f.picked) ready ∙ ap (goes_on f false) picks
+    ∙ ap (λ x. asserts f 0 x f.config agreed) only.1 ∙ ap (λ x. asserts f 0 (Some only.0) x agreed) cfg.1))
     refl
 
 too_few : {A : Type 0} (xs : List Account) (x : Account) → 2 ≤ length xs → xs ≡ x ∷ [] → A
@@ -295,10 +312,10 @@ past_reading f call listed since (ToChoose at lists several none) (inl reading) 
 past_reading f call listed since (ToGoOn c at picks named how) (inl reading) = let never : Reading ≡ Prompting = sym reading ∙ at in
     absurd (cc)
 
-followed : (T : Trace) (event : Event) (call provider : ℕ) (id : List ℕ) → IsRun T.header T.rows
-    → AssertionCause T event call provider id
+followed_user : (T : Trace) (event : Event) (call provider : ℕ) (id : List ℕ) → IsRun T.header T.rows
+    → UserCause T event call provider id
     → (provider ≡ 0) × Sends T event call id
-followed T event call provider id run cause =
+followed_user T event call provider id run cause =
     let a = cause.accepted in
     let b = a.begun in
     let r = row_of_trace T a.since a.before a.reply run a.rows in
@@ -312,23 +329,24 @@ followed T event call provider id run cause =
     began_before T.header a.since (a.reply ∷ a.before) call (Some b) run_all (begun_on T.header (a.reply
     ∷ []) a.before call begun_then) began_all in
     let began = began_before T.header (a.reply ∷ []) a.before call (Some b) run_reply begun_then began_reply in
-    let calm = or_left (list_any (disturbs call b.page) a.since) (list_any (disturbs call b.page) (a.reply ∷ []))
-    (sym (list_any-append (disturbs call b.page) a.since (a.reply ∷ [])) ∙ a.stands) in
+    let calm_parts = sym (list_any-append (disturbs call b.page) a.since (a.reply ∷ [])) ∙ a.stands in
+    let calm = or_left (list_any (disturbs call b.page) a.since) (list_any (disturbs call b.page) (a.reply ∷ [])) calm_parts in
+    let still =
+    or_left (disturbs call b.page a.reply) false
+    (or_right (list_any (disturbs call b.page) a.since) (list_any (disturbs call b.page) (a.reply ∷ [])) calm_parts) in
     let tracked =
     tracks_since T.header a.since a.before a.reply call provider b a.get a.options a.raw id a.listed cause.candidate
     (origin_of a.options.config) run_all began a.is_get a.has_provider
-    a.event a.logged_in a.offers cause.is_listed calm (subst (λ rs. assertions call rs ≡ []) a.rows cause.first) in
+    a.event a.logged_in a.offers cause.is_listed calm still
+    (subst (λ rs. assertions call rs ≡ []) a.rows cause.first) in
     let k : Tracks T call b.page a.listed a.since =
     subst (λ rs. Tracks (record { header = T.header; rows = rs }) call b.page a.listed a.since) (sym a.rows) tracked in
     let s = (invariant T.header T.rows call run).stood k.facts k.found in
     let c = caused T.header T.rows call run k.facts k.found in
-    let begun_same : Some s.begun ≡ Some b = sym s.began ∙ a.began in
-    let begun_is : s.begun ≡ b = cc in
-    let asked_is : ToGet s.get ≡ ToGet a.get = sym s.is_get ∙ ap (λ x. x.options) begun_is ∙ a.is_get in
-    let get_is : s.get ≡ a.get = cc in
+    let begins = matches T call k.facts b a.get s a.began a.is_get in
     let first =
-    first_place a.get.providers provider a.options (ap (λ (x : GetOptions). length x.providers) (sym get_is)
-    ∙ s.one) a.has_provider in (
+    first_place k.facts.options.providers provider a.options (one_provider T call k.facts s)
+    (ap (provider_at provider) begins.of_options ∙ a.has_provider) in (
       first,
       acts T event call id a.listed cause.candidate (config_at T.rows call 0 a.get) a.since
           (record {
@@ -336,12 +354,72 @@ followed T event call provider id run cause =
             tracks = k;
             stood = s;
             configured = past_reading k.facts call a.listed a.since k.offering c.configured;
-            config_is = sym (c.config ∙ ap (config_at T.rows call 0) (s.of_options ∙ get_is));
+            config_is = sym (c.config ∙ ap (config_at T.rows call 0) begins.of_options);
             named = cause.is_listed;
             agreed =
                 subst (λ p. Agreed event call p id a.listed cause.candidate (config_at T.rows call p a.get) a.since) first cause.agreed;
           }),
     )
+
+-- an account is reselected
+followed_permission : (T : Trace) (event : Event) (call provider : ℕ) (id : List ℕ) → IsRun T.header T.rows
+    → PermissionCause T event call provider id → (provider ≡ 0) × Sends T event call id
+unfolding accepts_meets
+followed_permission T event call provider id run cause = (first, sends)
+  where
+    w : World
+    w = world_at T
+
+    l : Listens T call
+    l = listens T event call provider cause.raw (origin_of cause.options.config) cause.is_reply cause.logged_in
+
+    f : Facts
+    f = l.facts
+
+    m : Meets T event call f
+    m = accepts_meets T event call provider cause.raw (origin_of cause.options.config) f cause.is_reply cause.logged_in l.found
+
+    s : Stood T call f
+    s = (invariant T.header T.rows call run).stood f m.found
+
+    begins : Matches T call f cause.begun cause.get
+    begins = matches T call f cause.begun cause.get s cause.began cause.is_get
+
+    has : provider_at provider f.options ≡ Some cause.options
+    has = ap (provider_at provider) begins.of_options ∙ cause.has_provider
+
+    first : provider ≡ 0
+    first = first_place f.options.providers provider cause.options (one_provider T call f s) has
+
+    named : reselected w f provider cause.options cause.accounts ≡ Some cause.pick
+    named =
+        ap (λ c. reselection_on (grounds_at w c f.origin f.options.mediation provider cause.options cause.accounts)) s.of_call
+        ∙ ap (λ o. reselection_on (grounds_at w call o f.options.mediation provider cause.options cause.accounts)) begins.of_origin
+        ∙ ap (λ (g : GetOptions). reselection_on (grounds_at w call cause.begun.origin g.mediation provider cause.options
+        cause.accounts))
+        begins.of_options
+        ∙ cause.names
+
+    sends : Sends T event call id
+    sends =
+        let some = some_config f.config (listing_configured f l.listing (caused T.header T.rows call run f m.found).configured) in
+        let ask = assertion_fields (by_reselection cause.pick) some.0.assertion f.origin cause.options in
+        sends_by T event call f (inputs.Reply provider kinds.Accounts cause.raw) id ask (does_at T event call f m)
+        (AfterLogin (origin_of cause.options.config)
+        (accepts_at w f provider cause.raw cause.options cause.accounts l.listing has cause.reads
+        ∙ ap (λ x. after (does.SetLogin (origin_of cause.options.config) LoggedIn)
+        (by_reselected w f provider cause.options cause.accounts x)) named
+        ∙ ap (λ c. after (does.SetLogin (origin_of cause.options.config) LoggedIn)
+        (asserts f provider (Some cause.options) c (by_reselection cause.pick))) some.1
+        ∙ ap (λ p. after (does.SetLogin (origin_of cause.options.config) LoggedIn)
+        (moves Asserting (does.Send p (asks.Assertion ask)))) first))
+        cause.is_account
+
+followed : (T : Trace) (event : Event) (call provider : ℕ) (id : List ℕ) → IsRun T.header T.rows
+    → AssertionCause T event call provider id
+    → (provider ≡ 0) × Sends T event call id
+followed T event call provider id run (ByUser cause) = followed_user T event call provider id run cause
+followed T event call provider id run (ByPermission cause) = followed_permission T event call provider id run cause
 
 pub followed_lem : OfRuns IsAskedFor
 followed_lem T run after before row call provider id is cause =

@@ -190,7 +190,9 @@ unsaid_metadata (events.Abort c) call none = refl
 unsaid_metadata (events.Choose c place id) call none = refl
 unsaid_metadata (events.GoOn c) call none = refl
 unsaid_metadata (events.Cancel c) call none = refl
+unsaid_metadata (events.Prevent page) call none = refl
 unsaid_metadata (events.SetStatus page status) call none = refl
+unsaid_metadata (events.Disconnect page c config client hint) call none = refl
 
 -- a metadata reply for the call leaves no prompt that waits
 ready_by_reply : (T : Trace) (event : Event) (call : ℕ) (f : Facts) (input : Input) → Some event ≡ event_for call input
@@ -262,7 +264,8 @@ same_at f opened = go f.stage refl
 -- after an input
 pub tracks_taken : (T : Trace) (line : ℕ) (event : Event) (call page : ℕ) (listed : Listed) (since : List Row)
     (k : Tracks T call page listed since)
-    → (m : Meets T event call k.facts) → Stood T call k.facts → Way k.facts m.takes.input (outcome_of T k.facts m.takes.input)
+    → (m : Meets T event call k.facts) → Stood T call k.facts
+    → Way (world_at T) k.facts m.takes.input (outcome_of T k.facts m.takes.input)
     → is_open (unwrap_or (outcome_of T k.facts m.takes.input).stage k.facts.stage) ≡ true
     → Tracks (with_event T line event) call page listed (row_of T line event ∷ since)
 tracks_taken T line event call page listed since k m s way stays = go way k.offering
@@ -347,7 +350,7 @@ tracks_taken T line event call page listed since k m s way stays = go way k.offe
               k.offering;
         }
 
-    go : Way f m.takes.input o → Offering f call listed since
+    go : Way (world_at T) f m.takes.input o → Offering f call listed since
         → Tracks (with_event T line event) call page listed (row_of T line event ∷ since)
     go (Elsewhere closed) offering = let no : false ≡ true = sym closed ∙ stays in absurd (cc)
     go (OffersMany accounts two at to t) offering = listing at
@@ -356,4 +359,4 @@ tracks_taken T line event call page listed since k m s way stays = go way k.offe
     go (Picks at to t) (ToGoOn candidate prompting picks is how) = let no : Choosing ≡ Prompting = sym at ∙ prompting in absurd (cc)
     go (Readies at to t) (ToChoose choosing lists two unchosen) = let no : Prompting ≡ Choosing = sym at ∙ choosing in absurd (cc)
     go (Readies at to t) (ToGoOn candidate prompting picks is how) = readied t to candidate picks is how
-    go (Unmoved is still told_is none) offering = unmoved still (told_is (world_at T)) none
+    go (Unmoved is still told_is none) offering = unmoved still told_is none

@@ -1,5 +1,5 @@
 -- A call that begins stands from then on.
-use Rattle.std.proofs.Common.{◌≡◌, ℕ, Bool, true, false, nat_eq, ◌||◌, inl, List, [], ◌∷◌, length, Some, None, refl, sym}
+use Rattle.std.proofs.Common.{◌≡◌, ℕ, Bool, true, false, nat_eq, ◌||◌, inl, [], ◌∷◌, length, Some, None, refl, sym}
 use Rattle.std.proofs.Common.{ap, subst, ◌∙◌}
 use Rattle.std.proofs.Common.{cond}
 use Rattle.std.proofs.lemmas.List.Folds.{list_any-append}
@@ -17,8 +17,8 @@ use Rattle.fed_consent.specs.Outcomes.{Outcome}
 use Rattle.fed_script.specs.declared.event.Event.{Event}
 use Rattle.fed_trace.specs.Begun.{Begun, GetCall, CallOptions, ToGet, ToDisconnect, kind_asked}
 use Rattle.fed_trace.specs.Call.{get_facts, at_stage, fresh, first_row}
-use Rattle.fed_trace.specs.OfCall.{asked, replaces, call_at}
-use Rattle.fed_trace.specs.Effect.{Effect, PendingCall, pending_from, Begin, last_of, call_change, begins, begun_by}
+use Rattle.fed_trace.specs.OfCall.{asked, call_at}
+use Rattle.fed_trace.specs.Effect.{PendingCall, pending_from, Begin, call_change, begun_by}
 use Rattle.fed_trace.specs.Keyed.{last_said, says}
 use Rattle.fed_trace.specs.Known.{world_at, is_begun, facts_at}
 use Rattle.fed_trace.specs.Row.{effects_of, row_of, with_event, cookies_with, outcome_effects, moves, IsNew}
@@ -26,7 +26,7 @@ use Rattle.fed_trace.specs.Trace.{Trace, begun, last_value, page_at}
 use Rattle.fed_trace.proofs.happens.Ends.{Starts}
 use Rattle.fed_trace.proofs.happens.Happens.{pages_left}
 use Rattle.fed_trace.proofs.happens.Says.{own, outcome_asks, outcome_pending, asks_token}
-use Rattle.fed_laws.proofs.pending.Stood.{Stood, Invariant, asks_same, invariant_by, no_facts}
+use Rattle.fed_laws.proofs.pending.Stood.{Going, Stood, Invariant, asks_same, invariant_by, not_some}
 use Rattle.fed_trace.proofs.happens.First.{FirstTurn, FailsFirst, ReadsFirst, HasOne, IsBeginning, is_first, is_beginning, begins_it}
 use Rattle.fed_trace.proofs.happens.First.{known_begun, first_turn}
 use Rattle.fed_trace.proofs.happens.Gets.{no_get}
@@ -40,6 +40,38 @@ pub or_true : (b : Bool) → b || true ≡ true
 or_true true = refl
 or_true false = refl
 
+-- a call that reads its first files stands from then on
+pub begun_now : (T : Trace) (line : ℕ) (event : Event) (b : Begun) → IsBeginning event → page_at T b.page ≡ Some b.origin
+    → (o : Outcome) → o.stage ≡ Some Reading
+    → effects_of T event ≡ Begin b ∷ outcome_effects (world_at T) (cookies_with T) (kind_asked b.options) b.call b.page o
+    → Going (with_event T line event) b.call (pending_from b) b
+begun_now T line event b starts page o reading effects =
+    let does = outcome_effects (world_at T) (cookies_with T) (kind_asked b.options) b.call b.page o in
+    record {
+      pending = ap (λ x. unwrap_or x (last_value nat_eq call_change b.call T.rows))
+          (ap (last_said nat_eq call_change b.call) effects
+          ∙ ap (λ x. option_or x (says nat_eq b.call (Some (b.call, Some (pending_from b)))))
+          (outcome_pending (world_at T) (cookies_with T) (kind_asked b.options) b.call b.page b.call o
+          ∙ ap (λ st. last_said nat_eq call_change b.call (moves (kind_asked b.options) b.call st)) reading)
+          ∙ ap (λ t. cond t (Some (Some (pending_from b))) None) (own b.call));
+      page = ap (λ x. unwrap_or x (page_at T b.page)) (pages_left T event b.page (starts.leaves_pages b.page)) ∙ page;
+      is_taken = list_any-append (nat_eq b.call) (begun T.rows) (filter_map begun_by (effects_of T event))
+          ∙ ap (λ es. list_any (nat_eq b.call) (begun T.rows) || list_any (nat_eq b.call) (filter_map begun_by es)) effects
+          ∙ ap (λ t. list_any (nat_eq b.call) (begun T.rows) || (t || list_any (nat_eq b.call) (filter_map begun_by does))) (own b.call)
+          ∙ or_true (list_any (nat_eq b.call) (begun T.rows));
+      began = ap (λ x. option_or x (call_at T.rows b.call)) (begins_it T event b o effects);
+      of_page = refl;
+      undisturbed = record {
+        since = [];
+        beginning = row_of T line event;
+        before = T.rows;
+        rows_are = refl;
+        begins_it = record { before = []; after = does; all = effects };
+        is_it = refl;
+        stands = refl;
+      };
+    }
+
 -- a get begins
 when_get : (T : Trace) (line : ℕ) (event : Event) (b : Begun) (options : GetOptions) → b.options ≡ ToGet options
     → Invariant T b.call
@@ -50,16 +82,10 @@ when_get : (T : Trace) (line : ℕ) (event : Event) (b : Begun) (options : GetOp
     → (f : Facts) → facts_at (with_event T line event) b.call ≡ Some f → Stood (with_event T line event) b.call f
 when_get T line event b options is_get h starts page one o turn effects new f is = stood turn
   where
-    does : List Effect
-    does = outcome_effects (world_at T) (cookies_with T) (kind_asked b.options) b.call b.page o
-
     asks : filter_map (asked b.call) (effects_of T event) ≡ []
     asks =
         ap (filter_map (asked b.call)) effects ∙ outcome_asks (world_at T) (cookies_with T) (kind_asked b.options) b.call b.page o
         ∙ first_asks_none o turn
-
-    begins_b : last_of (begins b.call) (effects_of T event) ≡ Some b
-    begins_b = begins_it T event b o effects
 
     kind_is : kind_asked b.options ≡ GetCall
     kind_is = ap kind_asked is_get
@@ -72,41 +98,26 @@ when_get T line event b options is_get h starts page one o turn effects new f is
         ∙ facts_of_get (get.at_stage stage (get.fresh b.call b.page b.origin options))
 
     stood : FirstTurn o → Stood (with_event T line event) b.call f
-    stood (FailsFirst failure ended none gives) = no_facts (facts_at (with_event T line event) b.call) f (facts Ended ended) is
+    stood (FailsFirst failure ended none gives) = not_some (facts_at (with_event T line event) b.call) f (facts Ended ended) is
     stood (ReadsFirst reading none gives) =
         let first : Some (get.fresh b.call b.page b.origin options) ≡ Some f = sym (facts Reading reading) ∙ is in
         let same : get.fresh b.call b.page b.origin options ≡ f = cc in
+        let g = begun_now T line event b starts page o reading effects in
         subst (Stood (with_event T line event) b.call) same
         (record {
-          pending = ap (λ x. unwrap_or x (last_value nat_eq call_change b.call T.rows))
-              (ap (last_said nat_eq call_change b.call) effects
-              ∙ ap (λ x. option_or x (says nat_eq b.call (Some (b.call, Some (pending_from b)))))
-              (outcome_pending (world_at T) (cookies_with T) (kind_asked b.options) b.call b.page b.call o
-              ∙ ap (λ st. last_said nat_eq call_change b.call (moves (kind_asked b.options) b.call st)) reading)
-              ∙ ap (λ t. cond t (Some (Some (pending_from b))) None) (own b.call))
-              ∙ ap (λ kind. let v : PendingCall = record { page = b.page; kind = kind } in Some v) kind_is;
-          page = ap (λ x. unwrap_or x (page_at T b.page)) (pages_left T event b.page (starts.leaves_pages b.page)) ∙ page;
-          is_taken = list_any-append (nat_eq b.call) (begun T.rows) (filter_map begun_by (effects_of T event))
-              ∙ ap (λ es. list_any (nat_eq b.call) (begun T.rows) || list_any (nat_eq b.call) (filter_map begun_by es)) effects
-              ∙ ap (λ t. list_any (nat_eq b.call) (begun T.rows) || (t || list_any (nat_eq b.call) (filter_map begun_by does))) (own b.call)
-              ∙ or_true (list_any (nat_eq b.call) (begun T.rows));
+          pending = g.pending ∙ ap (λ kind. let v : PendingCall = record { page = b.page; kind = kind } in Some v) kind_is;
+          page = g.page;
+          is_taken = g.is_taken;
           begun = b;
-          began = ap (λ x. option_or x (call_at T.rows b.call)) begins_b;
+          began = g.began;
+          of_call = refl;
           of_page = refl;
           of_origin = refl;
           get = options;
           is_get = is_get;
           of_options = refl;
           one = one;
-          undisturbed = record {
-            since = [];
-            beginning = row_of T line event;
-            before = T.rows;
-            rows_are = refl;
-            begins_it = record { before = []; after = does; all = effects };
-            is_it = refl;
-            stands = refl;
-          };
+          undisturbed = g.undisturbed;
           asks = inl (asks_same T line event b.call asks ∙ h.unbegun new);
           asked_for = λ at. absurd (cc);
         })
@@ -146,7 +157,7 @@ when_begun T line event b h starts page one o turn effects new = invariant_by T 
         → facts_at (with_event T line event) b.call ≡ Some f → Stood (with_event T line event) b.call f
     stood (ToGet options) is one f known = when_get T line event b options is h starts page one o turn effects new f known
     stood (ToDisconnect options) is one f known =
-        no_facts (facts_at (with_event T line event) b.call) f (when_disconnect T line event b options is o turn effects) known
+        not_some (facts_at (with_event T line event) b.call) f (when_disconnect T line event b options is o turn effects) known
 
 pub when_started : (T : Trace) (line : ℕ) (event : Event) (call : ℕ) → IsNew T.rows event → Invariant T call → Starts T event call
     → Invariant (with_event T line event) call

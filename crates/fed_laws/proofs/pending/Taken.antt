@@ -1,33 +1,48 @@
 -- What a call that stands asks for and gives at an input, and how it goes on.
-use Rattle.std.proofs.Common.{◌≡◌, ℕ, false, nat_eq, ◌⊎◌, inl, inr, List, Option, Some, None, map, refl, sym, ap, subst, ◌∙◌}
-use Rattle.std.specs.Prelude.{unwrap_or, option_and_then}
+use Rattle.std.proofs.Common.{◌≡◌, ℕ, false, nat_eq, ◌⊎◌, inl, inr, List, [], ◌∷◌, Option, Some, None, map, refl, sym}
+use Rattle.std.proofs.Common.{ap, subst, ◌∙◌}
+use Rattle.std.specs.Prelude.{unwrap_or, option_and_then, Result as Answer, Ok, Err}
 use Rattle.std.specs.List.{filter_map}
 use Rattle.fed_origin.specs.declared.options.ProviderOptions.{ProviderOptions}
 use Rattle.fed_origin.specs.declared.stage.ReplyKind.{ReplyKind}
 use Rattle.fed_origin.specs.declared.stage.Stage.{Stage}
 use Rattle.fed_origin.specs.declared.stage.Stage.TheVariants.{Reading, Listing, Mismatch, Choosing, Prompting, Asserting, Ended}
+use Rattle.fed_origin.specs.Origin.{origin_text}
+use Rattle.fed_origin.specs.WebUrl.{origin_of}
+use Rattle.fed_token.specs.declared.step.TokenStep.{TokenStep}
+use Rattle.fed_token.specs.Read.{AssertionOf}
+use Rattle.fed_consent.specs.declared.table.finish.Finish.TheVariants.{Token}
+use Rattle.fed_consent.specs.declared.table.why.Why.{Why}
+use Rattle.fed_consent.specs.declared.table.why.Why.TheVariants.{NotOffered, NotWaited}
 use Rattle.fed_status.specs.Shared.{World}
+use Rattle.fed_consent.specs.declared.table.ask.Ask.{Ask}
+use Rattle.fed_consent.specs.declared.table.ask.Ask.TheVariants as asks
 use Rattle.fed_consent.specs.declared.table.input.Input.{Input}
-use Rattle.fed_call.specs.AssertingRows.{asserting_reply, assertion_reply}
+use Rattle.fed_consent.specs.Consent.{AssertionFields, assertion_fields, chosen}
+use Rattle.fed_origin.specs.declared.status.LoginStatus.TheVariants.{LoggedIn}
+use Rattle.fed_call.specs.AssertingRows.{asserting_reply, assertion_reply, by_token}
 use Rattle.fed_call.specs.DialogRows.{chose, went_on, cancelled}
-use Rattle.fed_call.specs.Facts.{Facts, at_stage, provider_at}
-use Rattle.fed_consent.specs.Outcomes.{Outcome}
+use Rattle.fed_call.specs.Facts.{Facts, at_stage, by_account, provider_at, with_choice, with_input, with_list, with_listing}
+use Rattle.fed_consent.specs.Outcomes.{Outcome, ignored}
 use Rattle.fed_call.specs.Row.{input_row, stage_reply}
 use Rattle.fed_script.specs.declared.event.Event.{Event}
 use Rattle.fed_origin.specs.declared.stage.ReplyKind.TheVariants as kinds
 use Rattle.fed_consent.specs.declared.table.input.Input.TheVariants as inputs
 use Rattle.fed_script.specs.declared.event.Event.TheVariants as events
-use Rattle.fed_trace.specs.OfCall.{asked, given, replaces}
-use Rattle.fed_trace.specs.Begun.{GetCall}
-use Rattle.fed_trace.specs.Call.{OfGet, get_facts}
-use Rattle.fed_trace.specs.Effect.{call_change}
+use Rattle.fed_trace.specs.OfCall.{Has, asked, given, replaces}
+use Rattle.fed_trace.specs.Begun.{CallKind, GetCall}
+use Rattle.fed_trace.specs.Call.{Known, OfGet, OfDisconnect, get_facts}
+use Rattle.fed_trace.specs.Effect.{Login, Move, Sent, call_change}
 use Rattle.fed_trace.specs.Keyed.{last_said}
-use Rattle.fed_trace.specs.Row.{effects_of, cookies_with, moves}
+use Rattle.fed_trace.specs.Row.{effects_of, cookies_with, moves, outcome_effects}
 use Rattle.fed_trace.specs.Trace.{Trace}
 use Rattle.fed_trace.proofs.happens.Ends.{event_for}
 use Rattle.fed_trace.proofs.known.Stages.{Goes, goes_or_ends}
 use Rattle.fed_trace.proofs.happens.Says.{outcome_asks, outcome_gives, asks_token, finish_of}
-use Rattle.fed_laws.proofs.pending.Stood.{no_facts}
+use Rattle.fed_laws.proofs.pending.Stood.{not_some}
+use Rattle.fed_laws.proofs.turns.Config.{told}
+use Rattle.fed_laws.proofs.turns.Turn.{AsksToken, Requests, ByItself, AfterLogin, Reason, Chose, WentOn, Suffices, gives_token}
+use Rattle.fed_laws.proofs.turns.Turn.{requests_taken}
 use Rattle.fed_trace.proofs.happens.Taken.{Meets, does_at, outcome_of, facts_of_get}
 use Rattle.fed_trace.specs.Known.{world_at}
 
@@ -71,50 +86,96 @@ pub after_by : (stage : Stage) (w f : Facts) → at_stage stage w ≡ Some f →
 after_by stage w f h = go (goes_or_ends stage)
   where
     go : (stage ≡ Ended) ⊎ Goes stage → After w f stage
-    go (inl ended) = no_facts (at_stage stage w) f (ap (λ st. at_stage st w) ended) h
+    go (inl ended) = not_some (at_stage stage w) f (ap (λ st. at_stage st w) ended) h
     go (inr going) =
         let whole : Some (record w { stage = stage }) ≡ Some f = sym (get_stays stage w going) ∙ h in
         let is : record w { stage = stage } ≡ f = cc in
         record { is = sym is; going = going }
 
+-- no call goes on at its end
+ended_goes : {A : Type 0} (k : Known) → Goes Ended → A
+ended_goes (OfGet f) going = let no : None ≡ Some (OfGet (record f { stage = Ended })) = going.kept (OfGet f) in absurd (cc)
+ended_goes (OfDisconnect f) going =
+    let no : None ≡ Some (OfDisconnect (record f { stage = Ended })) = going.kept (OfDisconnect f) in absurd (cc)
+
 -- a call that goes on stays pending
-pub still_pending : (call : ℕ) (w : Facts) (now : Stage) (moved : Option Stage) → Goes (unwrap_or moved now)
-    → last_said nat_eq call_change call (moves GetCall call moved) ≡ None
-still_pending call w now None going = refl
-still_pending call w now (Some Reading) going = refl
-still_pending call w now (Some Listing) going = refl
-still_pending call w now (Some Mismatch) going = refl
-still_pending call w now (Some Choosing) going = refl
-still_pending call w now (Some Prompting) going = refl
-still_pending call w now (Some Asserting) going = refl
-still_pending call w now (Some Ended) going = let no : None ≡ Some (record w { stage = Ended }) = get_stays Ended w going in absurd (cc)
+pub still_pending : (kind : CallKind) (call : ℕ) (k : Known) (now : Stage) (moved : Option Stage) → Goes (unwrap_or moved now)
+    → last_said nat_eq call_change call (moves kind call moved) ≡ None
+still_pending kind call k now None going = refl
+still_pending kind call k now (Some Reading) going = refl
+still_pending kind call k now (Some Listing) going = refl
+still_pending kind call k now (Some Mismatch) going = refl
+still_pending kind call k now (Some Choosing) going = refl
+still_pending kind call k now (Some Prompting) going = refl
+still_pending kind call k now (Some Asserting) going = refl
+still_pending kind call k now (Some Ended) going = ended_goes k going
 
--- a call that asked for a token stays, or ends
-abbrev pub StaysOrEnds : Outcome → Type 0
-StaysOrEnds o = (o.stage ≡ None) ⊎ (o.stage ≡ Some Ended)
+-- a call that asked for a token takes nothing, or ends
+abbrev pub IgnoresOrEnds : Outcome → Type 0
+IgnoresOrEnds o = ((why : Why) × (o ≡ ignored why)) ⊎ (o.stage ≡ Some Ended)
 
-assertion_stays : (f : Facts) (place : ℕ) (provider : Option ProviderOptions) (raw : List ℕ)
-    → StaysOrEnds (assertion_reply f place provider raw)
-assertion_stays f place None raw = inl refl
-assertion_stays f place (Some provider) raw = inr refl
+token_ends : (f : Facts) (place : ℕ) (provider : ProviderOptions) (read : Answer (List ℕ) TokenStep)
+    → (by_token f place provider read).stage ≡ Some Ended
+token_ends f place provider (Ok token) =
+    let g = gives_token f.origin (origin_of provider.config) f.picked f.auto (Token f.auto place token) in g.stage
+token_ends f place provider (Err step) = refl
 
-asserting_stays : (f : Facts) (place : ℕ) (provider : Option ProviderOptions) (kind : ReplyKind) (raw : List ℕ)
-    → StaysOrEnds (asserting_reply f place provider kind raw)
-asserting_stays f place provider kinds.Assertion raw = assertion_stays f place provider raw
-asserting_stays f place provider kinds.WellKnown raw = inl refl
-asserting_stays f place provider kinds.Config raw = inl refl
-asserting_stays f place provider kinds.Accounts raw = inl refl
-asserting_stays f place provider kinds.Metadata raw = inl refl
-asserting_stays f place provider kinds.Disconnect raw = inl refl
+assertion_ends : (f : Facts) (place : ℕ) (provider : Option ProviderOptions) (raw : List ℕ)
+    → IgnoresOrEnds (assertion_reply f place provider raw)
+assertion_ends f place None raw = inl (NotWaited, refl)
+assertion_ends f place (Some provider) raw = inr (token_ends f place provider (AssertionOf raw (origin_text f.origin)))
 
-pub stays_asserting : (world : World) (f : Facts) (input : Input) → f.stage ≡ Asserting → StaysOrEnds (input_row world f input)
-stays_asserting world f (inputs.Reply place kind raw) at =
-    subst (λ st. StaysOrEnds (stage_reply world f st place kind raw)) (sym at)
-    (asserting_stays f place (provider_at place f.options) kind raw)
-stays_asserting world f (inputs.Choose place id) at = subst (λ st. StaysOrEnds (chose world f st place id)) (sym at) (inl refl)
-stays_asserting world f inputs.GoOn at = subst (λ st. StaysOrEnds (went_on f st)) (sym at) (inl refl)
-stays_asserting world f inputs.Cancel at = subst (λ st. StaysOrEnds (cancelled st)) (sym at) (inl refl)
-stays_asserting world f inputs.Abort at = inr refl
-stays_asserting world f inputs.SignIn at = inl refl
-stays_asserting world f inputs.Shut at = inl refl
-stays_asserting world f inputs.Resume at = inl refl
+asserting_ends : (f : Facts) (place : ℕ) (provider : Option ProviderOptions) (kind : ReplyKind) (raw : List ℕ)
+    → IgnoresOrEnds (asserting_reply f place provider kind raw)
+asserting_ends f place provider kinds.Assertion raw = assertion_ends f place provider raw
+asserting_ends f place provider kinds.WellKnown raw = inl (NotWaited, refl)
+asserting_ends f place provider kinds.Config raw = inl (NotWaited, refl)
+asserting_ends f place provider kinds.Accounts raw = inl (NotWaited, refl)
+asserting_ends f place provider kinds.Metadata raw = inl (NotWaited, refl)
+asserting_ends f place provider kinds.Disconnect raw = inl (NotWaited, refl)
+
+pub ends_asserting : (world : World) (f : Facts) (input : Input) → f.stage ≡ Asserting → IgnoresOrEnds (input_row world f input)
+ends_asserting world f (inputs.Reply place kind raw) at =
+    subst (λ st. IgnoresOrEnds (stage_reply world f st place kind raw)) (sym at)
+    (asserting_ends f place (provider_at place f.options) kind raw)
+ends_asserting world f (inputs.Choose place id) at =
+    subst (λ st. IgnoresOrEnds (chose world f st place id)) (sym at) (inl (NotOffered, refl))
+ends_asserting world f inputs.GoOn at = subst (λ st. IgnoresOrEnds (went_on f st)) (sym at) (inl (NotOffered, refl))
+ends_asserting world f inputs.Cancel at = subst (λ st. IgnoresOrEnds (cancelled st)) (sym at) (inl (NotOffered, refl))
+ends_asserting world f inputs.Abort at = inr refl
+ends_asserting world f inputs.SignIn at = inl (NotOffered, refl)
+ends_asserting world f inputs.Shut at = inl (NotOffered, refl)
+ends_asserting world f inputs.Resume at = inl (NotOffered, refl)
+
+-- ---- a request for a token
+
+-- the row sends it
+pub requests_sends : (world : World) (cookies : Ask → List ℕ) (call page : ℕ) (o : Outcome) (place : ℕ) (ask : AssertionFields)
+    → Requests o place ask
+    → Has (outcome_effects world cookies GetCall call page o)
+    (Sent GetCall call place (asks.Assertion ask) (cookies (asks.Assertion ask)))
+requests_sends world cookies call page o place ask (ByItself is) =
+    record { before = []; after = Move GetCall call Asserting ∷ []; all = ap (outcome_effects world cookies GetCall call page) is }
+requests_sends world cookies call page o place ask (AfterLogin origin is) =
+    record {
+      before = Login origin LoggedIn ∷ [];
+      after = Move GetCall call Asserting ∷ [];
+      all = ap (outcome_effects world cookies GetCall call page) is;
+    }
+
+-- it is for the account that is picked from then on
+pub picks_asked : (world : World) (f : Facts) (input : Input) (o : Outcome) → (a : AsksToken world f input o)
+    → (told world f input o).picked ≡ Some a.candidate
+picks_asked world f input o a =
+    ap (λ b. (with_input world b input f).picked)
+    (requests_taken o a.place (assertion_fields a.agreed a.config.assertion f.origin a.provider) a.is) ∙ go a.reason
+  where
+    go : Reason world f input a.candidate a.provider → (with_input world false input f).picked ≡ Some a.candidate
+    go (Chose place id listed at is_choice has lists is connected) =
+        ap (λ i. (with_input world false i f).picked) is_choice
+        ∙ ap (λ l. (with_choice (option_and_then (chosen id) l) f).picked) lists ∙ ap (λ x. (with_choice x f).picked) is
+    go (WentOn at is_going has ready picks) = ap (λ i. (with_input world false i f).picked) is_going ∙ picks
+    go (Suffices place raw accounts pick at is_reply has reads named same) =
+        ap (λ i. (with_input world false i f).picked) is_reply ∙ ap (λ p. (with_listing world raw place p f).picked) has
+        ∙ ap (λ r. (with_list world place a.provider r f).picked) reads
+        ∙ ap (λ p. (by_account world a.provider accounts p f).picked) named ∙ ap Some same

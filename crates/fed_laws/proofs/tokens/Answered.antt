@@ -1,17 +1,20 @@
 -- A token that a reply holds reaches the page that awaits it.
-use Rattle.fed_call.specs.AssertingRows.{asserting_reply, assertion_reply, token_given}
+use Rattle.fed_call.specs.AssertingRows.{asserting_reply, assertion_reply, by_token, clears, keeps, token_refused}
 use Rattle.fed_call.specs.DialogRows.{chose, went_on, cancelled}
 use Rattle.fed_consent.specs.Outcomes as outcomes
 use Rattle.fed_call.specs.Facts.{Facts, at_stage, provider_at, with_input}
 use Rattle.fed_consent.specs.Outcomes.{Outcome, finishes}
 use Rattle.fed_call.specs.Row.{input_row, stage_reply}
-use Rattle.fed_consent.specs.Consent.{AssertionFields, assertion_fields}
+use Rattle.fed_consent.specs.Consent.{AssertionFields, Candidate, assertion_fields}
+use Rattle.fed_consent.specs.declared.table.ask.Ask.{Ask}
 use Rattle.fed_consent.specs.declared.table.ask.Ask.TheVariants as asks
 use Rattle.fed_consent.specs.declared.table.finish.Finish.TheVariants.{Token}
 use Rattle.fed_consent.specs.declared.table.finish.Finish.{Finish}
 use Rattle.fed_consent.specs.declared.table.input.Input.TheVariants as inputs
 use Rattle.fed_consent.specs.declared.table.input.Input.{Input}
 use Rattle.fed_origin.specs.Origin.{origin_text}
+use Rattle.fed_origin.specs.WebUrl.{origin_of}
+use Rattle.fed_status.specs.Kept.{triple_of}
 use Rattle.fed_origin.specs.declared.options.ProviderOptions.{ProviderOptions}
 use Rattle.fed_origin.specs.declared.origin.Origin.{Origin}
 use Rattle.fed_origin.specs.declared.stage.ReplyKind.TheVariants as kinds
@@ -27,31 +30,32 @@ use Rattle.fed_trace.proofs.happens.Ends.{Happens, Left, Ends, Started, Took, En
 use Rattle.fed_trace.proofs.known.Facts.{get_page, same_origin_of}
 use Rattle.fed_trace.proofs.happens.Happens.{happens}
 use Rattle.fed_trace.proofs.keyed.Keyed.{IsAbsent, AreDistinct, distinct_standing, lookup-standing}
-use Rattle.fed_trace.proofs.happens.Says.{own, outcome_asks, asks_token, finish_of}
+use Rattle.fed_trace.proofs.happens.Says.{own, outcome_asks, finish_of}
 use Rattle.fed_trace.proofs.happens.Gets.{facts_same, others_ask}
 use Rattle.fed_trace.proofs.calls.Pending.{is_among}
 use Rattle.fed_laws.proofs.pending.Stood.{Invariant, Stood, get_at}
 use Rattle.fed_trace.proofs.happens.Taken.{Meets, is_get, facts_taken, outcome_of}
 use Rattle.fed_laws.proofs.pending.Taken.{asks_at, gives_at}
 use Rattle.fed_laws.proofs.tokens.Token.{row_of_trace, says_none, says_one}
-use Rattle.fed_laws.proofs.turns.Turn.{Turn, Asks, Gives, Goes, turn_at}
+use Rattle.fed_laws.proofs.turns.Turn.{Turn, Asks, Gives, Goes, gives_token, requests_asks, requests_stage, turn_at}
 use Rattle.fed_trace.specs.Begun.{Begun, CallKind, GetCall, kind_asked}
 use Rattle.fed_trace.specs.Call.{OfGet, first_row}
 use Rattle.fed_trace.specs.OfCall.{Has, asked, call_at, disturbs, given, is_result, replaces}
-use Rattle.fed_trace.specs.Effect.{Effect, PendingCall, Move, Result, Sent, call_change}
+use Rattle.fed_trace.specs.Effect.{Effect, PendingCall, Flag, Kept, Move, Result, Sent, call_change}
 use Rattle.fed_trace.specs.Known.{world_at, is_begun, known_at, facts_at}
 use Rattle.fed_laws.specs.Laws.{IsAnswered, OfRuns, at}
 use Rattle.fed_trace.specs.Row.{effects_of, row_of, with_event, cookies_with, outcome_effects, input_effects, IsNew, IsRun}
 use Rattle.fed_trace.specs.Trace.{Row, Trace, by_kind, calls_of, pending}
 use Rattle.fed_status.specs.Shared.{World}
 use Rattle.fed_token.specs.Read.{AssertionOf}
+use Rattle.fed_token.specs.declared.step.TokenStep.{TokenStep}
 use Rattle.std.proofs.Common.{◌≡◌, ℕ, Bool, true, false, nat_eq, ◌==◌, ◌||◌, ◌⊎◌, inl, inr, List, [], ◌∷◌}
 use Rattle.std.proofs.Common.{◌++◌, length, Option, Some, None}
-use Rattle.std.proofs.Common.{Ok, map, refl, sym, ap, subst, ◌∙◌, arith, cond}
+use Rattle.std.proofs.Common.{Result as Answer, Ok, Err, map, refl, sym, ap, subst, ◌∙◌, arith, cond}
 use Rattle.std.proofs.lemmas.Bool.Decides.{nat_tests}
 use Rattle.std.specs.List.{filter_map, cons_option, list_any}
 use Rattle.std.specs.Map.{lookup}
-use Rattle.std.specs.Prelude.{filter, slice_get, unwrap_or, is_some}
+use Rattle.std.specs.Prelude.{filter, unwrap_or, is_some}
 use Rattle.fed_laws.proofs.turns.Only.{first_place, only_there}
 
 -- ---- a call that ends with its page is of that page
@@ -106,10 +110,18 @@ record Awaits (T : Trace) (call page : ℕ) (origin : Origin) : Type 0 where
 abbrev StaysOrGives : Outcome → Type 0
 StaysOrGives o = (o.stage ≡ None) ⊎ ((finish : Finish) × (filter_map finish_of o.effects ≡ finish ∷ []))
 
+token_gives : (f : Facts) (place : ℕ) (provider : ProviderOptions) (read : Answer (List ℕ) TokenStep)
+    → StaysOrGives (by_token f place provider read)
+token_gives f place provider (Ok token) =
+    let finish = Token f.auto place token in
+    let g = gives_token f.origin (origin_of provider.config) f.picked f.auto finish in
+    inr (finish, g.gives)
+token_gives f place provider (Err step) = inr (token_refused step, refl)
+
 assertion_gives : (f : Facts) (place : ℕ) (provider : Option ProviderOptions) (raw : List ℕ)
     → StaysOrGives (assertion_reply f place provider raw)
 assertion_gives f place None raw = inl refl
-assertion_gives f place (Some provider) raw = inr (token_given f.auto place (AssertionOf raw (origin_text f.origin)), refl)
+assertion_gives f place (Some provider) raw = token_gives f place provider (AssertionOf raw (origin_text f.origin))
 
 asserting_gives : (f : Facts) (place : ℕ) (provider : Option ProviderOptions) (kind : ReplyKind) (raw : List ℕ)
     → StaysOrGives (asserting_reply f place provider kind raw)
@@ -237,10 +249,10 @@ awaits_first T line event kind call provider ask cookies b new h began has = go 
     never : filter_map (asked call) (effects_of T event) ≡ [] → (provider ≡ 0) × Awaits (with_event T line event) call b.page b.origin
     never none = says_none (asked call) (effects_of T event) sent (provider, ask) has is none
 
-    turned : (f : Facts) → (m : Meets T event call f) → Turn f m.takes.input (outcome_of T f m.takes.input)
+    turned : (f : Facts) → (m : Meets T event call f) → Turn (world_at T) f m.takes.input (outcome_of T f m.takes.input)
         → (provider ≡ 0) × Awaits (with_event T line event) call b.page b.origin
     turned f m (Gives finish ended none gives token) = never (asks_at T event call f m ∙ none)
-    turned f m (Goes none gives back) = never (asks_at T event call f m ∙ none)
+    turned f m (Goes none gives leaves back) = never (asks_at T event call f m ∙ none)
     turned f m (Asks a) =
         let s = h.stood f m.found in
         let same : Some s.begun ≡ Some b = sym s.began ∙ began in
@@ -250,9 +262,10 @@ awaits_first T line event kind call provider ask cookies b new h began has = go 
         first_place f.options.providers a.place a.provider (ap (λ o. length o.providers) s.of_options ∙ s.one) a.has_provider in
         let both : ◌≡◌ {A = ℕ × AssertionFields} (provider, ask) (a.place, made) =
         says_one (asked call) (effects_of T event) sent (provider, ask) (a.place, made) has is
-        (asks_at T event call f m ∙ ap (λ o. filter_map asks_token o.effects) a.is) in (
+        (asks_at T event call f m ∙ requests_asks (outcome_of T f m.takes.input) a.place made a.is) in (
           ap (λ x. x.0) both ∙ place_is,
-          awaits_by T line event call b.page b.origin f m (ap (λ o. unwrap_or o.stage f.stage) a.is) (s.of_page
+          awaits_by T line event call b.page b.origin f m
+              (ap (λ st. unwrap_or st f.stage) (requests_stage (outcome_of T f m.takes.input) a.place made a.is)) (s.of_page
               ∙ ap (λ x. x.page) begun_is) (s.of_origin ∙ ap (λ x. x.origin) begun_is),
         )
 
@@ -307,10 +320,31 @@ awaits_since header (row ∷ since) before asking kind call provider ask cookies
 -- what a call does that awaits the token of this reply
 answer_row : (world : World) (f : Facts) (raw token : List ℕ) (p : ProviderOptions) → f.stage ≡ Asserting → provider_at 0 f.options ≡ Some p
     → AssertionOf raw (origin_text f.origin) ≡ Ok token
-    → input_row world f (inputs.Reply 0 kinds.Assertion raw) ≡ finishes (Token f.auto 0 token)
+    → input_row world f (inputs.Reply 0 kinds.Assertion raw) ≡ by_token f 0 p (Ok token)
 answer_row world f raw token p at has reads =
-    ap (λ st. stage_reply world f st 0 kinds.Assertion raw) at ∙ ap (λ o. assertion_reply f 0 o raw) has
-    ∙ ap (λ r. finishes (token_given f.auto 0 r)) reads
+    ap (λ st. stage_reply world f st 0 kinds.Assertion raw) at ∙ ap (λ o. assertion_reply f 0 o raw) has ∙ ap (by_token f 0 p) reads
+
+-- the result is among the effects, after the permission and the flag
+pub gives_result : (world : World) (cookies : Ask → List ℕ) (call page : ℕ) (origin provider : Origin) (picked : Option Candidate)
+    (auto : Bool) (finish : Finish)
+    → Has (outcome_effects world cookies GetCall call page (keeps origin provider picked (clears auto origin (finishes finish))))
+    (Result call page finish)
+gives_result world cookies call page origin provider None true finish =
+    record { before = []; after = Move GetCall call Ended ∷ []; all = refl }
+gives_result world cookies call page origin provider None false finish =
+    record { before = Flag origin false ∷ []; after = Move GetCall call Ended ∷ []; all = refl }
+gives_result world cookies call page origin provider (Some candidate) true finish =
+    record {
+      before = Kept (triple_of origin provider candidate.account.id) true ∷ [];
+      after = Move GetCall call Ended ∷ [];
+      all = refl;
+    }
+gives_result world cookies call page origin provider (Some candidate) false finish =
+    record {
+      before = Kept (triple_of origin provider candidate.account.id) true ∷ Flag origin false ∷ [];
+      after = Move GetCall call Ended ∷ [];
+      all = refl;
+    }
 
 answered : (T : Trace) (event : Event) (call provider page : ℕ) (origin : Origin) (raw token : List ℕ) → Invariant T call
     → Awaits T call page origin → provider ≡ 0
@@ -322,19 +356,18 @@ answered T event call provider page origin raw token h a first is reads =
     let only = only_there f.options.providers (ap (λ o. length o.providers) s.of_options ∙ s.one) in
     let comes : event ≡ Reply call 0 kinds.Assertion raw = is ∙ ap (λ p. Reply call p kinds.Assertion raw) first in
     let known : known_at T call ≡ Some (OfGet f) = is_get (known_at T call) f a.found in
-    let does : effects_of T event ≡ Result call f.page (Token f.auto 0 token) ∷ Move GetCall call Ended ∷ [] =
+    let does : effects_of T event ≡ outcome_effects (world_at T) (cookies_with T) GetCall call f.page (by_token f 0 only.0 (Ok token)) =
     ap (effects_of T) comes
     ∙ ap (λ t. input_effects (world_at T) (cookies_with T) t call (known_at T call) (inputs.Reply 0 kinds.Assertion raw)) s.is_taken
     ∙ ap (λ o. input_effects (world_at T) (cookies_with T) true call o (inputs.Reply 0 kinds.Assertion raw)) known
     ∙ ap (outcome_effects (world_at T) (cookies_with T) GetCall call f.page)
-    (answer_row (world_at T) f raw token only.0 a.at only.1 (ap (λ o. AssertionOf raw (origin_text o)) a.of_origin ∙ reads)) in (
+    (answer_row (world_at T) f raw token only.0 a.at only.1 (ap (λ o. AssertionOf raw (origin_text o)) a.of_origin ∙ reads)) in
+    let result : Has (effects_of T event) (Result call f.page (Token f.auto 0 token)) =
+    subst (λ es. Has es (Result call f.page (Token f.auto 0 token))) (sym does)
+    (gives_result (world_at T) (cookies_with T) call f.page f.origin (origin_of only.0.config) f.picked f.auto (Token f.auto 0 token)) in (
       f.auto,
-      record {
-        before = [];
-        after = Move GetCall call Ended ∷ [];
-        all = does ∙ ap (λ p. Result call p (Token f.auto 0 token) ∷ Move GetCall call Ended ∷ []) a.of_page
-            ∙ ap (λ p. Result call page (Token f.auto p token) ∷ Move GetCall call Ended ∷ []) (sym first);
-      },
+      subst (λ p. Has (effects_of T event) (Result call page (Token f.auto p token))) (sym first)
+          (subst (λ p. Has (effects_of T event) (Result call p (Token f.auto 0 token))) a.of_page result),
     )
 
 pub answered_lem : OfRuns IsAnswered

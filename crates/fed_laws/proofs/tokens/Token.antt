@@ -1,16 +1,15 @@
 -- A token reaches the page whose call was answered.
-use Rattle.std.proofs.Common.{◌≡◌, ℕ, true, false, zero, suc, Bool, List, [], ◌∷◌, ◌++◌, length, Option, Some, None, map}
+use Rattle.std.proofs.Common.{◌≡◌, ℕ, true, false, Bool, List, [], ◌∷◌, ◌++◌, length, Option, Some, None, map}
 use Rattle.std.proofs.Common.{refl, sym, ap}
-use Rattle.std.proofs.Common.{subst, ◌∙◌, arith, cond}
-use Rattle.std.specs.Prelude.{slice_get}
+use Rattle.std.proofs.Common.{subst, ◌∙◌, cond}
 use Rattle.std.proofs.lemmas.List.Elements.{filter_map-append}
 use Rattle.std.specs.List.{filter_map, cons_option}
-use Rattle.fed_origin.specs.declared.options.ProviderOptions.{ProviderOptions}
 use Rattle.fed_origin.specs.declared.stage.ReplyKind.TheVariants as kinds
 use Rattle.fed_origin.specs.Origin.{origin_text}
 use Rattle.fed_token.specs.Read.{AssertionOf}
 use Rattle.fed_consent.specs.declared.table.finish.Finish.{Finish}
 use Rattle.fed_consent.specs.declared.table.finish.Finish.TheVariants.{Token, Failed}
+use Rattle.fed_consent.specs.Consent.{assertion_fields}
 use Rattle.fed_call.specs.Facts.{Facts}
 use Rattle.fed_script.specs.declared.event.Event.{Event}
 use Rattle.fed_script.specs.declared.event.Event.TheVariants as events
@@ -36,7 +35,7 @@ use Rattle.fed_laws.proofs.pending.Taken.{gives_at}
 use Rattle.fed_trace.proofs.happens.Ends.{Happens, Left, Ends, Started, Took, Starts, Takes, event_for}
 use Rattle.fed_trace.proofs.happens.Happens.{happens}
 use Rattle.fed_trace.proofs.happens.Says.{own, outcome_gives, finish_of}
-use Rattle.fed_laws.proofs.turns.Turn.{Turn, Asks, Gives, Goes, IfToken, InReply, turn_at}
+use Rattle.fed_laws.proofs.turns.Turn.{Turn, Asks, Gives, Goes, IfToken, InReply, requests_gives, turn_at}
 use Rattle.fed_laws.proofs.turns.Only.{first_place}
 
 -- ---- a row of what happened, and what happened before it
@@ -88,7 +87,7 @@ says_one said effects e x y has is one =
 delivers : (T : Trace) (event : Event) (call page provider : ℕ) (token : List ℕ) (f : Facts) → (m : Meets T event call f)
     → Stood T call f
     → page ≡ f.page
-    → InReply f m.takes.input provider token → Delivers T event call page provider token
+    → InReply f m.takes.input (outcome_of T f m.takes.input) provider token → Delivers T event call page provider token
 delivers T event call page provider token f m s is r =
     let place_is : r.place ≡ 0 =
     first_place f.options.providers r.place r.provider (ap (λ o. length o.providers) s.of_options ∙ s.one) r.has_provider in
@@ -99,7 +98,7 @@ delivers T event call page provider token f m s is r =
       undisturbed = s.undisturbed;
       is_page = is ∙ s.of_page;
       stands = ap (page_at T) is ∙ s.page ∙ ap Some s.of_origin;
-      asked = subst (Asked T.rows call) (sym (r.is_from ∙ place_is)) (s.asked_for r.asserting);
+      asked = subst (Asked T.rows call) (sym (r.is_from ∙ place_is)) (s.asked_for r.asserting).asked;
       raw = r.raw;
       is_reply = reply ∙ ap (λ place. events.Reply call place kinds.Assertion r.raw) (sym r.is_from);
       reads = ap (λ o. AssertionOf r.raw (origin_text o)) (sym s.of_origin) ∙ r.reads;
@@ -122,15 +121,19 @@ delivered T event call page provider auto token new h has = go (happens T event 
         → ◌≡◌ {A = ℕ × Finish} (page, finish) (p, other)
     same p other gives = says_one (given call) (effects_of T event) (Result call page finish) (page, finish) (p, other) has is gives
 
-    turned : (f : Facts) → (m : Meets T event call f) → Turn f m.takes.input (outcome_of T f m.takes.input)
+    turned : (f : Facts) → (m : Meets T event call f) → Turn (world_at T) f m.takes.input (outcome_of T f m.takes.input)
         → Delivers T event call page provider token
-    turned f m (Asks a) = never (gives_at T event call f m ∙ ap (λ o. map (λ x. (f.page, x)) (filter_map finish_of o.effects)) a.is)
-    turned f m (Goes asks gives back) = never (gives_at T event call f m ∙ ap (map (λ x. (f.page, x))) gives)
+    turned f m (Asks a) =
+        let ask = assertion_fields a.agreed a.config.assertion f.origin a.provider in
+        never (gives_at T event call f m
+        ∙ ap (map (λ x. (f.page, x))) (requests_gives (outcome_of T f m.takes.input) a.place ask a.is))
+    turned f m (Goes asks gives leaves back) = never (gives_at T event call f m ∙ ap (map (λ x. (f.page, x))) gives)
     turned f m (Gives other ended asks gives token_in) =
         let both = same f.page other (gives_at T event call f m ∙ ap (map (λ x. (f.page, x))) gives) in
         let page_is : page ≡ f.page = ap (λ x. x.0) both in
         let finish_is : finish ≡ other = ap (λ x. x.1) both in
-        delivers T event call page provider token f m (h.stood f m.found) page_is (subst (IfToken f m.takes.input) (sym finish_is) token_in)
+        delivers T event call page provider token f m (h.stood f m.found) page_is
+        (subst (IfToken f m.takes.input (outcome_of T f m.takes.input)) (sym finish_is) token_in)
 
     gave : (f : DisconnectFacts) → (m : Knows T event call (OfDisconnect f))
         → filter_map (given call) (effects_of T event)

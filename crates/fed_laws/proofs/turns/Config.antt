@@ -18,10 +18,10 @@ use Rattle.fed_accounts.specs.declared.step.AccountsStep.{AccountsStep}
 use Rattle.fed_status.specs.Shared.{World}
 use Rattle.fed_consent.specs.declared.table.input.Input.{Input}
 use Rattle.fed_consent.specs.declared.table.input.Input.TheVariants as inputs
-use Rattle.fed_consent.specs.Consent.{Candidate, chosen}
+use Rattle.fed_consent.specs.Consent.{Candidate, Pick, chosen}
 use Rattle.fed_call.specs.Accounts.{accounts_of}
 use Rattle.fed_call.specs.DialogRows.{chose, went_on, cancelled}
-use Rattle.fed_call.specs.Facts.{Facts, provider_at, with_accounts, with_choice, with_input, with_list, with_listing}
+use Rattle.fed_call.specs.Facts.{Facts, by_account, provider_at, reselected, with_choice, with_input, with_list, with_listing, with_offer}
 use Rattle.fed_provider.specs.FirstReplies.{config_read, wellknown_of}
 use Rattle.fed_consent.specs.Outcomes.{Outcome, is_ignored}
 use Rattle.fed_call.specs.ReadingRows.{config_reply, wellknown_reply}
@@ -31,21 +31,27 @@ use Rattle.fed_laws.proofs.turns.Only.{first_place}
 
 -- ---- what an input says of the configuration
 
-accounts_config : (world : World) (provider : ProviderOptions) (accounts : List Account) (f : Facts)
-    → (with_accounts world provider accounts f).config ≡ f.config
-accounts_config world provider [] f = refl
-accounts_config world provider (only ∷ []) f = refl
-accounts_config world provider (first ∷ second ∷ more) f = refl
+offer_config : (world : World) (provider : ProviderOptions) (accounts : List Account) (f : Facts)
+    → (with_offer world provider accounts f).config ≡ f.config
+offer_config world provider [] f = refl
+offer_config world provider (only ∷ []) f = refl
+offer_config world provider (first ∷ second ∷ more) f = refl
 
-list_config : (world : World) (provider : ProviderOptions) (read : Answer (List Account) AccountsStep) (f : Facts)
-    → (with_list world provider read f).config ≡ f.config
-list_config world provider (Err step) f = refl
-list_config world provider (Ok accounts) f = accounts_config world provider accounts f
+account_config : (world : World) (provider : ProviderOptions) (accounts : List Account) (pick : Option Pick) (f : Facts)
+    → (by_account world provider accounts pick f).config ≡ f.config
+account_config world provider accounts None f = offer_config world provider accounts f
+account_config world provider accounts (Some pick) f = refl
 
-listing_config : (world : World) (raw : List ℕ) (provider : Option ProviderOptions) (f : Facts)
-    → (with_listing world raw provider f).config ≡ f.config
-listing_config world raw None f = refl
-listing_config world raw (Some provider) f = list_config world provider (accounts_of raw provider) f
+list_config : (world : World) (place : ℕ) (provider : ProviderOptions) (read : Answer (List Account) AccountsStep) (f : Facts)
+    → (with_list world place provider read f).config ≡ f.config
+list_config world place provider (Err step) f = refl
+list_config world place provider (Ok accounts) f =
+    account_config world provider accounts (reselected world f place provider accounts) f
+
+listing_config : (world : World) (raw : List ℕ) (place : ℕ) (provider : Option ProviderOptions) (f : Facts)
+    → (with_listing world raw place provider f).config ≡ f.config
+listing_config world raw place None f = refl
+listing_config world raw place (Some provider) f = list_config world place provider (accounts_of raw provider) f
 
 choice_config : (candidate : Option Candidate) (f : Facts) → (with_choice candidate f).config ≡ f.config
 choice_config None f = refl
@@ -62,7 +68,7 @@ config_kept : (world : World) (ignored : Bool) (input : Input) (f : Facts) → b
 config_kept world true input f none = refl
 config_kept world false (inputs.Reply place kinds.WellKnown raw) f none = refl
 config_kept world false (inputs.Reply place kinds.Config raw) f none = absurd (cc)
-config_kept world false (inputs.Reply place kinds.Accounts raw) f none = listing_config world raw (provider_at place f.options) f
+config_kept world false (inputs.Reply place kinds.Accounts raw) f none = listing_config world raw place (provider_at place f.options) f
 config_kept world false (inputs.Reply place kinds.Metadata raw) f none = refl
 config_kept world false (inputs.Reply place kinds.Assertion raw) f none = refl
 config_kept world false (inputs.Reply place kinds.Disconnect raw) f none = refl
@@ -175,7 +181,7 @@ config_told world false (inputs.Reply place kinds.Config raw) f taken one has is
     (sym (first_place f.options.providers place has.0 one has.1)) refl
 config_told world false (inputs.Reply place kinds.WellKnown raw) f taken one has is = is
 config_told world false (inputs.Reply place kinds.Accounts raw) f taken one has is =
-    listing_config world raw (provider_at place f.options) f ∙ is
+    listing_config world raw place (provider_at place f.options) f ∙ is
 config_told world false (inputs.Reply place kinds.Metadata raw) f taken one has is = is
 config_told world false (inputs.Reply place kinds.Assertion raw) f taken one has is = is
 config_told world false (inputs.Reply place kinds.Disconnect raw) f taken one has is = is

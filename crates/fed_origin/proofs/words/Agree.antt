@@ -4,12 +4,15 @@ use Rattle.std.proofs.lemmas.Slice.Eq.{bytes_eq-Decides}
 use Rattle.std.specs.Prelude.{find, bytes_eq, codes}
 use Rattle.fed_origin.specs.declared.options.Context.{Context}
 use Rattle.fed_origin.specs.declared.options.Context.TheVariants.{SignIn, SignUp, UseHere, GoOn}
+use Rattle.fed_origin.specs.declared.options.Mediation.{Mediation}
+use Rattle.fed_origin.specs.declared.options.Mediation.TheVariants.{Silent, Optional, Required}
 use Rattle.fed_origin.specs.declared.stage.ReplyKind.{ReplyKind}
 use Rattle.fed_origin.specs.declared.stage.ReplyKind.TheVariants.{WellKnown, Config, Accounts, Metadata, Assertion, Disconnect}
 use Rattle.fed_origin.specs.declared.status.LoginStatus.{LoginStatus}
 use Rattle.fed_origin.specs.declared.status.LoginStatus.TheVariants.{Unknown, LoggedIn, LoggedOut}
 use Rattle.fed_origin.specs.Laws.{WordsAgree}
-use Rattle.fed_origin.specs.Words.{context_text, context_of_word, kind_text, kind_of_word, status_text, is_text, status_of_word}
+use Rattle.fed_origin.specs.Words.{mediation_text, mediation_of_word, context_text, context_of_word, kind_text, kind_of_word}
+use Rattle.fed_origin.specs.Words.{status_text, is_text, status_of_word}
 
 -- what is found passes the test
 passes : {A : Type 0} (p : A → Bool) (xs : List A) (x : A) → find p xs ≡ Some x → p x ≡ true
@@ -19,6 +22,17 @@ passes p (y ∷ ys) x found = by (p y) refl found (passes p ys x)
     by : (b : Bool) → p y ≡ b → cond b (Some y) (find p ys) ≡ Some x → (find p ys ≡ Some x → p x ≡ true) → p x ≡ true
     by true is here rest = let same : y ≡ x = cc in ap p (sym same) ∙ is
     by false is later rest = rest later
+
+mediation_word : (mediation : Mediation) → mediation_of_word (mediation_text mediation) ≡ Some mediation
+mediation_word Silent = refl
+mediation_word Optional = refl
+mediation_word Required = refl
+
+mediation_text-of_word : (mediation : Mediation) (word : List ℕ) → mediation_of_word word ≡ Some mediation
+    → word ≡ mediation_text mediation
+mediation_text-of_word mediation word read =
+    let test : Mediation → Bool = λ x. bytes_eq word (mediation_text x) in
+    (bytes_eq-Decides word (mediation_text mediation)).0 (passes test (Silent ∷ Optional ∷ Required ∷ []) mediation read)
 
 context_word : (context : Context) → context_of_word (context_text context) ≡ Some context
 context_word SignIn = refl
@@ -61,6 +75,7 @@ status_text-of_word status word read =
 
 pub words_agree : WordsAgree
 words_agree = record {
+  mediations = λ mediation word. (mediation_text-of_word mediation word, λ is. ap mediation_of_word is ∙ mediation_word mediation);
   contexts = λ context word. (context_text-of_word context word, λ is. ap context_of_word is ∙ context_word context);
   kinds = λ kind word. (kind_text-of_word kind word, λ is. ap kind_of_word is ∙ kind_word kind);
   statuses = λ status word. (status_text-of_word status word, status_word status word);

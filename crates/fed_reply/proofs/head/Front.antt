@@ -1,5 +1,5 @@
 -- The head that was read.
-use Rattle.std.proofs.Common.{◌≡◌, ℕ, ◌<◌, ◌≤◌, Bool, true, false, ◌&&◌, List, map, take, Some, None, Ok, Err, refl}
+use Rattle.std.proofs.Common.{◌≡◌, ℕ, ◌-◌, ◌<◌, ◌≤◌, Bool, true, false, ◌&&◌, List, map, take, Some, None, Ok, Err, refl}
 use Rattle.std.proofs.Common.{sym, ap, ◌∙◌, rules}
 use Rattle.std.proofs.Common.{arith, if◌then◌else◌}
 use Rattle.std.specs.Prelude.{nat_le}
@@ -18,6 +18,8 @@ use Rattle.fed_reply.specs.declared.step.ReplyStep.{ReplyStep}
 use Rattle.fed_reply.specs.declared.step.ReplyStep.TheVariants.{Head}
 use Rattle.fed_reply.specs.Fields.{Fields, fields_of, is_taken_field, taken_fields}
 use Rattle.fed_reply.specs.Reply.{is_status, taken_head, FrontOf}
+use Rattle.fed_reply.proofs.head.Named.{all_taken}
+use Rattle.fed_reply.proofs.head.Values.{within_is}
 
 pub no_head : (raw : List ℕ) → within 128 (head_of raw) ≡ None → FrontOf raw ≡ Err Head
 unfolding FrontOf
@@ -83,3 +85,12 @@ front_refused raw spans h found (Step step) is at status refuses =
     let same : taken_fields (map name_and_trimmed h.fields) ≡ Err step = ap taken_fields (sym at.fields) ∙ refuses in
     let k = refused_split (map name_and_trimmed h.fields) step _ refl same in
     front_by raw h true false is (status_taken raw spans h found at status) k.0 ∙ ap Err k.1
+
+-- by the length of the names, at their places
+pub front_short : (raw : List ℕ) (spans : List HeaderSpan) (h : HeadParts) (found : HeadSpans) (t : Bool)
+    → within 128 (head_of raw) ≡ Some h → IsHeadAt raw spans h found → (100 ≤ found.status) × (found.status < 1000)
+    → t ≡ list_all (λ s. nat_le (s.name.end - s.name.start) 65535) (take found.count spans)
+    → FrontOf raw ≡ (if t then Ok h else Err Head)
+front_short raw spans h found t is at status short =
+    front_by raw h true t is (status_taken raw spans h found at status)
+    (all_taken raw h (take found.count spans) (within_is 128 (head_of raw) h is) at.inside at.fields ∙ sym short)

@@ -15,7 +15,7 @@ use Rattle.fed_head.specs.Section.{FieldPair, name_and_trimmed}
 use Rattle.fed_reply.specs.declared.step.ReplyStep.{ReplyStep}
 use Rattle.fed_reply.specs.declared.step.ReplyStep.TheVariants.{Head}
 use Rattle.fed_reply.specs.Parts.{ReplyParts}
-use Rattle.fed_reply.specs.Fields.{Fields, fields_of, kept_field, values, is_word}
+use Rattle.fed_reply.specs.Fields.{Fields, fields_of, kept_field, values, values_in, is_word}
 use Rattle.fed_reply.specs.Body.{body_of}
 use Rattle.fed_reply.specs.Steps.{and_then, with_ok}
 use Rattle.fed_reply.specs.Reply.{FrontOf, ReplyOf, taken_head, is_taken_head, reply_with}
@@ -37,31 +37,31 @@ one_more name p m false is =
     wrong : false ≡ true → ⊥
     wrong e = absurd (grind rules)
 
--- the values of the trimmed fields of that name
-trimmed_values : List ℕ → List FieldPair → List (List ℕ)
-trimmed_values name pairs = map (λ p. p.1) (filter (λ p. is_word name p.0) pairs)
-
 values_after : (name : List ℕ) (pairs : List FieldPair) (m : Fields)
-    → values name (append_all m (map kept_field pairs)) ≡ values name m ++ trimmed_values name pairs
-unfolding trimmed_values
+    → values name (append_all m (map kept_field pairs)) ≡ values name m ++ values_in name pairs
+unfolding values_in
 values_after name [] m = sym (append-nil (values name m))
 values_after name (p ∷ ps) m =
     values_after name ps (append m (lowercase p.0) (plain_value p.1))
-    ∙ (ap (λ vs. vs ++ trimmed_values name ps) (one_more name p m (is_word name p.0) refl)
-    ∙ (append_assoc (values name m) (if is_word name p.0 then p.1 ∷ [] else []) (trimmed_values name ps)
+    ∙ (ap (λ vs. vs ++ values_in name ps) (one_more name p m (is_word name p.0) refl)
+    ∙ (append_assoc (values name m) (if is_word name p.0 then p.1 ∷ [] else []) (values_in name ps)
     ∙ ap (λ vs. values name m ++ vs) (joined (is_word name p.0))))
   where
-    joined : (t : Bool) → (if t then p.1 ∷ [] else []) ++ trimmed_values name ps
+    joined : (t : Bool) → (if t then p.1 ∷ [] else []) ++ values_in name ps
         ≡ map (λ (q : FieldPair). q.1) (if t then p ∷ filter (λ q. is_word name q.0) ps else filter (λ q. is_word name q.0) ps)
     joined true = refl
     joined false = refl
 
-trimmed_are : (name : List ℕ) (pairs : List FieldPair) → trimmed_values name (map name_and_trimmed pairs) ≡ named_values name pairs
-unfolding trimmed_values
+-- the values under a name, found among the fields
+pub values_found : (name : List ℕ) (pairs : List FieldPair) → values name (fields_of pairs) ≡ values_in name pairs
+values_found name pairs = values_after name pairs []
+
+trimmed_are : (name : List ℕ) (pairs : List FieldPair) → values_in name (map name_and_trimmed pairs) ≡ named_values name pairs
+unfolding values_in
 trimmed_are name [] = refl
 trimmed_are name (p ∷ ps) = by (is_word name p.0) (trimmed_are name ps)
   where
-    by : (t : Bool) → trimmed_values name (map name_and_trimmed ps) ≡ named_values name ps
+    by : (t : Bool) → values_in name (map name_and_trimmed ps) ≡ named_values name ps
         → map (λ (q : FieldPair). q.1) (if t then name_and_trimmed p
         ∷ filter (λ q. is_word name q.0) (map name_and_trimmed ps) else filter (λ q. is_word name q.0) (map name_and_trimmed ps))
         ≡ map (λ (q : FieldPair). trim_ows q.1) (if t then p ∷ filter (λ q. is_word name q.0) ps else filter (λ q. is_word name q.0) ps)
@@ -69,11 +69,11 @@ trimmed_are name (p ∷ ps) = by (is_word name p.0) (trimmed_are name ps)
     by false e = e
 
 pub values_are : (name : List ℕ) (pairs : List FieldPair) → values name (fields_of (map name_and_trimmed pairs)) ≡ named_values name pairs
-values_are name pairs = values_after name (map name_and_trimmed pairs) [] ∙ trimmed_are name pairs
+values_are name pairs = values_found name (map name_and_trimmed pairs) ∙ trimmed_are name pairs
 
 -- ---- of a reply
 
-within_is : (n : ℕ) (o : Option HeadParts) (h : HeadParts) → within n o ≡ Some h → o ≡ Some h
+pub within_is : (n : ℕ) (o : Option HeadParts) (h : HeadParts) → within n o ≡ Some h → o ≡ Some h
 within_is n None h e = absurd (grind rules)
 within_is n (Some g) h e = by (nat_le (length g.fields) n) e
   where

@@ -28,6 +28,13 @@ pub form_lines_written : (form : List ℕ) → form_lines form
 unfolding line form_lines
 form_lines_written form = simp append_assoc
 
-pub origin_line_written : (o : Origin) → line (codes "Origin: ") (origin_text o) ≡ codes "Origin: " ++ (origin_text o ++ codes "\r\n")
+-- the port follows the host in both cases
+origin_by_port : (o : Origin) (same : Bool) → (o.port == own_port o.scheme) ≡ same
+    → origin_text o ≡ scheme_text o.scheme ++ (codes "://" ++ host_port o.host o.port (own_port o.scheme))
+origin_by_port o true is = rw is (append_assoc (scheme_text o.scheme) (codes "://") o.host)
+origin_by_port o false is = rw is (simp append_assoc)
+
+pub origin_line_written : (o : Origin) → line (codes "Origin: ") (origin_text o) ≡ codes "Origin: "
+    ++ (scheme_text o.scheme ++ (codes "://" ++ (host_port o.host o.port (own_port o.scheme) ++ codes "\r\n")))
 unfolding line
-origin_line_written o = refl
+origin_line_written o = rw (origin_by_port o (o.port == own_port o.scheme) refl) (simp append_assoc)

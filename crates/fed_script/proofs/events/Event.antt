@@ -5,19 +5,21 @@ use Rattle.std.specs.Prelude.{option_and_then, Result, Ok, Err, IfOk, IfSome, by
 use Rattle.serde_json.specs.Data.{Data}
 use Rattle.serde_json.specs.Find.{as_str}
 use Rattle.fed_origin.specs.declared.status.LoginStatus.TheVariants.{LoggedIn, LoggedOut}
-use Rattle.fed_origin.specs.Words.{status_of_word}
+use Rattle.fed_origin.specs.Words.{kind_of_word, status_of_word}
 use Rattle.fed_script.specs.declared.cause.LineCause.{LineCause}
 use Rattle.fed_script.specs.declared.cause.MemberName.TheVariants as names
 use Rattle.fed_script.specs.declared.event.Event.{Event}
-use Rattle.fed_script.specs.Member.{◌>>=◌, or_cause, json_of, member_of, required, optional, as_word, as_whole, as_u32, url_of}
+use Rattle.fed_script.specs.Member.{◌>>=◌, or_cause, json_of, member_of, required, optional, as_word, as_whole, as_u32, origin_of_text}
+use Rattle.fed_script.specs.Member.{url_of}
 use Rattle.fed_script.specs.Raw.{optional_bytes, required_bytes}
 use Rattle.fed_script.specs.Status.{setstatus_of}
-use Rattle.fed_script.specs.Have.{login_of, cookie_of, said, have_of}
-use Rattle.fed_script.specs.Single.{at_of, closepage_of, abort_of, go_on_of, cancel_of}
+use Rattle.fed_script.specs.Have.{login_of, kept_of, silent_of, cookie_of, said, have_of}
+use Rattle.fed_script.specs.Single.{at_of, closepage_of, abort_of, go_on_of, cancel_of, prevent_of}
 use Rattle.fed_script.specs.Load.{load_of}
 use Rattle.fed_script.specs.Get.{get_members, get_of}
-use Rattle.fed_script.specs.Reply.{reply_kind, reply_of}
+use Rattle.fed_script.specs.Reply.{reply_of}
 use Rattle.fed_script.specs.Choose.{choose_of}
+use Rattle.fed_script.specs.Disconnect.{disconnect_of}
 use Rattle.fed_script.specs.Line.{kind_of, event_of_kind, event_named}
 use Rattle.fed_script.specs.Used.{IsKnown, SaysKnown, HasOneProvider, HasKnownStatus}
 
@@ -59,23 +61,36 @@ login_known : (d : Data) → IfOk (login_of d) SaysKnown
 login_known d =
     always SaysKnown (required as_str names.Origin d) _
     (λ text. after IsKnown SaysKnown (required (as_word status_of_word) names.Status d) _ (known d)
-    (λ status so. always SaysKnown (url_of text) _ (λ url. so)))
+    (λ status so. always SaysKnown (origin_of_text text) _ (λ origin. so)))
 
 cookie_known : (d : Data) → IfOk (cookie_of d) SaysKnown
 cookie_known d =
     always SaysKnown (required as_str names.Url d) _
     (λ text. always SaysKnown (required_bytes d) _ (λ field. always SaysKnown (url_of text) _ (λ url. tt)))
 
-said_known : (d : Data) (cause : LineCause) (a b : Bool) → IfOk (cond a (login_of d) (cond b (cookie_of d) (Err cause))) SaysKnown
-said_known d cause true b = login_known d
-said_known d cause false true = cookie_known d
-said_known d cause false false = tt
+kept_known : (d : Data) → IfOk (kept_of d) SaysKnown
+kept_known d =
+    always SaysKnown (required as_str names.Page d) _ (λ page. always SaysKnown (required as_str names.Provider d) _
+    (λ provider. always SaysKnown (required as_str names.Account d) _ (λ account. always SaysKnown (origin_of_text page) _
+    (λ page_origin. always SaysKnown (origin_of_text provider) _ (λ provider_origin. tt)))))
+
+silent_known : (d : Data) → IfOk (silent_of d) SaysKnown
+silent_known d = always SaysKnown (required as_str names.Origin d) _ (λ text. always SaysKnown (origin_of_text text) _ (λ origin. tt))
+
+said_known : (d : Data) (cause : LineCause) (a b c e : Bool)
+    → IfOk (cond a (login_of d) (cond b (kept_of d) (cond c (silent_of d) (cond e (cookie_of d) (Err cause))))) SaysKnown
+said_known d cause true b c e = login_known d
+said_known d cause false true c e = kept_known d
+said_known d cause false false true e = silent_known d
+said_known d cause false false false true = cookie_known d
+said_known d cause false false false false = tt
 
 have_good : (d : Data) → IfOk (have_of d) Good
 have_good d =
     always Good (required as_str names.What d) _
     (λ what. after SaysKnown Good (said what d) _
-    (said_known d _ (bytes_eq what (codes "login")) (bytes_eq what (codes "cookie"))) (λ have so. (tt, so)))
+    (said_known d _ (bytes_eq what (codes "login")) (bytes_eq what (codes "kept")) (bytes_eq what (codes "silent"))
+    (bytes_eq what (codes "cookie"))) (λ have so. (tt, so)))
 
 at_good : (d : Data) → IfOk (at_of d) Good
 at_good d = always Good (required as_whole names.Time d) _ (λ time. (tt, tt))
@@ -92,6 +107,15 @@ go_on_good d = always Good (required as_u32 names.Call d) _ (λ call. (tt, tt))
 cancel_good : (d : Data) → IfOk (cancel_of d) Good
 cancel_good d = always Good (required as_u32 names.Call d) _ (λ call. (tt, tt))
 
+prevent_good : (d : Data) → IfOk (prevent_of d) Good
+prevent_good d = always Good (required as_u32 names.Page d) _ (λ page. (tt, tt))
+
+disconnect_good : (d : Data) → IfOk (disconnect_of d) Good
+disconnect_good d =
+    always Good (required as_u32 names.Page d) _ (λ page. always Good (required as_u32 names.Call d) _
+    (λ call. always Good (required as_str names.Config d) _ (λ text. always Good (required as_str names.Client d) _
+    (λ client. always Good (required as_str names.Hint d) _ (λ hint. always Good (url_of text) _ (λ config. (tt, tt)))))))
+
 load_good : (d : Data) → IfOk (load_of d) Good
 load_good d =
     always Good (required as_u32 names.Page d) _ (λ page. always Good (required as_str names.Url d) _
@@ -103,7 +127,8 @@ get_good d = always Good (get_members d) _ (λ members. always Good (url_of memb
 reply_good : (d : Data) → IfOk (reply_of d) Good
 reply_good d =
     always Good (required as_u32 names.Call d) _ (λ call. always Good (optional as_u32 names.Provider (member_of names.Provider d)) _
-    (λ provider. always Good (required (as_word reply_kind) names.To d) _ (λ kind. always Good (required_bytes d) _ (λ raw. (tt, tt)))))
+    (λ provider. always Good (required (as_word kind_of_word) names.To d) _
+    (λ kind. always Good (required_bytes d) _ (λ raw. (tt, tt)))))
 
 choose_good : (d : Data) → IfOk (choose_of d) Good
 choose_good d =
@@ -115,29 +140,31 @@ setstatus_good d =
     always Good (required as_u32 names.Page d) _
     (λ page. after IsKnown Good (required (as_word status_of_word) names.Status d) _ (known d) (λ status so. (tt, so)))
 
-one_good : (d : Data) (cause : LineCause) (a b c e f g h i j k l : Bool)
+one_good : (d : Data) (cause : LineCause) (a b c e f g h i j k l m n : Bool)
     → IfOk (cond a (have_of d) (cond b (at_of d) (cond c (load_of d) (cond e (closepage_of d) (cond f (get_of d)
     (cond g (abort_of d) (cond h (go_on_of d) (cond i (cancel_of d) (cond j (reply_of d) (cond k (choose_of d)
-    (cond l (setstatus_of d) (Err cause)))))))))))) Good
-one_good d cause true b c e f g h i j k l = have_good d
-one_good d cause false true c e f g h i j k l = at_good d
-one_good d cause false false true e f g h i j k l = load_good d
-one_good d cause false false false true f g h i j k l = closepage_good d
-one_good d cause false false false false true g h i j k l = get_good d
-one_good d cause false false false false false true h i j k l = abort_good d
-one_good d cause false false false false false false true i j k l = go_on_good d
-one_good d cause false false false false false false false true j k l = cancel_good d
-one_good d cause false false false false false false false false true k l = reply_good d
-one_good d cause false false false false false false false false false true l = choose_good d
-one_good d cause false false false false false false false false false false true = setstatus_good d
-one_good d cause false false false false false false false false false false false = tt
+    (cond l (prevent_of d) (cond m (setstatus_of d) (cond n (disconnect_of d) (Err cause)))))))))))))) Good
+one_good d cause true b c e f g h i j k l m n = have_good d
+one_good d cause false true c e f g h i j k l m n = at_good d
+one_good d cause false false true e f g h i j k l m n = load_good d
+one_good d cause false false false true f g h i j k l m n = closepage_good d
+one_good d cause false false false false true g h i j k l m n = get_good d
+one_good d cause false false false false false true h i j k l m n = abort_good d
+one_good d cause false false false false false false true i j k l m n = go_on_good d
+one_good d cause false false false false false false false true j k l m n = cancel_good d
+one_good d cause false false false false false false false false true k l m n = reply_good d
+one_good d cause false false false false false false false false false true l m n = choose_good d
+one_good d cause false false false false false false false false false false true m n = prevent_good d
+one_good d cause false false false false false false false false false false false true n = setstatus_good d
+one_good d cause false false false false false false false false false false false false true = disconnect_good d
+one_good d cause false false false false false false false false false false false false false = tt
 
 kind_good : (kind : List ℕ) (d : Data) → IfOk (event_of_kind kind d) Good
 kind_good kind d =
     one_good d _ (bytes_eq kind (codes "have")) (bytes_eq kind (codes "at")) (bytes_eq kind (codes "load"))
-    (bytes_eq kind (codes "closepage"))
-    (bytes_eq kind (codes "get")) (bytes_eq kind (codes "abort")) (bytes_eq kind (codes "continue")) (bytes_eq kind (codes "cancel"))
-    (bytes_eq kind (codes "reply")) (bytes_eq kind (codes "choose")) (bytes_eq kind (codes "setstatus"))
+    (bytes_eq kind (codes "closepage")) (bytes_eq kind (codes "get")) (bytes_eq kind (codes "abort")) (bytes_eq kind (codes "continue"))
+    (bytes_eq kind (codes "cancel")) (bytes_eq kind (codes "reply")) (bytes_eq kind (codes "choose")) (bytes_eq kind (codes "prevent"))
+    (bytes_eq kind (codes "setstatus")) (bytes_eq kind (codes "disconnect"))
 
 named_good : (line : List ℕ) → IfOk (event_named line) Good
 named_good line = always Good (json_of line) _ (λ d. always Good (kind_of d) _ (λ kind. kind_good kind d))

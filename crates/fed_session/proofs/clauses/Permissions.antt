@@ -1,48 +1,56 @@
--- What an outcome of a call does to permissions and flags.
+-- What an outcome of a call, and events without a call, do to permissions and flags.
 use Rattle.std.proofs.Common.{◌≡◌, ℕ, Bool, true, false, ◌||◌, List, [], ◌∷◌, ◌++◌, Some, None, map, refl, sym, ap}
 use Rattle.std.proofs.Common.{◌∙◌, cond}
-use Rattle.std.specs.Prelude.{Option, ⊤}
-use Rattle.std.specs.List.{flat_map, AllByRecursion}
+use Rattle.std.specs.Prelude.{Option, ⊤, if◌then◌else◌}
+use Rattle.std.specs.List.{list_any, flat_map, AllByRecursion}
 use Rattle.std.specs.Map.{keys_of}
 use Rattle.indexmap.specs.IndexMap.{insert_entry, shift_remove_entry}
 use Rattle.indexmap.specs.IndexSet.{remove_key}
 use Rattle.fed_origin.specs.declared.origin.Origin.{Origin}
 use Rattle.fed_origin.specs.declared.stage.Stage.{Stage}
 use Rattle.fed_origin.specs.declared.status.Triple.{Triple}
-use Rattle.fed_origin.specs.Origin.{same_origin}
+use Rattle.fed_origin.specs.Origin.{is_trustworthy, same_origin}
 use Rattle.fed_origin.specs.Status.{same_triple}
-use Rattle.fed_status.specs.Kept.{has_triple, with_triple, triples_of_pair, without_each}
+use Rattle.fed_jar.specs.Cookie.{StoredCookie}
+use Rattle.fed_status.specs.Kept.{triples_of_pair, without_each}
 use Rattle.fed_status.specs.Shared.{World}
 use Rattle.fed_status.proofs.removals.PairGoes.{without_pair-each}
 use Rattle.fed_consent.specs.declared.table.ask.Ask.{Ask}
 use Rattle.fed_consent.specs.declared.table.effect.Effect.{Effect as CallEffect}
 use Rattle.fed_consent.specs.declared.table.effect.Effect.TheVariants as does
 use Rattle.fed_consent.specs.Outcomes.{Outcome}
+use Rattle.fed_script.specs.declared.event.Have.{Have}
+use Rattle.fed_script.specs.declared.event.Have.TheVariants as haves
 use Rattle.fed_trace.specs.Begun.{CallKind}
-use Rattle.fed_trace.specs.Effect.{Kept, kept_change, flag_change}
+use Rattle.fed_trace.specs.Effect.{Cookie, Kept, Flag, kept_change, flag_change}
 use Rattle.fed_trace.specs.Keyed.{entries_after}
-use Rattle.fed_trace.specs.Row.{call_effects, moves, outcome_effects}
+use Rattle.fed_trace.specs.Row.{call_effects, moves, outcome_effects, cookie_effects, have_states, page_says, standing_says}
 use Rattle.fed_trace.proofs.keyed.Keyed.{entries_after-append}
-use Rattle.fed_trace.proofs.effects.Silent.{goes_changes_none}
-use Rattle.fed_session.specs.StepParts.{kept_after, flags_after}
+use Rattle.fed_trace.proofs.effects.Silent.{entries_silent, goes_changes_none, silent_map}
+use Rattle.fed_session.specs.StepParts.{kept_after, flags_after, have_kept, have_flags, flags_set, standing_flags}
 use Rattle.fed_session.proofs.clauses.Sets.{Next, SetsAll}
 
 -- ---- keys
 
-keys_insert : (t : Triple) (es : List (Triple × ⊤)) → keys_of (insert_entry same_triple es t tt) ≡ with_triple (keys_of es) t
-keys_insert t [] = refl
-keys_insert t (e ∷ es) = go (same_triple t e.0) (keys_insert t es)
+-- the keys with this one: one that is there keeps its place, and a new one goes last
+abbrev with_key : {K : Type 0} → (K → K → Bool) → List K → K → List K
+with_key same keys k = if list_any (same k) keys then keys else keys ++ k ∷ []
+
+pub keys_insert : {K : Type 0} (same : K → K → Bool) (k : K) (es : List (K × ⊤))
+    → keys_of (insert_entry same es k tt) ≡ with_key same (keys_of es) k
+keys_insert same k [] = refl
+keys_insert same k (e ∷ es) = go (same k e.0) (keys_insert same k es)
   where
-    under : (b : Bool) → e.0 ∷ cond b (keys_of es) (keys_of es ++ t ∷ [])
-        ≡ cond b (e.0 ∷ keys_of es) (e.0 ∷ (keys_of es ++ t ∷ []))
+    under : (b : Bool) → e.0 ∷ cond b (keys_of es) (keys_of es ++ k ∷ [])
+        ≡ cond b (e.0 ∷ keys_of es) (e.0 ∷ (keys_of es ++ k ∷ []))
     under true = refl
     under false = refl
 
-    go : (b : Bool) → keys_of (insert_entry same_triple es t tt) ≡ with_triple (keys_of es) t
-        → keys_of (cond b ((e.0, tt) ∷ es) (e ∷ insert_entry same_triple es t tt))
-        ≡ cond (b || has_triple (keys_of es) t) (e.0 ∷ keys_of es) (e.0 ∷ (keys_of es ++ t ∷ []))
+    go : (b : Bool) → keys_of (insert_entry same es k tt) ≡ with_key same (keys_of es) k
+        → keys_of (cond b ((e.0, tt) ∷ es) (e ∷ insert_entry same es k tt))
+        ≡ cond (b || list_any (same k) (keys_of es)) (e.0 ∷ keys_of es) (e.0 ∷ (keys_of es ++ k ∷ []))
     go true rest = refl
-    go false rest = ap (λ ks. e.0 ∷ ks) rest ∙ under (has_triple (keys_of es) t)
+    go false rest = ap (λ ks. e.0 ∷ ks) rest ∙ under (list_any (same k) (keys_of es))
 
 keys_remove : {K : Type 0} (p : K → Bool) (es : List (K × ⊤)) → keys_of (shift_remove_entry p es) ≡ remove_key p (keys_of es)
 keys_remove p [] = refl
@@ -81,7 +89,7 @@ does_keep world cookies kind call page effects es next = all effects es next
     all (does.Window place url ∷ effects) es next = all effects es next.1
     all (does.SetLogin origin status ∷ effects) es next = all effects es next.1
     all (does.Keep triple ∷ effects) es next =
-        all effects (insert_entry same_triple es triple tt) next.1 ∙ ap (kept_after effects) (keys_insert triple es)
+        all effects (insert_entry same_triple es triple tt) next.1 ∙ ap (kept_after effects) (keys_insert same_triple triple es)
     all (does.Forget triple ∷ effects) es next =
         all effects (shift_remove_entry (same_triple triple) es) next.1 ∙ ap (kept_after effects) (keys_remove (same_triple triple) es)
     all (does.ForgetPair p q ∷ effects) es next = absurd next.0
@@ -114,7 +122,7 @@ does_keep_first world cookies kind call page (does.SetLogin origin status ∷ ef
     does_keep world cookies kind call page effects es sets.1
 does_keep_first world cookies kind call page (does.Keep triple ∷ effects) es sets is =
     does_keep world cookies kind call page effects (insert_entry same_triple es triple tt) sets.1
-    ∙ ap (kept_after effects) (keys_insert triple es)
+    ∙ ap (kept_after effects) (keys_insert same_triple triple es)
 does_keep_first world cookies kind call page (does.Forget triple ∷ effects) es sets is =
     does_keep world cookies kind call page effects (shift_remove_entry (same_triple triple) es) sets.1
     ∙ ap (kept_after effects) (keys_remove (same_triple triple) es)
@@ -176,3 +184,46 @@ outcome_flags world cookies kind call page outcome es =
     still : (stage : Option Stage) (es : List (Origin × ⊤)) → entries_after same_origin flag_change (moves kind call stage) es ≡ es
     still None es = refl
     still (Some stage) es = refl
+
+-- ---- events without a call
+
+-- what a line of the kind `have` says of permissions
+pub have_keeps : (cookies : List StoredCookie) (have : Have) (es : List (Triple × ⊤))
+    → keys_of (entries_after same_triple kept_change (cookie_effects cookies ++ have_states have) es) ≡ have_kept have (keys_of es)
+have_keeps cookies have es =
+    ap keys_of (entries_after-append same_triple kept_change (cookie_effects cookies) (have_states have) es
+    ∙ ap (entries_after same_triple kept_change (have_states have))
+    (entries_silent same_triple kept_change (cookie_effects cookies) es (silent_map kept_change Cookie (λ c. refl) cookies)))
+    ∙ go have
+  where
+    go : (have : Have) → keys_of (entries_after same_triple kept_change (have_states have) es) ≡ have_kept have (keys_of es)
+    go (haves.Login origin status) = refl
+    go (haves.Kept triple) = keys_insert same_triple triple es
+    go (haves.Silent origin) = refl
+    go (haves.Cookie url field) = refl
+
+-- and of flags
+pub have_marks : (cookies : List StoredCookie) (have : Have) (es : List (Origin × ⊤))
+    → keys_of (entries_after same_origin flag_change (cookie_effects cookies ++ have_states have) es) ≡ have_flags have (keys_of es)
+have_marks cookies have es =
+    ap keys_of (entries_after-append same_origin flag_change (cookie_effects cookies) (have_states have) es
+    ∙ ap (entries_after same_origin flag_change (have_states have))
+    (entries_silent same_origin flag_change (cookie_effects cookies) es (silent_map flag_change Cookie (λ c. refl) cookies)))
+    ∙ go have
+  where
+    go : (have : Have) → keys_of (entries_after same_origin flag_change (have_states have) es) ≡ have_flags have (keys_of es)
+    go (haves.Login origin status) = refl
+    go (haves.Kept triple) = refl
+    go (haves.Silent origin) = keys_insert same_origin origin es
+    go (haves.Cookie url field) = refl
+
+-- a page that sets the flag of its origin
+pub page_marks : (found : Option Origin) (es : List (Origin × ⊤))
+    → keys_of (entries_after same_origin flag_change (page_says found (λ origin. Flag origin true)) es) ≡ flags_set found (keys_of es)
+page_marks None es = refl
+page_marks (Some origin) es = go (is_trustworthy origin)
+  where
+    go : (trusted : Bool) → keys_of (entries_after same_origin flag_change (standing_says trusted (Flag origin true)) es)
+        ≡ standing_flags trusted origin (keys_of es)
+    go true = keys_insert same_origin origin es
+    go false = refl

@@ -4,7 +4,8 @@ use Rattle.std.specs.List.{AllByRecursion}
 use Rattle.std.specs.Prelude.{Option, Result, not, option_and_then, ⊤}
 use Rattle.url.specs.Parts.{Parts}
 use Rattle.fed_origin.specs.declared.options.GetOptions.{GetOptions}
-use Rattle.fed_origin.specs.declared.options.Mode.{Mode}
+use Rattle.fed_origin.specs.declared.options.Mediation.{Mediation}
+use Rattle.fed_origin.specs.declared.options.Mediation.TheVariants.{Silent, Optional, Required}
 use Rattle.fed_origin.specs.declared.options.ProviderOptions.{ProviderOptions}
 use Rattle.fed_origin.specs.declared.origin.Origin.{Origin}
 use Rattle.fed_origin.specs.declared.scheme.Scheme.{Scheme}
@@ -28,27 +29,29 @@ use Rattle.fed_status.specs.Shared.{World}
 use Rattle.fed_consent.specs.declared.table.effect.Effect.{Effect as CallEffect}
 use Rattle.fed_consent.specs.declared.table.effect.Effect.TheVariants as does
 use Rattle.fed_consent.specs.declared.table.failure.Failure.{Failure}
+use Rattle.fed_consent.specs.declared.table.finish.Finish.{Finish}
 use Rattle.fed_consent.specs.declared.table.input.Input.{Input}
 use Rattle.fed_consent.specs.declared.table.input.Input.TheVariants as inputs
 use Rattle.fed_consent.specs.declared.consent.manner.Manner.TheVariants.{Chosen, Prompted}
-use Rattle.fed_consent.specs.Consent.{Agreement, Candidate, chosen}
+use Rattle.fed_consent.specs.Consent.{Agreement, Candidate, Pick, by_reselection, chosen}
 use Rattle.fed_call.specs.Accounts.{accounts_of, candidate_of}
-use Rattle.fed_call.specs.AssertingRows.{asserts, assertion_reply, asserting_reply}
+use Rattle.fed_call.specs.AssertingRows.{asserts, clears, keeps, by_token, assertion_reply, asserting_reply}
 use Rattle.fed_call.specs.DialogRows.{links_shown, metadata_reply, prompting_reply, agreed_to, settles, choice, chose, goes_on, went_on}
 use Rattle.fed_call.specs.DialogRows.{cancelled}
-use Rattle.fed_call.specs.Facts.{Facts, provider_at, metadata_endpoint}
+use Rattle.fed_call.specs.Facts.{Facts, provider_at, metadata_endpoint, reselected}
 use Rattle.fed_provider.specs.FirstReplies.{config_read, wellknown_of}
-use Rattle.fed_consent.specs.Outcomes.{Outcome, only_place}
+use Rattle.fed_consent.specs.Outcomes.{Outcome, finishes, only_place}
 use Rattle.fed_call.specs.ListingRows.{is_mismatch, by_mismatch, prompt_effect, prompts, offers, by_accounts, accounts_reply, listing_reply}
-use Rattle.fed_call.specs.ListingRows.{site_of}
-use Rattle.fed_call.specs.ReadingRows.{start_at, by_scheme, by_gate, is_gated, first_wellknown, first_config, wellknown_reply, config_reply}
-use Rattle.fed_call.specs.ReadingRows.{reading_reply}
+use Rattle.fed_call.specs.ListingRows.{site_of, unless_silent, by_reselected}
+use Rattle.fed_call.specs.ReadingRows.{start_at, by_scheme, by_silence, by_gate, is_gated, is_prevented, first_wellknown}
+use Rattle.fed_call.specs.ReadingRows.{first_config, wellknown_reply, config_reply, reading_reply}
 use Rattle.fed_call.specs.Row.{stage_reply}
 use Rattle.fed_call.specs.Row as get
 use Rattle.fed_origin.specs.Origin.{origin_text}
 use Rattle.fed_origin.specs.declared.status.Triple.{Triple}
 use Rattle.fed_token.specs.declared.step.TokenStep.{TokenStep}
-use Rattle.fed_token.specs.Read.{DisconnectOf}
+use Rattle.fed_token.specs.Read.{AssertionOf, DisconnectOf}
+use Rattle.fed_status.specs.Flags.{has_flag}
 use Rattle.fed_status.specs.Kept.{has_pair, has_triple, triple_of}
 use Rattle.fed_provider.specs.declared.first_replies.Heard.{Heard}
 use Rattle.fed_provider.specs.declared.first_replies.Heard.TheVariants as heard
@@ -86,21 +89,28 @@ gate_sets : (place : ℕ) (config wellknown : Parts) (gated : Bool) → Sets (by
 gate_sets place config wellknown true = (tt, tt)
 gate_sets place config wellknown false = (tt, (tt, tt))
 
-scheme_sets : (place : ℕ) (scheme : Scheme) (config : Parts) (wellknown : Result Parts ProviderStep) (gated : Bool)
-    → Sets (by_scheme place scheme config wellknown gated)
-scheme_sets place Http config wellknown gated = (tt, tt)
-scheme_sets place Https config (Err step) gated = (tt, tt)
-scheme_sets place Https config (Ok wellknown) gated = gate_sets place config wellknown gated
+silence_sets : (place : ℕ) (config wellknown : Parts) (prevented gated : Bool)
+    → Sets (by_silence place config wellknown prevented gated)
+silence_sets place config wellknown true gated = (tt, tt)
+silence_sets place config wellknown false gated = gate_sets place config wellknown gated
 
-start_sets : (world : World) (mode : Mode) (place : ℕ) (provider : Option ProviderOptions) → Sets (start_at world mode place provider)
-start_sets world mode place None = tt
-start_sets world mode place (Some provider) =
+scheme_sets : (place : ℕ) (scheme : Scheme) (config : Parts) (wellknown : Result Parts ProviderStep) (prevented gated : Bool)
+    → Sets (by_scheme place scheme config wellknown prevented gated)
+scheme_sets place Http config wellknown prevented gated = (tt, tt)
+scheme_sets place Https config (Err step) prevented gated = (tt, tt)
+scheme_sets place Https config (Ok wellknown) prevented gated = silence_sets place config wellknown prevented gated
+
+start_sets : (world : World) (origin : Origin) (options : GetOptions) (place : ℕ) (provider : Option ProviderOptions)
+    → Sets (start_at world origin options place provider)
+start_sets world origin options place None = tt
+start_sets world origin options place (Some provider) =
     scheme_sets place (scheme_of provider.config) provider.config (WellKnownUrlOf world.rules provider.config)
-    (is_gated mode (status_of world.login (origin_of provider.config)))
+    (is_prevented options.mediation (has_flag world.flags origin))
+    (is_gated options.mode (status_of world.login (origin_of provider.config)))
 
 get_sets : (world : World) (busy : Bool) (origin : Origin) (options : GetOptions) → Sets (get_outcome world busy origin options)
 get_sets world true origin options = (tt, tt)
-get_sets world false origin options = start_sets world options.mode only_place (provider_at only_place options)
+get_sets world false origin options = start_sets world origin options only_place (provider_at only_place options)
 
 -- ---- first replies
 
@@ -165,6 +175,25 @@ offers_sets world facts place provider (only ∷ []) =
     (prompt_sets world facts place provider candidate candidate.connected (metadata_endpoint facts.config), tt)
 offers_sets world facts place provider (first ∷ second ∷ more) = (tt, tt)
 
+silent_sets : (mediation : Mediation) (offered : Outcome) → AllByRecursion Next offered.effects
+    → AllByRecursion Next (unless_silent mediation offered).effects
+silent_sets Silent offered next = (tt, tt)
+silent_sets Optional offered next = next
+silent_sets Required offered next = next
+
+asserts_next : (facts : Facts) (place : ℕ) (provider : Option ProviderOptions) (config : Option Config) (agreed : Agreement)
+    → AllByRecursion Next (asserts facts place provider config agreed).effects
+asserts_next facts place None config agreed = tt
+asserts_next facts place (Some provider) None agreed = tt
+asserts_next facts place (Some provider) (Some config) agreed = (tt, tt)
+
+reselected_sets : (world : World) (facts : Facts) (place : ℕ) (provider : ProviderOptions) (accounts : List Account) (pick : Option Pick)
+    → AllByRecursion Next (by_reselected world facts place provider accounts pick).effects
+reselected_sets world facts place provider accounts None =
+    silent_sets facts.options.mediation (offers world facts place provider accounts) (offers_sets world facts place provider accounts)
+reselected_sets world facts place provider accounts (Some pick) =
+    asserts_next facts place (Some provider) facts.config (by_reselection pick)
+
 by_accounts_sets : (world : World) (facts : Facts) (place : ℕ) (provider : ProviderOptions) (read : Result (List Account) AccountsStep)
     → Sets (by_accounts world facts place provider read)
 by_accounts_sets world facts place provider (Err step) = (
@@ -172,7 +201,8 @@ by_accounts_sets world facts place provider (Err step) = (
   mismatch_sets (origin_of provider.config) place (site_of world facts.origin) _
       (is_mismatch facts.options.mode facts.options.mediation (status_of world.login (origin_of provider.config))),
 )
-by_accounts_sets world facts place provider (Ok accounts) = (in_known, offers_sets world facts place provider accounts)
+by_accounts_sets world facts place provider (Ok accounts) =
+    (in_known, reselected_sets world facts place provider accounts (reselected world facts place provider accounts))
 
 accounts_sets : (world : World) (facts : Facts) (place : ℕ) (provider : Option ProviderOptions) (raw : List ℕ)
     → Sets (accounts_reply world facts place provider raw)
@@ -261,10 +291,26 @@ went_on_sets facts stages.Ended = (tt, tt)
 
 -- ---- the token
 
+clears_sets : (auto : Bool) (origin : Origin) (outcome : Outcome) → AllByRecursion Next outcome.effects
+    → AllByRecursion Next (clears auto origin outcome).effects
+clears_sets true origin outcome next = next
+clears_sets false origin outcome next = (tt, next)
+
+keeps_sets : (page provider : Origin) (picked : Option Candidate) (auto : Bool) (finish : Finish)
+    → Sets (keeps page provider picked (clears auto page (finishes finish)))
+keeps_sets page provider None true finish = (tt, tt)
+keeps_sets page provider None false finish = (tt, (tt, tt))
+keeps_sets page provider (Some candidate) auto finish = (tt, clears_sets auto page (finishes finish) (tt, tt))
+
+token_sets : (facts : Facts) (place : ℕ) (provider : ProviderOptions) (read : Result (List ℕ) TokenStep)
+    → Sets (by_token facts place provider read)
+token_sets facts place provider (Ok token) = keeps_sets facts.origin (origin_of provider.config) facts.picked facts.auto _
+token_sets facts place provider (Err step) = (tt, tt)
+
 assertion_sets : (facts : Facts) (place : ℕ) (provider : Option ProviderOptions) (raw : List ℕ)
     → Sets (assertion_reply facts place provider raw)
 assertion_sets facts place None raw = (tt, tt)
-assertion_sets facts place (Some provider) raw = (tt, tt)
+assertion_sets facts place (Some provider) raw = token_sets facts place provider (AssertionOf raw (origin_text facts.origin))
 
 asserting_sets : (facts : Facts) (place : ℕ) (provider : Option ProviderOptions) (kind : ReplyKind) (raw : List ℕ)
     → Sets (asserting_reply facts place provider kind raw)

@@ -10,7 +10,7 @@ use Rattle.std.specs.List.{filter_map, list_any}
 use Rattle.indexmap.specs.IndexMap.{insert_entry}
 use Rattle.url.specs.Parts.{Parts}
 use Rattle.fed_origin.specs.declared.origin.Origin.{Origin}
-use Rattle.fed_origin.specs.declared.options.Mode.{Mode}
+use Rattle.fed_origin.specs.declared.options.GetOptions.{GetOptions}
 use Rattle.fed_origin.specs.declared.options.ProviderOptions.{ProviderOptions}
 use Rattle.fed_origin.specs.declared.scheme.Scheme.{Scheme}
 use Rattle.fed_origin.specs.declared.scheme.Scheme.TheVariants.{Http, Https}
@@ -22,6 +22,7 @@ use Rattle.fed_origin.specs.WebUrl.{origin_of, scheme_of}
 use Rattle.fed_jar.specs.Cookie.{cookies_after}
 use Rattle.fed_provider.specs.declared.step.ProviderStep.{ProviderStep}
 use Rattle.fed_provider.specs.WellKnown.{WellKnownUrlOf}
+use Rattle.fed_status.specs.Flags.{has_flag}
 use Rattle.fed_status.specs.Kept.{has_pair}
 use Rattle.fed_status.specs.Login.{status_of}
 use Rattle.fed_status.specs.Shared.{World}
@@ -29,7 +30,7 @@ use Rattle.fed_consent.specs.declared.table.ask.Ask.{Ask}
 use Rattle.fed_consent.specs.declared.table.why.Why.{Why}
 use Rattle.fed_consent.specs.declared.table.why.Why.TheVariants.{NoPage, PageInsecure}
 use Rattle.fed_consent.specs.Outcomes.{Outcome, only_place}
-use Rattle.fed_call.specs.ReadingRows.{start_at, by_gate, is_gated}
+use Rattle.fed_call.specs.ReadingRows.{start_at, by_gate, is_gated, is_prevented}
 use Rattle.fed_call.specs.ReadingRows as get
 use Rattle.fed_disconnect.specs.Facts.{provider_origin}
 use Rattle.fed_disconnect.specs.Rows as disconnect
@@ -53,7 +54,7 @@ use Rattle.fed_trace.proofs.keyed.Entries.{lookup-set_value}
 use Rattle.fed_trace.proofs.keyed.Keyed.{IsAbsent, lookup-insert_entry, remove-insert_entry}
 use Rattle.fed_trace.proofs.effects.Outcome.{option_or-none, outcome_calls, moves_call, moves_no_other}
 use Rattle.fed_trace.proofs.effects.Same.{same_begin}
-use Rattle.fed_trace.proofs.effects.Silent.{entries_silent, said_silent, last_silent, silent_is}
+use Rattle.fed_trace.proofs.effects.Silent.{AllSilent, entries_silent, said_silent, last_silent, silent_is}
 use Rattle.fed_trace.proofs.known.Facts.{staged}
 use Rattle.fed_trace.proofs.known.Stages.{Goes, goes_or_ends}
 use Rattle.fed_trace.proofs.known.Known.{said_of, known_moved, known_same}
@@ -70,7 +71,7 @@ use Rattle.fed_session.proofs.clauses.Sets.{SetsAll, first_sets}
 use Rattle.fed_session.proofs.clauses.Sight.{sees, cookies_same}
 use Rattle.fed_session.proofs.clauses.Statuses.{is_busy-kept}
 use Rattle.fed_session.proofs.events.Event.{page_kept}
-use Rattle.fed_session.proofs.stands.Stands.{Owes, owes_aside}
+use Rattle.fed_session.proofs.stands.Stands.{Owes, owes_aside, kept_still, flags_still}
 
 -- ---- what all calls look at
 
@@ -108,7 +109,9 @@ owes_ignored : (s s' : State) (T : Trace) (line : ℕ) (event : Event) (why : Wh
     → Owes s s' T line event
 owes_ignored s s' T line event why h is inputs sight kept_pages kept_calls =
     let seen = sees s' _ sight in
-    owes_aside s s' T line event h (aside_ignored T line event why is inputs) seen.rules seen.kept seen.flags
+    owes_aside s s' T line event h (aside_ignored T line event why is inputs) seen.rules
+    (kept_still s s' T event h (subst (AllSilent kept_change) (sym is) (refl, tt)) seen.kept)
+    (flags_still s s' T event h (subst (AllSilent flag_change) (sym is) (refl, tt)) seen.flags)
     (seen.time ∙ sym (ap (λ xs. unwrap_or (last_of time_of xs) s.time) is))
     (seen.cookies ∙ sym (ap (λ xs. cookies_after s.cookies (filter_map written_by xs)) is))
     (seen.login ∙ sym (ap (λ xs. entries_after same_origin login_change xs s.login) is))
@@ -322,18 +325,24 @@ gate_comes : (place : ℕ) (config wellknown : Parts) (gated : Bool) → Comes G
 gate_comes place config wellknown true = record { stage = Ended; is = refl; free = inl refl; still = λ sight. refl }
 gate_comes place config wellknown false = record { stage = Reading; is = refl; free = inr refl; still = λ sight. refl }
 
-scheme_comes : (place : ℕ) (scheme : Scheme) (config : Parts) (wellknown : Answer Parts ProviderStep) (gated : Bool)
-    → Comes GetCall None (get.by_scheme place scheme config wellknown gated)
-scheme_comes place Http config wellknown gated = record { stage = Ended; is = refl; free = inl refl; still = λ sight. refl }
-scheme_comes place Https config (Err step) gated = record { stage = Ended; is = refl; free = inl refl; still = λ sight. refl }
-scheme_comes place Https config (Ok wellknown) gated = gate_comes place config wellknown gated
+silence_comes : (place : ℕ) (config wellknown : Parts) (prevented gated : Bool)
+    → Comes GetCall None (get.by_silence place config wellknown prevented gated)
+silence_comes place config wellknown true gated = record { stage = Ended; is = refl; free = inl refl; still = λ sight. refl }
+silence_comes place config wellknown false gated = gate_comes place config wellknown gated
 
-start_comes : (world : World) (mode : Mode) (providers : List ProviderOptions) → length providers ≡ 1
-    → Comes GetCall None (start_at world mode only_place (slice_get providers only_place))
-start_comes world mode [] one = absurd (omega (arith, one))
-start_comes world mode (provider ∷ others) one =
+scheme_comes : (place : ℕ) (scheme : Scheme) (config : Parts) (wellknown : Answer Parts ProviderStep) (prevented gated : Bool)
+    → Comes GetCall None (get.by_scheme place scheme config wellknown prevented gated)
+scheme_comes place Http config wellknown prevented gated = record { stage = Ended; is = refl; free = inl refl; still = λ sight. refl }
+scheme_comes place Https config (Err step) prevented gated = record { stage = Ended; is = refl; free = inl refl; still = λ sight. refl }
+scheme_comes place Https config (Ok wellknown) prevented gated = silence_comes place config wellknown prevented gated
+
+start_comes : (world : World) (origin : Origin) (options : GetOptions) (providers : List ProviderOptions) → length providers ≡ 1
+    → Comes GetCall None (start_at world origin options only_place (slice_get providers only_place))
+start_comes world origin options [] one = absurd (omega (arith, one))
+start_comes world origin options (provider ∷ others) one =
     scheme_comes only_place (scheme_of provider.config) provider.config (WellKnownUrlOf world.rules provider.config)
-    (is_gated mode (status_of world.login (origin_of provider.config)))
+    (is_prevented options.mediation (has_flag world.flags origin))
+    (is_gated options.mode (status_of world.login (origin_of provider.config)))
 
 site_comes : (get : Option ℕ) (config : Parts) (wellknown : Answer Parts ProviderStep) (kept : Bool)
     → Comes DisconnectCall get (disconnect.by_site config wellknown kept)
@@ -349,7 +358,7 @@ disconnect_comes get Https config wellknown kept = site_comes get config wellkno
 first_comes : (world : World) (get : Option ℕ) (origin : Origin) (options : CallOptions) → HasOne options
     → Comes (kind_asked options) get (first_row world (is_some get) origin options)
 first_comes world (Some other) origin (ToGet options) one = record { stage = Ended; is = refl; free = inl refl; still = λ sight. refl }
-first_comes world None origin (ToGet options) one = start_comes world options.mode options.providers one
+first_comes world None origin (ToGet options) one = start_comes world origin options options.providers one
 first_comes world get origin (ToDisconnect options) one =
     disconnect_comes get (scheme_of options.config) options.config (WellKnownUrlOf world.rules options.config)
     (has_pair world.kept origin (provider_origin options))

@@ -7,31 +7,34 @@ use Rattle.std.specs.Prelude.{Option, option_map, option_and_then, unwrap_or}
 use Rattle.std.specs.Map.{lookup}
 use Rattle.indexmap.specs.IndexMap.{insert_entry, shift_remove_entry}
 use Rattle.url.specs.Parts.{Parts}
+use Rattle.fed_origin.specs.declared.origin.Origin.{Origin}
 use Rattle.fed_origin.specs.Origin.{same_origin}
+use Rattle.fed_origin.specs.Status.{same_triple}
 use Rattle.fed_origin.specs.WebUrl.{origin_of}
 use Rattle.fed_origin.specs.declared.stage.Stage.TheVariants.{Ended}
 use Rattle.fed_origin.specs.declared.status.LoginStatus.{LoginStatus}
 use Rattle.fed_jar.specs.Cookie.{cookies_after}
 use Rattle.fed_status.specs.Login.{Logins}
 use Rattle.fed_script.specs.declared.event.Event.{Event}
-use Rattle.fed_script.specs.declared.event.Event.TheVariants.{Load, ClosePage, SetStatus}
+use Rattle.fed_script.specs.declared.event.Event.TheVariants.{Load, ClosePage, Prevent, SetStatus}
 use Rattle.fed_script.specs.declared.event.Have.{Have}
 use Rattle.fed_consent.specs.declared.table.why.Why.TheVariants.{NoPage}
 use Rattle.fed_script.specs.declared.event.Event.TheVariants as events
 use Rattle.fed_script.specs.declared.event.Have.TheVariants as haves
-use Rattle.fed_trace.specs.Effect.{Effect, PendingCall, Page, Closed, Move, Ignored, page_change, login_change, kept_change, flag_change}
+use Rattle.fed_trace.specs.Effect.{Effect, PendingCall, Page, Closed, Login, Flag, Move, Ignored, page_change, login_change}
+use Rattle.fed_trace.specs.Effect.{kept_change, flag_change}
 use Rattle.fed_trace.specs.Effect.{call_change, stage_change, begun_by, begins, written_by, time_of}
 use Rattle.fed_trace.specs.Keyed.{entries_after, last_said}
 use Rattle.fed_trace.specs.Known.{known_in, known_at}
 use Rattle.fed_trace.specs.Records.{record_of, records_of}
-use Rattle.fed_trace.specs.Row.{effects_of, with_event, cookies_from, have_cookies, have_logins, set_cookies, set_logins, cookie_effects}
-use Rattle.fed_trace.specs.Row.{login_effects, ends_of, load_effects, close_effects, status_effects}
+use Rattle.fed_trace.specs.Row.{effects_of, with_event, cookies_from, have_cookies, have_states, set_cookies, set_logins, cookie_effects}
+use Rattle.fed_trace.specs.Row.{login_effects, ends_of, load_effects, close_effects, page_says}
 use Rattle.fed_trace.specs.Begun.{CallKind}
 use Rattle.fed_trace.specs.Call.{Known}
 use Rattle.fed_session.specs.Session.{State, Holds, Stands, origins_of, numbers_in, numbers_of, pending_calls, kept_at}
-use Rattle.fed_session.specs.StepParts.{sight_of, with_ended, with_all_ended, without_held, with_statuses, have_statuses, status_at}
-use Rattle.fed_session.specs.StepParts.{close_records}
-use Rattle.fed_trace.specs.Trace.{Trace, pages, pending, pending_of, page_at, calls_of, now_at}
+use Rattle.fed_session.specs.StepParts.{sight_of, with_ended, with_all_ended, without_held, with_statuses, have_statuses, have_kept}
+use Rattle.fed_session.specs.StepParts.{have_flags, says_at, flags_set, close_records}
+use Rattle.fed_trace.specs.Trace.{Trace, standing, pages, pending, pending_of, page_at, calls_of, now_at}
 use Rattle.fed_session.specs.declared.page.Page as kept
 use Rattle.fed_trace.proofs.calls.Begins.{AreApart, apart_begun}
 use Rattle.fed_trace.proofs.keyed.Entries.{remove_absent, lookup-set_value}
@@ -43,24 +46,30 @@ use Rattle.fed_session.proofs.kept.Pages.{origins_of-insert_entry, origins_of-re
 use Rattle.fed_trace.proofs.happens.Ends.{last_said_front, ends_apart, ends_hit}
 use Rattle.fed_trace.proofs.calls.Pending.{is_among, others, ended, ends_silent, load_rest_silent, load_silent, load_pages, load_calls}
 use Rattle.fed_trace.proofs.calls.Pending.{load_writes, written_then, set_after, calls_of-others_same, calls_of-others_other}
+use Rattle.fed_session.proofs.clauses.Permissions.{have_keeps, have_marks, page_marks}
 use Rattle.fed_session.proofs.clauses.Sight.{sees}
 use Rattle.fed_session.proofs.clauses.Statuses.{load_sets}
 use Rattle.fed_trace.proofs.effects.Silent.{AllSilent, entries_silent, said_silent, last_silent}
 use Rattle.fed_session.proofs.stands.Stands.{Owes, owes_aside, kept_still, flags_still}
 use Rattle.fed_trace.proofs.known.Known.{said_of, known_moved, known_same, over}
-use Rattle.fed_trace.proofs.events.Aside.{logins_write_none, have_silent, status_silent, close_silent}
+use Rattle.fed_trace.proofs.events.Aside.{IsAside, IsPlain, states_write_none, have_silent, says_silent, close_silent}
 
 -- ---- what is there from the start
 
-have_sets : (have : Have) (logins : Logins) → entries_after same_origin login_change (have_logins have) logins ≡ have_statuses have logins
-have_sets (haves.Cookie url field) logins = refl
+have_sets : (have : Have) (logins : Logins) → entries_after same_origin login_change (have_states have) logins
+    ≡ have_statuses have logins
 have_sets (haves.Login origin status) logins = refl
+have_sets (haves.Kept triple) logins = refl
+have_sets (haves.Silent origin) logins = refl
+have_sets (haves.Cookie url field) logins = refl
 
 pub owes_have : (s s' : State) (T : Trace) (line : ℕ) (have : Have) → Stands s T
     → sight_of s' ≡ record (sight_of s) {
       jar = cookies_after s.cookies (have_cookies s.rules s.time have);
       login =
           have_statuses have s.login;
+      kept = have_kept have s.kept;
+      flags = have_flags have s.flags;
     }
     → s'.pages ≡ s.pages → s'.calls ≡ s.calls
     → Owes s s' T line (events.Have have)
@@ -71,20 +80,29 @@ owes_have s s' T line have h sight kept_pages kept_calls =
     ap (λ r. have_cookies r s.time have) h.rules ∙ ap (λ t. have_cookies T.header.rules t have) h.time in
     owes_aside s s' T line (events.Have have) h
     (record {
-      pages = have_silent page_change (λ c. refl) (λ o s. refl) found have;
-      calls = have_silent call_change (λ c. refl) (λ o s. refl) found have;
-      begun = have_silent begun_by (λ c. refl) (λ o s. refl) found have;
-      stages = have_silent stage_change (λ c. refl) (λ o s. refl) found have;
-      begins_none = λ q. have_silent (begins q) (λ c. refl) (λ o s. refl) found have;
-      kept = have_silent kept_change (λ c. refl) (λ o s. refl) found have;
-      flags = have_silent flag_change (λ c. refl) (λ o s. refl) found have;
+      pages =
+          have_silent page_change
+          (record { cookie = λ c. refl; login = λ o s. refl; kept = λ t k. refl; flag = λ o k. refl }) found have;
+      calls =
+          have_silent call_change
+          (record { cookie = λ c. refl; login = λ o s. refl; kept = λ t k. refl; flag = λ o k. refl }) found have;
+      begun =
+          have_silent begun_by (record { cookie = λ c. refl; login = λ o s. refl; kept = λ t k. refl; flag = λ o k. refl }) found have;
+      stages =
+          have_silent stage_change
+          (record { cookie = λ c. refl; login = λ o s. refl; kept = λ t k. refl; flag = λ o k. refl }) found have;
+      begins_none =
+          λ q. have_silent (begins q)
+          (record { cookie = λ c. refl; login = λ o s. refl; kept = λ t k. refl; flag = λ o k. refl }) found have;
       inputs = λ q k. refl;
     })
-    seen.rules seen.kept seen.flags
-    (seen.time ∙ sym (ap (λ o. unwrap_or o s.time) (last_silent time_of (cookie_effects found ++ have_logins have)
-    (have_silent time_of (λ c. refl) (λ o s. refl) found have))))
-    (seen.cookies ∙ ap (cookies_after s.cookies) (same ∙ sym (written_then found (have_logins have) (logins_write_none have))))
-    (seen.login ∙ sym (set_after found (have_logins have) s.login ∙ have_sets have s.login))
+    seen.rules
+    (seen.kept ∙ ap (have_kept have) h.kept ∙ sym (have_keeps found have (standing same_triple kept_change T.rows)))
+    (seen.flags ∙ ap (have_flags have) h.flags ∙ sym (have_marks found have (standing same_origin flag_change T.rows)))
+    (seen.time ∙ sym (ap (λ o. unwrap_or o s.time) (last_silent time_of (cookie_effects found ++ have_states have)
+    (have_silent time_of (record { cookie = λ c. refl; login = λ o s. refl; kept = λ t k. refl; flag = λ o k. refl }) found have))))
+    (seen.cookies ∙ ap (cookies_after s.cookies) (same ∙ sym (written_then found (have_states have) (states_write_none have))))
+    (seen.login ∙ sym (set_after found (have_states have) s.login ∙ have_sets have s.login))
     kept_pages kept_calls
 
 -- ---- a page sets a status
@@ -93,31 +111,70 @@ owes_have s s' T line have h sight kept_pages kept_calls =
 pub page_kept : (s : State) (T : Trace) (page : ℕ) → Stands s T → option_map (λ p. p.origin) (lookup (nat_eq page) s.pages) ≡ page_at T page
 page_kept s T page h = sym (lookup-origins_of page s.pages) ∙ ap (lookup (nat_eq page)) h.pages ∙ lookup-standing page_change page T.rows
 
+-- what a page says of its origin, where that says nothing of pages, calls, times and cookies
+says_aside : (T : Trace) (line : ℕ) (event : Event) (page : ℕ) (says : Origin → Effect)
+    → effects_of T event ≡ page_says (page_at T page) says
+    → ((o : Origin) → page_change (says o) ≡ None) → ((o : Origin) → call_change (says o) ≡ None)
+    → ((o : Origin) → begun_by (says o) ≡ None) → ((o : Origin) → stage_change (says o) ≡ None)
+    → ((q : ℕ) (o : Origin) → begins q (says o) ≡ None) → ((q : ℕ) (k : Known) → said_of T event q k ≡ k)
+    → IsAside T line event
+says_aside T line event page says is pages calls begun stages begins_none inputs =
+    record {
+      pages = subst (AllSilent page_change) (sym is) (says_silent page_change says pages (λ w. refl) (page_at T page));
+      calls = subst (AllSilent call_change) (sym is) (says_silent call_change says calls (λ w. refl) (page_at T page));
+      begun = subst (AllSilent begun_by) (sym is) (says_silent begun_by says begun (λ w. refl) (page_at T page));
+      stages = subst (AllSilent stage_change) (sym is) (says_silent stage_change says stages (λ w. refl) (page_at T page));
+      begins_none =
+          λ q. subst (AllSilent (begins q)) (sym is) (says_silent (begins q) says (begins_none q) (λ w. refl) (page_at T page));
+      inputs = inputs;
+    }
+
 pub owes_status : (s s' : State) (T : Trace) (line page : ℕ) (status : LoginStatus) → Stands s T
     → sight_of s' ≡ record (sight_of s) { login = s'.login }
-    → s'.login ≡ entries_after same_origin login_change (status_at (lookup (nat_eq page) s.pages) status) s.login
+    → s'.login ≡ entries_after same_origin login_change (says_at (lookup (nat_eq page) s.pages) (λ origin. Login origin status))
+    s.login
     → s'.pages ≡ s.pages → s'.calls ≡ s.calls
     → Owes s s' T line (SetStatus page status)
 owes_status s s' T line page status h sight login kept_pages kept_calls =
     let seen = sees s' _ sight in
     let o = page_at T page in
+    let says : Origin → Effect = λ origin. Login origin status in
     owes_aside s s' T line (SetStatus page status) h
-    (record {
-      pages = status_silent page_change (λ o s. refl) (λ w. refl) o status;
-      calls = status_silent call_change (λ o s. refl) (λ w. refl) o status;
-      begun = status_silent begun_by (λ o s. refl) (λ w. refl) o status;
-      stages = status_silent stage_change (λ o s. refl) (λ w. refl) o status;
-      begins_none = λ q. status_silent (begins q) (λ o s. refl) (λ w. refl) o status;
-      kept = status_silent kept_change (λ o s. refl) (λ w. refl) o status;
-      flags = status_silent flag_change (λ o s. refl) (λ w. refl) o status;
-      inputs = λ q k. refl;
-    })
-    seen.rules seen.kept seen.flags
+    (says_aside T line (SetStatus page status) page says refl (λ o. refl) (λ o. refl) (λ o. refl) (λ o. refl) (λ q o. refl)
+    (λ q k. refl))
+    seen.rules
+    (kept_still s s' T (SetStatus page status) h (says_silent kept_change says (λ o. refl) (λ w. refl) o) seen.kept)
+    (flags_still s s' T (SetStatus page status) h (says_silent flag_change says (λ o. refl) (λ w. refl) o) seen.flags)
     (seen.time ∙ sym (ap (λ x. unwrap_or x s.time)
-    (last_silent time_of (status_effects o status) (status_silent time_of (λ o s. refl) (λ w. refl) o status))))
+    (last_silent time_of (page_says o says) (says_silent time_of says (λ o. refl) (λ w. refl) o))))
     (seen.cookies ∙ ap (cookies_after s.cookies) (sym
-    (said_silent written_by (status_effects o status) (status_silent written_by (λ o s. refl) (λ w. refl) o status))))
-    (login ∙ ap (λ x. entries_after same_origin login_change (status_effects x status) s.login) (page_kept s T page h))
+    (said_silent written_by (page_says o says) (says_silent written_by says (λ o. refl) (λ w. refl) o))))
+    (login ∙ ap (λ x. entries_after same_origin login_change (page_says x says) s.login) (page_kept s T page h))
+    kept_pages kept_calls
+
+-- ---- a page prevents silent access
+
+pub owes_prevent : (s s' : State) (T : Trace) (line page : ℕ) → Stands s T
+    → sight_of s' ≡ record (sight_of s) { flags = s'.flags }
+    → s'.flags ≡ flags_set (option_map (λ p. p.origin) (lookup (nat_eq page) s.pages)) s.flags
+    → s'.pages ≡ s.pages → s'.calls ≡ s.calls
+    → Owes s s' T line (Prevent page)
+owes_prevent s s' T line page h sight flags kept_pages kept_calls =
+    let seen = sees s' _ sight in
+    let o = page_at T page in
+    let says : Origin → Effect = λ origin. Flag origin true in
+    owes_aside s s' T line (Prevent page) h
+    (says_aside T line (Prevent page) page says refl (λ o. refl) (λ o. refl) (λ o. refl) (λ o. refl) (λ q o. refl) (λ q k. refl))
+    seen.rules
+    (kept_still s s' T (Prevent page) h (says_silent kept_change says (λ o. refl) (λ w. refl) o) seen.kept)
+    (flags ∙ ap (λ x. flags_set x s.flags) (page_kept s T page h) ∙ ap (flags_set o) h.flags
+    ∙ sym (page_marks o (standing same_origin flag_change T.rows)))
+    (seen.time ∙ sym (ap (λ x. unwrap_or x s.time)
+    (last_silent time_of (page_says o says) (says_silent time_of says (λ o. refl) (λ w. refl) o))))
+    (seen.cookies ∙ ap (cookies_after s.cookies) (sym
+    (said_silent written_by (page_says o says) (says_silent written_by says (λ o. refl) (λ w. refl) o))))
+    (seen.login ∙ sym (entries_silent same_origin login_change (page_says o says) s.login
+    (says_silent login_change says (λ o. refl) (λ w. refl) o)))
     kept_pages kept_calls
 
 -- ---- the calls of a page end
@@ -358,11 +415,10 @@ owes_close_absent s s' T line page none h sight kept_pages kept_calls =
       begun = silent begun_by refl;
       stages = silent stage_change refl;
       begins_none = λ q. silent (begins q) refl;
-      kept = silent kept_change refl;
-      flags = silent flag_change refl;
       inputs = λ q k. refl;
     })
-    seen.rules seen.kept seen.flags
+    seen.rules (kept_still s s' T (ClosePage page) h (silent kept_change refl) seen.kept)
+    (flags_still s s' T (ClosePage page) h (silent flag_change refl) seen.flags)
     (seen.time ∙ sym (ap (λ o. unwrap_or o s.time) (last_silent time_of (effects_of T (ClosePage page)) (silent time_of refl))))
     (seen.cookies ∙ ap (cookies_after s.cookies) (sym (said_silent written_by (effects_of T (ClosePage page)) (silent written_by refl))))
     (seen.login ∙ sym (entries_silent same_origin login_change (effects_of T (ClosePage page)) s.login (silent login_change refl)))
@@ -402,6 +458,6 @@ close_records-stand s T line page h =
     close_records-by (lookup (nat_eq page) s.pages) line page (pending_of T page)
     ∙ ap (λ o. records_of line (close_effects (pending_of T page) page o)) (page_kept s T page h)
 
-pub status_records-stand : (s : State) (T : Trace) (line page : ℕ) (status : LoginStatus) → Stands s T
-    → records_of line (status_at (lookup (nat_eq page) s.pages) status) ≡ records_of line (effects_of T (SetStatus page status))
-status_records-stand s T line page status h = ap (λ o. records_of line (status_effects o status)) (page_kept s T page h)
+pub says_records-stand : (s : State) (T : Trace) (line page : ℕ) (says : Origin → Effect) → Stands s T
+    → records_of line (says_at (lookup (nat_eq page) s.pages) says) ≡ records_of line (page_says (page_at T page) says)
+says_records-stand s T line page says h = ap (λ o. records_of line (page_says o says)) (page_kept s T page h)

@@ -55,8 +55,8 @@ use Rattle.fed_session.proofs.clauses.Sets.{SetsAll, row_sets, sets_apply}
 use Rattle.fed_session.proofs.kept.Held.{holds_without}
 use Rattle.fed_session.proofs.clauses.Sight.{sees, cookies_same}
 use Rattle.fed_trace.proofs.effects.Same.{same_input}
-use Rattle.fed_trace.proofs.effects.Silent.{entries_silent, said_silent, last_silent, silent_is}
-use Rattle.fed_session.proofs.stands.Stands.{Owes, owes_aside}
+use Rattle.fed_trace.proofs.effects.Silent.{AllSilent, entries_silent, said_silent, last_silent, silent_is}
+use Rattle.fed_session.proofs.stands.Stands.{Owes, owes_aside, kept_still, flags_still}
 use Rattle.fed_trace.proofs.known.Known.{said_of, known_moved, known_same, ignored_says, known_step, Found, found_by}
 
 -- ---- an event that names a call
@@ -81,7 +81,9 @@ brings T (events.Have have) call input h = absurd (cc)
 brings T (events.At time) call input h = absurd (cc)
 brings T (events.Load page url raw) call input h = absurd (cc)
 brings T (events.ClosePage page) call input h = absurd (cc)
+brings T (events.Prevent page) call input h = absurd (cc)
 brings T (events.SetStatus page status) call input h = absurd (cc)
+brings T (events.Disconnect page q config client hint) call input h = absurd (cc)
 brings T (events.Get page q options) call input h = absurd (cc)
 
 -- ---- what the session keeps of a call
@@ -119,7 +121,9 @@ owes_refused s s' T line event why h is sight kept_pages kept_calls =
     (aside_ignored T line event why is
     (λ q k. ap (λ xs. with_said (world_at T) (list_any is_ignored xs) (input_to q event) k) is
     ∙ ignored_says (world_at T) (input_to q event) k))
-    seen.rules seen.kept seen.flags
+    seen.rules
+    (kept_still s s' T event h (subst (AllSilent kept_change) (sym is) (refl, tt)) seen.kept)
+    (flags_still s s' T event h (subst (AllSilent flag_change) (sym is) (refl, tt)) seen.flags)
     (seen.time ∙ sym (ap (λ xs. unwrap_or (last_of time_of xs) s.time) is))
     (seen.cookies ∙ sym (ap (λ xs. cookies_after s.cookies (filter_map written_by xs)) is))
     (seen.login ∙ sym (ap (λ xs. entries_after same_origin login_change xs s.login) is))

@@ -123,18 +123,20 @@ flags_still s s' T event h silent same =
 -- ---- an event that says nothing of pages and calls
 
 pub owes_aside : (s s' : State) (T : Trace) (line : ℕ) (event : Event) → Stands s T → IsAside T line event
-    → s'.rules ≡ s.rules → s'.kept ≡ s.kept → s'.flags ≡ s.flags
+    → s'.rules ≡ s.rules
+    → s'.kept ≡ keys_of (entries_after same_triple kept_change (effects_of T event) (standing same_triple kept_change T.rows))
+    → s'.flags ≡ keys_of (entries_after same_origin flag_change (effects_of T event) (standing same_origin flag_change T.rows))
     → s'.time ≡ unwrap_or (last_of time_of (effects_of T event)) s.time
     → s'.cookies ≡ cookies_after s.cookies (filter_map written_by (effects_of T event))
     → s'.login ≡ entries_after same_origin login_change (effects_of T event) s.login
     → s'.pages ≡ s.pages → s'.calls ≡ s.calls → Owes s s' T line event
-owes_aside s s' T line event h aside rules kept_same flags time written login kept_pages kept_calls =
+owes_aside s s' T line event h aside rules kept_now flags_now time written login kept_pages kept_calls =
     let effects = effects_of T event in
     let no_call = entries_silent nat_eq call_change effects (pending T) aside.calls in
     record {
       rules = rules;
-      kept = kept_still s s' T event h aside.kept kept_same;
-      flags = flags_still s s' T event h aside.flags flags;
+      kept = kept_now;
+      flags = flags_now;
       time = time;
       cookies = written;
       login = login;

@@ -6,21 +6,21 @@ use Rattle.std.proofs.lemmas.Bool.Decides.{nat_tests}
 use Rattle.std.specs.Prelude.{Option, ⊤}
 use Rattle.std.specs.List.{list_any, filter_map}
 use Rattle.fed_origin.specs.declared.origin.Origin.{Origin}
-use Rattle.fed_origin.specs.declared.status.LoginStatus.{LoginStatus}
 use Rattle.fed_origin.specs.Origin.{is_trustworthy}
 use Rattle.fed_jar.specs.Cookie.{StoredCookie}
 use Rattle.fed_script.specs.declared.event.Event.{Event}
-use Rattle.fed_script.specs.declared.event.Event.TheVariants.{At, Load, ClosePage, Get, Abort, Reply, SetStatus}
+use Rattle.fed_script.specs.declared.event.Event.TheVariants.{At, Load, ClosePage, Get, Abort, Reply, Prevent, SetStatus, Disconnect}
 use Rattle.fed_script.specs.declared.event.Have.{Have}
 use Rattle.fed_script.specs.declared.event.Header.{Header}
 use Rattle.fed_consent.specs.declared.table.input.Input.TheVariants as inputs
 use Rattle.fed_script.specs.declared.event.Event.TheVariants as events
 use Rattle.fed_script.specs.declared.event.Have.TheVariants as haves
-use Rattle.fed_trace.specs.Begun.{CallKind, ToGet}
-use Rattle.fed_trace.specs.Effect.{Closed, Cookie, Login, begun_by}
+use Rattle.fed_disconnect.specs.Facts.{disconnect_options}
+use Rattle.fed_trace.specs.Begun.{CallKind, ToGet, ToDisconnect}
+use Rattle.fed_trace.specs.Effect.{Effect, Closed, Cookie, Login, Flag, begun_by}
 use Rattle.fed_trace.specs.Known.{world_at, is_begun, known_at}
-use Rattle.fed_trace.specs.Row.{effects_of, cookies_with, cookies_from, have_cookies, have_logins, set_cookies, set_logins, cookie_effects}
-use Rattle.fed_trace.specs.Row.{ends_of, close_effects, standing_status, status_effects, is_busy, IsNew, IsRun}
+use Rattle.fed_trace.specs.Row.{effects_of, cookies_with, cookies_from, have_cookies, have_states, set_cookies, set_logins, cookie_effects}
+use Rattle.fed_trace.specs.Row.{ends_of, close_effects, standing_says, page_says, is_busy, IsNew, IsRun}
 use Rattle.fed_trace.specs.Trace.{Row, Trace, begun, pending_of, page_at, now_at, gets}
 use Rattle.fed_trace.proofs.calls.Pending.{BeginsAtMost, ends_silent, load_silent, call_begins, input_begins_none}
 use Rattle.fed_trace.proofs.effects.Silent.{AllSilent, said_silent, silent_map, silent_append}
@@ -53,33 +53,40 @@ apart_by c xs begins new (inr one) apart = subst (λ ys. AreApart (xs ++ ys)) (s
 none_begun : (xs begins : List ℕ) → begins ≡ [] → AreApart xs → AreApart (xs ++ begins)
 none_begun xs begins none apart = subst (λ ys. AreApart (xs ++ ys)) (sym none) (subst AreApart (sym (append-nil xs)) apart)
 
-have_begins_none : (cookies : List StoredCookie) (have : Have) → AllSilent begun_by (cookie_effects cookies ++ have_logins have)
-have_begins_none cookies (haves.Cookie url field) =
-    silent_append begun_by (cookie_effects cookies) [] (silent_map begun_by Cookie (λ c. refl) cookies) tt
-have_begins_none cookies (haves.Login origin status) =
-    silent_append begun_by (cookie_effects cookies) (Login origin status ∷ []) (silent_map begun_by Cookie (λ c. refl) cookies) (refl, tt)
+states_begin_none : (have : Have) → AllSilent begun_by (have_states have)
+states_begin_none (haves.Cookie url field) = tt
+states_begin_none (haves.Login origin status) = (refl, tt)
+states_begin_none (haves.Kept triple) = (refl, tt)
+states_begin_none (haves.Silent origin) = (refl, tt)
+
+have_begins_none : (cookies : List StoredCookie) (have : Have) → AllSilent begun_by (cookie_effects cookies ++ have_states have)
+have_begins_none cookies have =
+    silent_append begun_by (cookie_effects cookies) (have_states have) (silent_map begun_by Cookie (λ c. refl) cookies)
+    (states_begin_none have)
 
 close_begins_none : (calls : List (ℕ × CallKind)) (page : ℕ) (o : Option Origin) → AllSilent begun_by (close_effects calls page o)
 close_begins_none calls page None = (refl, tt)
 close_begins_none calls page (Some origin) =
     silent_append begun_by (ends_of calls) (Closed page ∷ []) (ends_silent begun_by (λ n c. refl) calls) (refl, tt)
 
-status_begins_none : (o : Option Origin) (status : LoginStatus) → AllSilent begun_by (status_effects o status)
-status_begins_none None status = (refl, tt)
-status_begins_none (Some origin) status = go (is_trustworthy origin)
+says_begin_none : (o : Option Origin) (said : Origin → Effect) → ((origin : Origin) → begun_by (said origin) ≡ None)
+    → AllSilent begun_by (page_says o said)
+says_begin_none None said none = (refl, tt)
+says_begin_none (Some origin) said none = go (is_trustworthy origin)
   where
-    go : (trusted : Bool) → AllSilent begun_by (standing_status trusted origin status)
-    go true = (refl, tt)
+    go : (trusted : Bool) → AllSilent begun_by (standing_says trusted (said origin))
+    go true = (none origin, tt)
     go false = (refl, tt)
 
--- the call of a get
-abbrev pub get_call : Event → Option ℕ
-get_call (Get page call options) = Some call
-get_call _ = None
+-- the call of a get or of a disconnect
+abbrev pub new_call : Event → Option ℕ
+new_call (Get page call options) = Some call
+new_call (Disconnect page call config client hint) = Some call
+new_call _ = None
 
--- an event begins no call, or that of a get
+-- an event begins no call, or the one that it brings
 pub event_begins : (T : Trace) (event : Event)
-    → (AllSilent begun_by (effects_of T event)) ⊎ ((call : ℕ) × (get_call event ≡ Some call)
+    → (AllSilent begun_by (effects_of T event)) ⊎ ((call : ℕ) × (new_call event ≡ Some call)
     × BeginsAtMost call (effects_of T event))
 event_begins T (events.Have have) = inl (have_begins_none (have_cookies T.header.rules (now_at T) have) have)
 event_begins T (At time) = inl (refl, tt)
@@ -87,7 +94,15 @@ event_begins T (Load page url raw) =
     inl (load_silent begun_by (λ n c. refl) (λ p o. refl) (λ c. refl) (λ o s. refl) (pending_of T page) page url
     (cookies_from T.header.rules url (now_at T) (set_cookies raw)) (set_logins raw))
 event_begins T (ClosePage page) = inl (close_begins_none (pending_of T page) page (page_at T page))
-event_begins T (SetStatus page status) = inl (status_begins_none (page_at T page) status)
+event_begins T (Prevent page) = inl (says_begin_none (page_at T page) (λ origin. Flag origin true) (λ o. refl))
+event_begins T (SetStatus page status) = inl (says_begin_none (page_at T page) (λ origin. Login origin status) (λ o. refl))
+event_begins T (Disconnect page call config client hint) =
+    inr (
+      call,
+      refl,
+      call_begins (world_at T) (cookies_with T) (page_at T page) (is_busy page (gets T)) page call
+          (ToDisconnect (disconnect_options config client hint)),
+    )
 event_begins T (Get page call options) =
     inr (call, refl, call_begins (world_at T) (cookies_with T) (page_at T page) (is_busy page (gets T)) page call (ToGet options))
 event_begins T (Abort call) = inl (input_begins_none (world_at T) (cookies_with T) (is_begun T call) call (known_at T call) inputs.Abort)
@@ -100,12 +115,12 @@ event_begins T (events.Cancel call) =
 event_begins T (Reply call provider kind raw) =
     inl (input_begins_none (world_at T) (cookies_with T) (is_begun T call) call (known_at T call) (inputs.Reply provider kind raw))
 
--- an event other than a get begins none
-pub begins_none : (T : Trace) (event : Event) → get_call event ≡ None → filter_map begun_by (effects_of T event) ≡ []
+-- an event that brings no call begins none
+pub begins_none : (T : Trace) (event : Event) → new_call event ≡ None → filter_map begun_by (effects_of T event) ≡ []
 begins_none T event none = go (event_begins T event)
   where
     go : (AllSilent begun_by (effects_of T event))
-        ⊎ ((call : ℕ) × (get_call event ≡ Some call) × BeginsAtMost call (effects_of T event))
+        ⊎ ((call : ℕ) × (new_call event ≡ Some call) × BeginsAtMost call (effects_of T event))
         → filter_map begun_by (effects_of T event) ≡ []
     go (inl silent) = said_silent begun_by (effects_of T event) silent
     go (inr found) = let is = found.1 in absurd (cc)
@@ -115,12 +130,15 @@ apart_after : (T : Trace) (event : Event) → IsNew T.rows event → AreApart (b
 apart_after T event new apart = go event (event_begins T event) new
   where
     go : (e : Event) → (AllSilent begun_by (effects_of T event))
-        ⊎ ((call : ℕ) × (get_call e ≡ Some call) × BeginsAtMost call (effects_of T event)) → IsNew T.rows e
+        ⊎ ((call : ℕ) × (new_call e ≡ Some call) × BeginsAtMost call (effects_of T event)) → IsNew T.rows e
         → AreApart (begun T.rows ++ filter_map begun_by (effects_of T event))
     go e (inl silent) new = none_begun (begun T.rows) _ (said_silent begun_by (effects_of T event) silent) apart
     go (Get page c options) (inr found) new =
         let same : c ≡ found.0 = let is = found.1 in cc in
         apart_by found.0 (begun T.rows) _ (subst (λ k. list_any (nat_eq k) (begun T.rows) ≡ false) same new.0) found.2 apart
+    go (Disconnect page c config client hint) (inr found) new =
+        let same : c ≡ found.0 = let is = found.1 in cc in
+        apart_by found.0 (begun T.rows) _ (subst (λ k. list_any (nat_eq k) (begun T.rows) ≡ false) same new) found.2 apart
     go e (inr found) new = absurd (cc)
 
 pub apart_begun : (header : Header) (rows : List Row) → IsRun header rows → AreApart (begun rows)

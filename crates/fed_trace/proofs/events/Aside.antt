@@ -9,6 +9,7 @@ use Rattle.fed_origin.specs.Origin.{is_trustworthy}
 use Rattle.fed_origin.specs.declared.origin.Origin.{Origin}
 use Rattle.fed_origin.specs.declared.stage.Stage.TheVariants.{Ended}
 use Rattle.fed_origin.specs.declared.status.LoginStatus.{LoginStatus}
+use Rattle.fed_origin.specs.declared.status.Triple.{Triple}
 use Rattle.fed_jar.specs.Cookie.{StoredCookie}
 use Rattle.fed_script.specs.declared.event.Event.TheVariants.{Load}
 use Rattle.fed_script.specs.declared.event.Have.{Have}
@@ -16,10 +17,10 @@ use Rattle.fed_consent.specs.declared.table.why.Why.{Why}
 use Rattle.fed_consent.specs.declared.table.why.Why.TheVariants.{NoPage, PageInsecure}
 use Rattle.fed_script.specs.declared.event.Event.TheVariants as events
 use Rattle.fed_script.specs.declared.event.Have.TheVariants as haves
-use Rattle.fed_trace.specs.Effect.{page_change, kept_change, flag_change, call_change, stage_change, begun_by, begins, Effect, Closed}
-use Rattle.fed_trace.specs.Effect.{Cookie, Login, Move, Ignored, written_by}
-use Rattle.fed_trace.specs.Row.{effects_of, cookies_from, have_cookies, have_logins, set_cookies, set_logins, cookie_effects, ends_of}
-use Rattle.fed_trace.specs.Row.{load_effects, status_effects, standing_status}
+use Rattle.fed_trace.specs.Effect.{page_change, call_change, stage_change, begun_by, begins, Effect, Closed}
+use Rattle.fed_trace.specs.Effect.{Cookie, Login, Kept, Flag, Move, Ignored, written_by}
+use Rattle.fed_trace.specs.Row.{effects_of, cookies_from, have_cookies, have_states, set_cookies, set_logins, cookie_effects, ends_of}
+use Rattle.fed_trace.specs.Row.{load_effects, page_says, standing_says}
 use Rattle.fed_trace.specs.Trace.{Trace, pending_of, now_at}
 use Rattle.fed_trace.specs.Records.{record_of, records_of}
 use Rattle.fed_trace.proofs.effects.Silent.{AllSilent, said_silent, silent_map, silent_append}
@@ -34,33 +35,44 @@ pub record IsAside (T : Trace) (line : ℕ) (event : Event) : Type 0 where
   pub begun : AllSilent begun_by (effects_of T event)
   pub stages : AllSilent stage_change (effects_of T event)
   pub begins_none : (q : ℕ) → AllSilent (begins q) (effects_of T event)
-  pub kept : AllSilent kept_change (effects_of T event)
-  pub flags : AllSilent flag_change (effects_of T event)
   pub inputs : (q : ℕ) (k : Known) → said_of T event q k ≡ k
 
 -- ---- what is silent
 
-pub have_silent : {A : Type 0} (said : Effect → Option A) → ((cookie : StoredCookie) → said (Cookie cookie) ≡ None)
-    → ((origin : Origin) (status : LoginStatus) → said (Login origin status) ≡ None)
-    → (cookies : List StoredCookie) (have : Have) → AllSilent said (cookie_effects cookies ++ have_logins have)
-have_silent said cookie login cookies (haves.Cookie url field) =
-    silent_append said (cookie_effects cookies) [] (silent_map said Cookie cookie cookies) tt
-have_silent said cookie login cookies (haves.Login origin status) =
-    silent_append said (cookie_effects cookies) (Login origin status ∷ []) (silent_map said Cookie cookie cookies) (login origin status, tt)
+-- nothing is said of what is written, set, kept or marked
+pub record IsPlain {A : Type 0} (said : Effect → Option A) : Type 0 where
+  pub cookie : (cookie : StoredCookie) → said (Cookie cookie) ≡ None
+  pub login : (origin : Origin) (status : LoginStatus) → said (Login origin status) ≡ None
+  pub kept : (triple : Triple) (stays : Bool) → said (Kept triple stays) ≡ None
+  pub flag : (origin : Origin) (stays : Bool) → said (Flag origin stays) ≡ None
 
-pub logins_write_none : (have : Have) → AllSilent written_by (have_logins have)
-logins_write_none (haves.Cookie url field) = tt
-logins_write_none (haves.Login origin status) = (refl, tt)
+states_silent : {A : Type 0} (said : Effect → Option A) → IsPlain said → (have : Have) → AllSilent said (have_states have)
+states_silent said plain (haves.Cookie url field) = tt
+states_silent said plain (haves.Login origin status) = (plain.login origin status, tt)
+states_silent said plain (haves.Kept triple) = (plain.kept triple true, tt)
+states_silent said plain (haves.Silent origin) = (plain.flag origin true, tt)
 
-pub status_silent : {A : Type 0} (said : Effect → Option A)
-    → ((origin : Origin) (status : LoginStatus) → said (Login origin status) ≡ None)
+pub have_silent : {A : Type 0} (said : Effect → Option A) → IsPlain said
+    → (cookies : List StoredCookie) (have : Have) → AllSilent said (cookie_effects cookies ++ have_states have)
+have_silent said plain cookies have =
+    silent_append said (cookie_effects cookies) (have_states have) (silent_map said Cookie plain.cookie cookies)
+    (states_silent said plain have)
+
+pub states_write_none : (have : Have) → AllSilent written_by (have_states have)
+states_write_none (haves.Cookie url field) = tt
+states_write_none (haves.Login origin status) = (refl, tt)
+states_write_none (haves.Kept triple) = (refl, tt)
+states_write_none (haves.Silent origin) = (refl, tt)
+
+pub says_silent : {A : Type 0} (said : Effect → Option A) (says : Origin → Effect)
+    → ((origin : Origin) → said (says origin) ≡ None)
     → ((why : Why) → said (Ignored why) ≡ None)
-    → (o : Option Origin) (status : LoginStatus) → AllSilent said (status_effects o status)
-status_silent said login ignored None status = (ignored NoPage, tt)
-status_silent said login ignored (Some origin) status = go (is_trustworthy origin)
+    → (o : Option Origin) → AllSilent said (page_says o says)
+says_silent said says none ignored None = (ignored NoPage, tt)
+says_silent said says none ignored (Some origin) = go (is_trustworthy origin)
   where
-    go : (trusted : Bool) → AllSilent said (standing_status trusted origin status)
-    go true = (login origin status, tt)
+    go : (trusted : Bool) → AllSilent said (standing_says trusted (says origin))
+    go true = (none origin, tt)
     go false = (ignored PageInsecure, tt)
 
 pub close_silent : {A : Type 0} (said : Effect → Option A) → ((kind : CallKind) (call : ℕ) → said (Move kind call Ended) ≡ None)
@@ -75,7 +87,8 @@ pub have_records : (T : Trace) (line : ℕ) (have : Have) → [] ≡ records_of 
 have_records T line have =
     let found = have_cookies T.header.rules (now_at T) have in
     sym (said_silent (record_of line) (cookie_effects found
-    ++ have_logins have) (have_silent (record_of line) (λ c. refl) (λ o s. refl) found have))
+    ++ have_states have) (have_silent (record_of line)
+    (record { cookie = λ c. refl; login = λ o s. refl; kept = λ t k. refl; flag = λ o k. refl }) found have))
 
 pub load_records : (T : Trace) (line page : ℕ) (url : Parts) (raw : Option (List ℕ))
     → [] ≡ records_of line (effects_of T (Load page url raw))
@@ -96,7 +109,5 @@ aside_ignored T line event why is inputs =
       begun = subst (AllSilent begun_by) (sym is) (refl, tt);
       stages = subst (AllSilent stage_change) (sym is) (refl, tt);
       begins_none = λ q. subst (AllSilent (begins q)) (sym is) (refl, tt);
-      kept = subst (AllSilent kept_change) (sym is) (refl, tt);
-      flags = subst (AllSilent flag_change) (sym is) (refl, tt);
       inputs = inputs;
     }

@@ -8,30 +8,26 @@ use Rattle.std.specs.List.{filter_map, list_any}
 use Rattle.url.specs.Parts.{Parts}
 use Rattle.fed_origin.specs.declared.origin.Origin.{Origin}
 use Rattle.fed_origin.specs.declared.stage.Stage.TheVariants.{Ended}
-use Rattle.fed_origin.specs.declared.status.LoginStatus.{LoginStatus}
-use Rattle.fed_origin.specs.Origin.{is_trustworthy}
 use Rattle.fed_origin.specs.WebUrl.{origin_of}
-use Rattle.fed_jar.specs.Cookie.{StoredCookie}
 use Rattle.fed_consent.specs.declared.table.input.Input.{Input}
 use Rattle.fed_consent.specs.declared.table.input.Input.TheVariants as inputs
 use Rattle.fed_consent.specs.declared.table.why.Why.{Why}
 use Rattle.fed_script.specs.declared.event.Event.{Event}
 use Rattle.fed_script.specs.declared.event.Event.TheVariants as events
-use Rattle.fed_script.specs.declared.event.Event.TheVariants.{Load, ClosePage, Get}
-use Rattle.fed_script.specs.declared.event.Have.{Have}
-use Rattle.fed_script.specs.declared.event.Have.TheVariants as haves
+use Rattle.fed_script.specs.declared.event.Event.TheVariants.{Load, ClosePage, Get, Disconnect}
 use Rattle.fed_trace.specs.Begun.{Begun, CallKind, CallOptions, ToGet, ToDisconnect, kind_asked}
 use Rattle.fed_trace.specs.Call.{Known, first_row}
 use Rattle.fed_trace.specs.OfCall.{asked, given, replaces}
-use Rattle.fed_trace.specs.Effect.{Effect, Time, Page, Closed, Cookie, Login, Begin, Move, Ignored, last_of, page_change, call_change}
+use Rattle.fed_trace.specs.Effect.{Effect, Time, Page, Closed, Begin, Move, Ignored, last_of, page_change, call_change}
 use Rattle.fed_trace.specs.Effect.{stage_change, begins, is_ignored}
 use Rattle.fed_trace.specs.Keyed.{Change, last_said, says}
 use Rattle.fed_trace.specs.Known.{world_at, is_begun, input_to, known_at}
 use Rattle.fed_trace.specs.Row.{effects_of, cookies_with, cookies_from, outcome_effects, input_effects, ends_of, close_effects}
-use Rattle.fed_trace.specs.Row.{cookie_effects, login_effects, have_logins, set_cookies, set_logins, status_effects, standing_status}
+use Rattle.fed_trace.specs.Row.{cookie_effects, login_effects, set_cookies, set_logins}
 use Rattle.fed_trace.specs.Trace.{Trace, page_at, pending, pending_of, now_at}
 use Rattle.fed_trace.proofs.calls.Pending.{is_among, ends_silent, load_rest_silent}
-use Rattle.fed_trace.proofs.effects.Silent.{AllSilent, said_silent, last_silent, last_said_silent, silent_map, silent_append}
+use Rattle.fed_trace.proofs.events.Aside.{IsPlain}
+use Rattle.fed_trace.proofs.effects.Silent.{AllSilent, said_silent, last_silent, last_said_silent, silent_append}
 use Rattle.fed_trace.proofs.known.Known.{said_of}
 use Rattle.fed_trace.proofs.happens.Says.{Quiet, own}
 
@@ -54,17 +50,17 @@ pub record Takes (T : Trace) (event : Event) (call : ℕ) : Type 0 where
   pub input_is : input_to call event ≡ Some input
   pub effects : effects_of T event ≡ input_effects (world_at T) (cookies_with T) true call (known_at T call) input
 
--- the event by which a call with these options begins, where there is one
-abbrev pub beginning : ℕ → ℕ → CallOptions → Option Event
-beginning page call (ToGet options) = Some (Get page call options)
-beginning page call (ToDisconnect options) = None
+-- the event by which a call with these options begins
+abbrev pub beginning : ℕ → ℕ → CallOptions → Event
+beginning page call (ToGet options) = Get page call options
+beginning page call (ToDisconnect options) = Disconnect page call options.config options.client options.hint
 
 -- the call begins by the event
 pub record Starts (T : Trace) (event : Event) (call : ℕ) : Type 0 where
   pub begun : Begun
   pub is_call : begun.call ≡ call
   pub stands : page_at T begun.page ≡ Some begun.origin
-  pub is_event : Some event ≡ beginning begun.page begun.call begun.options
+  pub is_event : event ≡ beginning begun.page begun.call begun.options
   pub busy : Bool
   pub effects : effects_of T event
       ≡ Begin begun ∷ outcome_effects (world_at T) (cookies_with T) (kind_asked begun.options) begun.call begun.page
@@ -101,45 +97,57 @@ pub data Happens (T : Trace) (event : Event) (call : ℕ) : Type 0 where
 
 -- a reading of effects that the world's own effects do not say
 pub record IsDull {A : Type 0} (said : Effect → Option A) : Type 0 where
-  pub cookie : (cookie : StoredCookie) → said (Cookie cookie) ≡ None
-  pub login : (origin : Origin) (status : LoginStatus) → said (Login origin status) ≡ None
+  pub plain : IsPlain said
   pub time : (time : ℕ) → said (Time time) ≡ None
   pub ignored : (why : Why) → said (Ignored why) ≡ None
 
-pub dull_have : {A : Type 0} (said : Effect → Option A) → IsDull said → (cookies : List StoredCookie) (have : Have)
-    → AllSilent said (cookie_effects cookies ++ have_logins have)
-dull_have said dull cookies (haves.Cookie url field) =
-    silent_append said (cookie_effects cookies) [] (silent_map said Cookie dull.cookie cookies) tt
-dull_have said dull cookies (haves.Login origin status) =
-    silent_append said (cookie_effects cookies) (Login origin status
-    ∷ []) (silent_map said Cookie dull.cookie cookies) (dull.login origin status, tt)
-
-pub dull_status : {A : Type 0} (said : Effect → Option A) → IsDull said → (o : Option Origin) (status : LoginStatus)
-    → AllSilent said (status_effects o status)
-dull_status said dull None status = (dull.ignored _, tt)
-dull_status said dull (Some origin) status = go (is_trustworthy origin)
-  where
-    go : (trusted : Bool) → AllSilent said (standing_status trusted origin status)
-    go true = (dull.login origin status, tt)
-    go false = (dull.ignored _, tt)
-
 pub dull_stage : IsDull stage_change
-dull_stage = record { cookie = λ c. refl; login = λ o s. refl; time = λ t. refl; ignored = λ w. refl }
+dull_stage =
+    record {
+      plain = record { cookie = λ c. refl; login = λ o s. refl; kept = λ t k. refl; flag = λ o k. refl };
+      time = λ t. refl;
+      ignored = λ w. refl;
+    }
 
 pub dull_call : IsDull call_change
-dull_call = record { cookie = λ c. refl; login = λ o s. refl; time = λ t. refl; ignored = λ w. refl }
+dull_call =
+    record {
+      plain = record { cookie = λ c. refl; login = λ o s. refl; kept = λ t k. refl; flag = λ o k. refl };
+      time = λ t. refl;
+      ignored = λ w. refl;
+    }
 
 pub dull_page : IsDull page_change
-dull_page = record { cookie = λ c. refl; login = λ o s. refl; time = λ t. refl; ignored = λ w. refl }
+dull_page =
+    record {
+      plain = record { cookie = λ c. refl; login = λ o s. refl; kept = λ t k. refl; flag = λ o k. refl };
+      time = λ t. refl;
+      ignored = λ w. refl;
+    }
 
 pub dull_begins : (call : ℕ) → IsDull (begins call)
-dull_begins call = record { cookie = λ c. refl; login = λ o s. refl; time = λ t. refl; ignored = λ w. refl }
+dull_begins call =
+    record {
+      plain = record { cookie = λ c. refl; login = λ o s. refl; kept = λ t k. refl; flag = λ o k. refl };
+      time = λ t. refl;
+      ignored = λ w. refl;
+    }
 
 pub dull_asked : (call : ℕ) → IsDull (asked call)
-dull_asked call = record { cookie = λ c. refl; login = λ o s. refl; time = λ t. refl; ignored = λ w. refl }
+dull_asked call =
+    record {
+      plain = record { cookie = λ c. refl; login = λ o s. refl; kept = λ t k. refl; flag = λ o k. refl };
+      time = λ t. refl;
+      ignored = λ w. refl;
+    }
 
 pub dull_given : (call : ℕ) → IsDull (given call)
-dull_given call = record { cookie = λ c. refl; login = λ o s. refl; time = λ t. refl; ignored = λ w. refl }
+dull_given call =
+    record {
+      plain = record { cookie = λ c. refl; login = λ o s. refl; kept = λ t k. refl; flag = λ o k. refl };
+      time = λ t. refl;
+      ignored = λ w. refl;
+    }
 
 -- effects that say nothing
 pub quiet_silent : (call : ℕ) (effects : List Effect) → AllSilent stage_change effects → AllSilent call_change effects

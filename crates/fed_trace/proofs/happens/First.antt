@@ -7,7 +7,6 @@ use Rattle.std.specs.Option.{option_or}
 use Rattle.std.specs.List.{filter_map}
 use Rattle.url.specs.Parts.{Parts}
 use Rattle.fed_origin.specs.declared.options.GetOptions.{GetOptions}
-use Rattle.fed_origin.specs.declared.options.Mode.{Mode}
 use Rattle.fed_origin.specs.declared.options.ProviderOptions.{ProviderOptions}
 use Rattle.fed_origin.specs.declared.scheme.Scheme.{Scheme}
 use Rattle.fed_origin.specs.declared.scheme.Scheme.TheVariants.{Http, Https}
@@ -18,14 +17,13 @@ use Rattle.fed_status.specs.Shared.{World}
 use Rattle.fed_consent.specs.declared.table.failure.Failure.{Failure}
 use Rattle.fed_consent.specs.declared.table.finish.Finish.TheVariants.{Failed}
 use Rattle.fed_consent.specs.Outcomes.{Outcome, only_place}
-use Rattle.fed_call.specs.ReadingRows.{by_gate, by_scheme, start_at}
+use Rattle.fed_call.specs.ReadingRows.{by_gate, by_silence, by_scheme, start_at}
 use Rattle.fed_script.specs.declared.event.Event.{Event}
 use Rattle.fed_origin.specs.WebUrl.{scheme_of}
 use Rattle.fed_provider.specs.WellKnown.{WellKnownUrlOf}
 use Rattle.fed_status.specs.Kept.{has_pair}
 use Rattle.fed_disconnect.specs.Facts.{provider_origin}
 use Rattle.fed_disconnect.specs.Rows as disconnect
-use Rattle.fed_script.specs.declared.event.Event.TheVariants.{Get}
 use Rattle.fed_trace.specs.OfCall.{replaces}
 use Rattle.fed_trace.specs.Begun.{Begun, CallOptions, ToGet, ToDisconnect, kind_asked}
 use Rattle.fed_trace.specs.Call.{at_stage, get_outcome, first_row, known_first}
@@ -50,21 +48,26 @@ first_by_gate : (place : ℕ) (config wellknown : Parts) (gated : Bool) → Firs
 first_by_gate place config wellknown true = FailsFirst _ refl refl refl
 first_by_gate place config wellknown false = ReadsFirst refl refl refl
 
-first_by_scheme : (place : ℕ) (scheme : Scheme) (config : Parts) (wellknown : Answer Parts ProviderStep) (gated : Bool)
-    → FirstTurn (by_scheme place scheme config wellknown gated)
-first_by_scheme place Http config wellknown gated = FailsFirst _ refl refl refl
-first_by_scheme place Https config (Err step) gated = FailsFirst _ refl refl refl
-first_by_scheme place Https config (Ok wellknown) gated = first_by_gate place config wellknown gated
+first_by_silence : (place : ℕ) (config wellknown : Parts) (prevented gated : Bool)
+    → FirstTurn (by_silence place config wellknown prevented gated)
+first_by_silence place config wellknown true gated = FailsFirst _ refl refl refl
+first_by_silence place config wellknown false gated = first_by_gate place config wellknown gated
 
-first_start : (world : World) (mode : Mode) (providers : List ProviderOptions) → length providers ≡ 1
-    → FirstTurn (start_at world mode only_place (slice_get providers only_place))
-first_start world mode [] one = absurd (omega (arith, one))
-first_start world mode (provider ∷ more) one = first_by_scheme _ _ provider.config _ _
+first_by_scheme : (place : ℕ) (scheme : Scheme) (config : Parts) (wellknown : Answer Parts ProviderStep) (prevented gated : Bool)
+    → FirstTurn (by_scheme place scheme config wellknown prevented gated)
+first_by_scheme place Http config wellknown prevented gated = FailsFirst _ refl refl refl
+first_by_scheme place Https config (Err step) prevented gated = FailsFirst _ refl refl refl
+first_by_scheme place Https config (Ok wellknown) prevented gated = first_by_silence place config wellknown prevented gated
+
+first_start : (world : World) (origin : Origin) (options : GetOptions) (providers : List ProviderOptions) → length providers ≡ 1
+    → FirstTurn (start_at world origin options only_place (slice_get providers only_place))
+first_start world origin options [] one = absurd (omega (arith, one))
+first_start world origin options (provider ∷ more) one = first_by_scheme _ _ provider.config _ _ _
 
 get_turn : (world : World) (busy : Bool) (origin : Origin) (options : GetOptions) → length options.providers ≡ 1
     → FirstTurn (get_outcome world busy origin options)
 get_turn world true origin options one = FailsFirst _ refl refl refl
-get_turn world false origin options one = first_start world options.mode options.providers one
+get_turn world false origin options one = first_start world origin options options.providers one
 
 -- ---- a disconnect
 
@@ -98,24 +101,22 @@ pub record IsFirst (T : Trace) (call : ℕ) (options : CallOptions) : Type 0 whe
   pub one : HasOne options
 
 pub is_first : (T : Trace) (event : Event) (page call : ℕ) (options : CallOptions) → IsNew T.rows event
-    → Some event ≡ beginning page call options → IsFirst T call options
+    → event ≡ beginning page call options → IsFirst T call options
 is_first T event page call (ToGet options) new is =
-    let get : event ≡ Get page call options = cc in
-    let first = subst (IsNew T.rows) get new in
+    let first = subst (IsNew T.rows) is new in
     record { fresh = first.0; one = first.1 }
-is_first T event page call (ToDisconnect options) new is = absurd (cc)
+is_first T event page call (ToDisconnect options) new is = record { fresh = subst (IsNew T.rows) is new; one = tt }
 
 -- it brings no input, and loads and closes no page
 pub record IsBeginning (event : Event) : Type 0 where
   pub unsaid : (q : ℕ) → input_to q event ≡ None
   pub leaves_pages : (q : ℕ) → replaces q event ≡ false
 
-pub is_beginning : (event : Event) (page call : ℕ) (options : CallOptions) → Some event ≡ beginning page call options
+pub is_beginning : (event : Event) (page call : ℕ) (options : CallOptions) → event ≡ beginning page call options
     → IsBeginning event
-is_beginning event page call (ToGet options) is =
-    let get : event ≡ Get page call options = cc in
-    record { unsaid = λ q. ap (input_to q) get; leaves_pages = λ q. ap (replaces q) get }
-is_beginning event page call (ToDisconnect options) is = absurd (cc)
+is_beginning event page call (ToGet options) is = record { unsaid = λ q. ap (input_to q) is; leaves_pages = λ q. ap (replaces q) is }
+is_beginning event page call (ToDisconnect options) is =
+    record { unsaid = λ q. ap (input_to q) is; leaves_pages = λ q. ap (replaces q) is }
 
 pub begins_it : (T : Trace) (event : Event) (b : Begun) (o : Outcome)
     → effects_of T event ≡ Begin b ∷ outcome_effects (world_at T) (cookies_with T) (kind_asked b.options) b.call b.page o

@@ -5,7 +5,6 @@ use Rattle.std.proofs.Common.{subst, ◌∙◌, arith, cond}
 use Rattle.std.proofs.lemmas.Bool.Decides.{nat_tests}
 use Rattle.std.specs.Option.{option_or}
 use Rattle.std.specs.List.{list_any}
-use Rattle.fed_origin.specs.declared.options.GetOptions.{GetOptions}
 use Rattle.fed_origin.specs.declared.origin.Origin.{Origin}
 use Rattle.fed_origin.specs.Origin.{is_trustworthy}
 use Rattle.fed_origin.specs.WebUrl.{origin_of}
@@ -16,28 +15,30 @@ use Rattle.fed_consent.specs.declared.table.input.Input.TheVariants as inputs
 use Rattle.fed_consent.specs.Outcomes.{Outcome}
 use Rattle.fed_script.specs.declared.event.Event.{Event}
 use Rattle.fed_script.specs.declared.event.Event.TheVariants as events
-use Rattle.fed_script.specs.declared.event.Event.TheVariants.{At, Load, ClosePage, Get, SetStatus}
-use Rattle.fed_trace.specs.Begun.{Begun, CallKind, CallOptions, ToGet, kind_asked}
+use Rattle.fed_script.specs.declared.event.Event.TheVariants.{At, Load, ClosePage, Get, Prevent, SetStatus, Disconnect}
+use Rattle.fed_disconnect.specs.Facts.{disconnect_options}
+use Rattle.fed_trace.specs.Begun.{Begun, CallKind, CallOptions, ToGet, ToDisconnect, kind_asked}
 use Rattle.fed_trace.specs.Call.{Known, kind_of, page_of, first_row, input_row}
 use Rattle.fed_trace.specs.OfCall.{asked, given, replaces}
-use Rattle.fed_trace.specs.Effect.{pending_from, Page, Closed, Begin, page_change, call_change, stage_change, begins}
+use Rattle.fed_trace.specs.Effect.{Effect, pending_from, Page, Closed, Login, Flag, Begin, page_change, call_change, stage_change, begins}
 use Rattle.fed_trace.specs.Effect.{is_ignored}
 use Rattle.fed_trace.specs.Keyed.{last_said, says}
 use Rattle.fed_trace.specs.Known.{world_at, is_begun, input_to, with_said, known_at}
 use Rattle.fed_trace.specs.Row.{effects_of, cookies_with, cookies_from, outcome_effects, standing_call, begin_effects, input_effects}
-use Rattle.fed_trace.specs.Row.{is_busy, ends_of, close_effects, cookie_effects, login_effects, have_cookies, have_logins, set_cookies}
-use Rattle.fed_trace.specs.Row.{set_logins, status_effects}
+use Rattle.fed_trace.specs.Row.{is_busy, ends_of, close_effects, cookie_effects, login_effects, have_cookies, have_states, page_says}
+use Rattle.fed_trace.specs.Row.{set_cookies, set_logins}
 use Rattle.fed_trace.specs.Trace.{Trace, page_at, pending_of, now_at, gets}
 use Rattle.fed_trace.proofs.effects.Outcome.{last_said_after}
 use Rattle.fed_trace.proofs.calls.Pending.{ends_silent, load_rest_silent}
 use Rattle.fed_trace.proofs.effects.Silent.{last_said_silent}
-use Rattle.fed_trace.proofs.known.Known.{ignored_says}
+use Rattle.fed_trace.proofs.events.Aside.{have_silent, says_silent}
+use Rattle.fed_trace.proofs.known.Known.{ignored_says, said_of}
 use Rattle.fed_trace.proofs.happens.Says.{Quiet, own, outcome_pages, quiet_other}
-use Rattle.fed_trace.proofs.happens.Ends.{Takes, Happens, event_for, dull_have, dull_status, dull_stage, dull_call, dull_page, dull_begins}
+use Rattle.fed_trace.proofs.happens.Ends.{Takes, Happens, beginning, event_for, dull_stage, dull_call, dull_page, dull_begins}
 use Rattle.fed_trace.proofs.happens.Ends.{dull_asked, dull_given, quiet_silent, quiet_ignored, left, happens_load, happens_close, Started}
 use Rattle.fed_trace.proofs.happens.Ends.{Took}
 
--- ---- a get
+-- ---- a call that begins
 
 quiet_begin : (world : World) (cookies : Ask → List ℕ) (q : ℕ) (b : Begun) → nat_eq q b.call ≡ false → (outcome : Outcome)
     → Quiet q (Begin b ∷ outcome_effects world cookies (kind_asked b.options) b.call b.page outcome)
@@ -53,46 +54,48 @@ quiet_begin world cookies q b ne outcome =
       gives = rest.gives;
     }
 
-happens_get : (T : Trace) (page call : ℕ) (options : GetOptions) (q : ℕ) (o : Option Origin) → page_at T page ≡ o
-    → Happens T (Get page call options) q
-happens_get T page call options q None is =
-    left T (Get page call options) q
-    (subst (Quiet q) (sym (ap (λ o. begin_effects (world_at T) (cookies_with T) o (is_busy page (gets T)) page call (ToGet options)) is))
+happens_begin : (T : Trace) (event : Event) (page call : ℕ) (options : CallOptions) (q : ℕ) (o : Option Origin) → page_at T page ≡ o
+    → event ≡ beginning page call options
+    → effects_of T event ≡ begin_effects (world_at T) (cookies_with T) (page_at T page) (is_busy page (gets T)) page call options
+    → ((k : Known) → said_of T event q k ≡ k) → input_to q event ≡ None → ((other : ℕ) → replaces other event ≡ false)
+    → Happens T event q
+happens_begin T event page call options q None is is_event effects same unsaid none =
+    left T event q
+    (subst (Quiet q) (sym (effects ∙ ap (λ o. begin_effects (world_at T) (cookies_with T) o (is_busy page (gets T)) page call
+    options) is))
     (quiet_ignored q _))
-    (λ k. refl) (inl refl) (λ other. refl)
-happens_get T page call options q (Some origin) is = go (is_trustworthy origin) refl
+    same (inl unsaid) none
+happens_begin T event page call options q (Some origin) is is_event effects same unsaid none = go (is_trustworthy origin) refl
   where
     b : Begun
-    b = record { call = call; page = page; origin = origin; options = ToGet options }
+    b = record { call = call; page = page; origin = origin; options = options }
 
     standing : (trusted : Bool) → is_trustworthy origin ≡ trusted
-        → effects_of T (Get page call options) ≡ standing_call (world_at T) (cookies_with T) trusted (is_busy page (gets T)) b
+        → effects_of T event ≡ standing_call (world_at T) (cookies_with T) trusted (is_busy page (gets T)) b
     standing trusted trust =
-        ap (λ o. begin_effects (world_at T) (cookies_with T) o (is_busy page (gets T)) page call (ToGet options)) is
+        effects ∙ ap (λ o. begin_effects (world_at T) (cookies_with T) o (is_busy page (gets T)) page call options) is
         ∙ ap (λ t. standing_call (world_at T) (cookies_with T) t (is_busy page (gets T)) b) trust
 
-    taken : (own : Bool) → nat_eq q call ≡ own → is_trustworthy origin ≡ true → Happens T (Get page call options) q
+    taken : (own : Bool) → nat_eq q call ≡ own → is_trustworthy origin ≡ true → Happens T event q
     taken true key trust =
-        let same : call ≡ q = grind (arith, nat_tests, key) in
+        let same_call : call ≡ q = grind (arith, nat_tests, key) in
         Started (record {
           begun = b;
-          is_call = same;
+          is_call = same_call;
           stands = is;
-          is_event = refl;
+          is_event = is_event;
           busy = is_busy page (gets T);
-          effects =
-              standing true trust;
+          effects = standing true trust;
         })
     taken false key trust =
-        left T (Get page call options) q
+        left T event q
         (subst (Quiet q) (sym (standing true trust)) (quiet_begin (world_at T) (cookies_with T) q b key
-        (first_row (world_at T) (is_busy page (gets T)) origin (ToGet options))))
-        (λ k. refl) (inl refl) (λ other. refl)
+        (first_row (world_at T) (is_busy page (gets T)) origin options)))
+        same (inl unsaid) none
 
-    go : (trusted : Bool) → is_trustworthy origin ≡ trusted → Happens T (Get page call options) q
+    go : (trusted : Bool) → is_trustworthy origin ≡ trusted → Happens T event q
     go false trust =
-        left T (Get page call options) q (subst (Quiet q) (sym (standing false trust)) (quiet_ignored q _)) (λ k. refl) (inl refl)
-        (λ other. refl)
+        left T event q (subst (Quiet q) (sym (standing false trust)) (quiet_ignored q _)) same (inl unsaid) none
     go true trust = taken (nat_eq q call) refl trust
 
 -- ---- an input
@@ -147,28 +150,49 @@ happens_input T event call input q effects said is_event none = go (is_begun T c
         (refused (nat_eq q call) refl is) none
     go true is = taken (nat_eq q call) refl is
 
+-- ---- a page that says something of its origin
+
+happens_says : (T : Trace) (event : Event) (q page : ℕ) (says : Origin → Effect)
+    → effects_of T event ≡ page_says (page_at T page) says
+    → ((o : Origin) → stage_change (says o) ≡ None) → ((o : Origin) → call_change (says o) ≡ None)
+    → ((o : Origin) → begins q (says o) ≡ None)
+    → ((o : Origin) → asked q (says o) ≡ None) → ((o : Origin) → given q (says o) ≡ None)
+    → ((k : Known) → said_of T event q k ≡ k) → input_to q event ≡ None → ((other : ℕ) → replaces other event ≡ false)
+    → Happens T event q
+happens_says T event q page says effects stage pending begins_none asks gives same unsaid none =
+    left T event q (subst (Quiet q) (sym effects)
+    (quiet_silent q (page_says (page_at T page) says)
+    (says_silent stage_change says stage dull_stage.ignored (page_at T page))
+    (says_silent call_change says pending dull_call.ignored (page_at T page))
+    (says_silent (begins q) says begins_none (dull_begins q).ignored (page_at T page))
+    (says_silent (asked q) says asks (dull_asked q).ignored (page_at T page))
+    (says_silent (given q) says gives (dull_given q).ignored (page_at T page))))
+    same (inl unsaid) none
+
 pub happens : (T : Trace) (event : Event) (q : ℕ) → Happens T event q
 happens T (events.Have have) q =
     let found = have_cookies T.header.rules (now_at T) have in
     left T (events.Have have) q
     (quiet_silent q (cookie_effects found
-    ++ have_logins have) (dull_have stage_change dull_stage found have) (dull_have call_change dull_call found have)
-    (dull_have (begins q) (dull_begins q) found have) (dull_have (asked q) (dull_asked q) found have)
-    (dull_have (given q) (dull_given q) found have))
+    ++ have_states have) (have_silent stage_change dull_stage.plain found have) (have_silent call_change dull_call.plain found have)
+    (have_silent (begins q) (dull_begins q).plain found have) (have_silent (asked q) (dull_asked q).plain found have)
+    (have_silent (given q) (dull_given q).plain found have))
     (λ k. refl) (inl refl) (λ other. refl)
 happens T (At time) q =
     left T (At time) q (record { stage = refl; pending = refl; begins_none = refl; asks = refl; gives = refl }) (λ k. refl) (inl
     refl) (λ other. refl)
-happens T (SetStatus page status) q =
-    let o = page_at T page in
-    left T (SetStatus page status) q
-    (quiet_silent q (status_effects o status) (dull_status stage_change dull_stage o status) (dull_status call_change dull_call o status)
-    (dull_status (begins q) (dull_begins q) o status) (dull_status (asked q) (dull_asked q) o status)
-    (dull_status (given q) (dull_given q) o status))
-    (λ k. refl) (inl refl) (λ other. refl)
+happens T (Prevent page) q = happens_says T (Prevent page) q page (λ origin. Flag origin true) refl
+    (λ o. refl) (λ o. refl) (λ o. refl) (λ o. refl) (λ o. refl) (λ k. refl) refl (λ other. refl)
+happens T (SetStatus page status) q = happens_says T (SetStatus page status) q page (λ origin. Login origin status) refl
+    (λ o. refl) (λ o. refl) (λ o. refl) (λ o. refl) (λ o. refl) (λ k. refl) refl (λ other. refl)
 happens T (Load page url raw) q = happens_load T page url raw q
 happens T (ClosePage page) q = happens_close T page q (page_at T page) refl
-happens T (Get page call options) q = happens_get T page call options q (page_at T page) refl
+happens T (Get page call options) q =
+    happens_begin T (Get page call options) page call (ToGet options) q (page_at T page) refl refl refl (λ k. refl) refl (λ other. refl)
+happens T (Disconnect page call config client hint) q =
+    happens_begin T (Disconnect page call config client hint) page call
+    (ToDisconnect (disconnect_options config client hint)) q (page_at T page) refl refl refl (λ k. refl) refl
+    (λ other. refl)
 happens T (events.Abort call) q = happens_input T (events.Abort call) call inputs.Abort q refl (λ other. refl) refl (λ other. refl)
 happens T (events.Reply call provider kind raw) q =
     happens_input T (events.Reply call provider kind raw) call (inputs.Reply provider kind raw) q refl (λ other. refl) refl (λ other. refl)
@@ -220,11 +244,14 @@ close_pages calls page q (Some origin) ne =
 pub pages_left : (T : Trace) (event : Event) (q : ℕ) → replaces q event ≡ false → last_said nat_eq page_change q (effects_of T event) ≡ None
 pages_left T (events.Have have) q h =
     let found = have_cookies T.header.rules (now_at T) have in
-    last_said_silent nat_eq page_change q (cookie_effects found ++ have_logins have) (dull_have page_change dull_page found have)
+    last_said_silent nat_eq page_change q (cookie_effects found ++ have_states have) (have_silent page_change dull_page.plain found have)
 pages_left T (At time) q h = refl
+pages_left T (Prevent page) q h =
+    last_said_silent nat_eq page_change q (page_says (page_at T page) (λ origin. Flag origin true))
+    (says_silent page_change (λ origin. Flag origin true) (λ o. refl) dull_page.ignored (page_at T page))
 pages_left T (SetStatus page status) q h =
-    last_said_silent nat_eq page_change q (status_effects (page_at T page) status)
-    (dull_status page_change dull_page (page_at T page) status)
+    last_said_silent nat_eq page_change q (page_says (page_at T page) (λ origin. Login origin status))
+    (says_silent page_change (λ origin. Login origin status) (λ o. refl) dull_page.ignored (page_at T page))
 pages_left T (Load page url raw) q h =
     let found = cookies_from T.header.rules url (now_at T) (set_cookies raw) in
     let rest = cookie_effects found ++ login_effects (origin_of url) (set_logins raw) in
@@ -236,6 +263,9 @@ pages_left T (Load page url raw) q h =
 pages_left T (ClosePage page) q h = close_pages (pending_of T page) page q (page_at T page) h
 pages_left T (Get page call options) q h =
     begin_pages (world_at T) (cookies_with T) (page_at T page) (is_busy page (gets T)) page call q (ToGet options)
+pages_left T (Disconnect page call config client hint) q h =
+    begin_pages (world_at T) (cookies_with T) (page_at T page) (is_busy page (gets T)) page call q
+    (ToDisconnect (disconnect_options config client hint))
 pages_left T (events.Abort call) q h = input_pages T (events.Abort call) call inputs.Abort q refl
 pages_left T (events.Reply call provider kind raw) q h =
     input_pages T (events.Reply call provider kind raw) call (inputs.Reply provider kind raw) q refl

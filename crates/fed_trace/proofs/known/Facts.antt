@@ -8,72 +8,111 @@ use Rattle.fed_origin.specs.declared.stage.Stage.{Stage}
 use Rattle.fed_accounts.specs.declared.account.Account.{Account}
 use Rattle.fed_accounts.specs.declared.step.AccountsStep.{AccountsStep}
 use Rattle.fed_status.specs.Shared.{World}
-use Rattle.fed_consent.specs.Consent.{Candidate, chosen}
+use Rattle.fed_consent.specs.Consent.{Candidate, Pick, chosen}
 use Rattle.fed_consent.specs.declared.table.input.Input.{Input}
 use Rattle.fed_consent.specs.declared.table.input.Input.TheVariants as inputs
 use Rattle.fed_call.specs.Accounts.{accounts_of}
-use Rattle.fed_call.specs.Facts.{Facts, with_accounts, with_choice, with_list, with_listing, with_reply, provider_at}
+use Rattle.fed_call.specs.Facts.{Facts, by_account, with_accounts, with_choice, with_list, with_listing, with_offer, with_reply}
+use Rattle.fed_call.specs.Facts.{provider_at, reselected}
 use Rattle.fed_call.specs.Facts as get
 use Rattle.fed_disconnect.specs.Facts.{DisconnectFacts}
 use Rattle.fed_disconnect.specs.Facts as disconnect
 use Rattle.fed_trace.specs.Call.{Known, OfGet, OfDisconnect, kind_of, page_of, with_input}
 
--- a reading of facts that leaves the page, its origin and the options, and does not look at the stage
+-- a reading of facts that leaves the number, the page, its origin and the options, and does not look at the stage
 record Keeps (f : Facts → Facts) : Type 0 where
+  call : (facts : Facts) → (f facts).call ≡ facts.call
   page : (facts : Facts) → (f facts).page ≡ facts.page
   origin : (facts : Facts) → (f facts).origin ≡ facts.origin
   options : (facts : Facts) → (f facts).options ≡ facts.options
   staged : (facts : Facts) (stage : Stage) → f (record facts { stage = stage }) ≡ record (f facts) { stage = stage }
 
-accounts_keep : (world : World) (provider : ProviderOptions) (accounts : List Account) → Keeps (with_accounts world provider accounts)
-accounts_keep world provider [] = record { page = λ f. refl; origin = λ f. refl; options = λ f. refl; staged = λ f s. refl }
-accounts_keep world provider (only ∷ []) = record { page = λ f. refl; origin = λ f. refl; options = λ f. refl; staged = λ f s. refl }
-accounts_keep world provider (first ∷ second ∷ more) =
-    record { page = λ f. refl; origin = λ f. refl; options = λ f. refl; staged = λ f s. refl }
+offer_keeps : (world : World) (provider : ProviderOptions) (accounts : List Account) → Keeps (with_offer world provider accounts)
+offer_keeps world provider [] =
+    record { call = λ f. refl; page = λ f. refl; origin = λ f. refl; options = λ f. refl; staged = λ f s. refl }
+offer_keeps world provider (only ∷ []) =
+    record { call = λ f. refl; page = λ f. refl; origin = λ f. refl; options = λ f. refl; staged = λ f s. refl }
+offer_keeps world provider (first ∷ second ∷ more) =
+    record { call = λ f. refl; page = λ f. refl; origin = λ f. refl; options = λ f. refl; staged = λ f s. refl }
 
-list_keeps : (world : World) (provider : ProviderOptions) (read : Result (List Account) AccountsStep)
-    → Keeps (with_list world provider read)
-list_keeps world provider (Err step) = record { page = λ f. refl; origin = λ f. refl; options = λ f. refl; staged = λ f s. refl }
-list_keeps world provider (Ok accounts) = accounts_keep world provider accounts
+account_keeps : (world : World) (provider : ProviderOptions) (accounts : List Account) (pick : Option Pick)
+    → Keeps (by_account world provider accounts pick)
+account_keeps world provider accounts None = offer_keeps world provider accounts
+account_keeps world provider accounts (Some pick) =
+    record { call = λ f. refl; page = λ f. refl; origin = λ f. refl; options = λ f. refl; staged = λ f s. refl }
 
-listing_keeps : (world : World) (raw : List ℕ) (provider : Option ProviderOptions) → Keeps (with_listing world raw provider)
-listing_keeps world raw None = record { page = λ f. refl; origin = λ f. refl; options = λ f. refl; staged = λ f s. refl }
-listing_keeps world raw (Some provider) = list_keeps world provider (accounts_of raw provider)
+accounts_keep : (world : World) (place : ℕ) (provider : ProviderOptions) (accounts : List Account)
+    → Keeps (with_accounts world place provider accounts)
+accounts_keep world place provider accounts =
+    record {
+      call = λ f. (account_keeps world provider accounts (reselected world f place provider accounts)).call f;
+      page = λ f. (account_keeps world provider accounts (reselected world f place provider accounts)).page f;
+      origin = λ f. (account_keeps world provider accounts (reselected world f place provider accounts)).origin f;
+      options = λ f. (account_keeps world provider accounts (reselected world f place provider accounts)).options f;
+      staged = λ f s. (account_keeps world provider accounts (reselected world f place provider accounts)).staged f s;
+    }
+
+list_keeps : (world : World) (place : ℕ) (provider : ProviderOptions) (read : Result (List Account) AccountsStep)
+    → Keeps (with_list world place provider read)
+list_keeps world place provider (Err step) =
+    record { call = λ f. refl; page = λ f. refl; origin = λ f. refl; options = λ f. refl; staged = λ f s. refl }
+list_keeps world place provider (Ok accounts) = accounts_keep world place provider accounts
+
+listing_keeps : (world : World) (raw : List ℕ) (place : ℕ) (provider : Option ProviderOptions)
+    → Keeps (with_listing world raw place provider)
+listing_keeps world raw place None =
+    record { call = λ f. refl; page = λ f. refl; origin = λ f. refl; options = λ f. refl; staged = λ f s. refl }
+listing_keeps world raw place (Some provider) = list_keeps world place provider (accounts_of raw provider)
 
 reply_keeps : (world : World) (place : ℕ) (kind : ReplyKind) (raw : List ℕ) → Keeps (with_reply world place kind raw)
-reply_keeps world place kinds.WellKnown raw = record { page = λ f. refl; origin = λ f. refl; options = λ f. refl; staged = λ f s. refl }
-reply_keeps world place kinds.Config raw = record { page = λ f. refl; origin = λ f. refl; options = λ f. refl; staged = λ f s. refl }
+reply_keeps world place kinds.WellKnown raw =
+    record { call = λ f. refl; page = λ f. refl; origin = λ f. refl; options = λ f. refl; staged = λ f s. refl }
+reply_keeps world place kinds.Config raw =
+    record { call = λ f. refl; page = λ f. refl; origin = λ f. refl; options = λ f. refl; staged = λ f s. refl }
 reply_keeps world place kinds.Accounts raw =
     record {
-      page = λ f. (listing_keeps world raw (provider_at place f.options)).page f;
-      origin = λ f. (listing_keeps world raw (provider_at place f.options)).origin f;
-      options = λ f. (listing_keeps world raw (provider_at place f.options)).options f;
-      staged = λ f s. (listing_keeps world raw (provider_at place f.options)).staged f s;
+      call = λ f. (listing_keeps world raw place (provider_at place f.options)).call f;
+      page = λ f. (listing_keeps world raw place (provider_at place f.options)).page f;
+      origin = λ f. (listing_keeps world raw place (provider_at place f.options)).origin f;
+      options = λ f. (listing_keeps world raw place (provider_at place f.options)).options f;
+      staged = λ f s. (listing_keeps world raw place (provider_at place f.options)).staged f s;
     }
-reply_keeps world place kinds.Metadata raw = record { page = λ f. refl; origin = λ f. refl; options = λ f. refl; staged = λ f s. refl }
-reply_keeps world place kinds.Assertion raw = record { page = λ f. refl; origin = λ f. refl; options = λ f. refl; staged = λ f s. refl }
-reply_keeps world place kinds.Disconnect raw = record { page = λ f. refl; origin = λ f. refl; options = λ f. refl; staged = λ f s. refl }
+reply_keeps world place kinds.Metadata raw =
+    record { call = λ f. refl; page = λ f. refl; origin = λ f. refl; options = λ f. refl; staged = λ f s. refl }
+reply_keeps world place kinds.Assertion raw =
+    record { call = λ f. refl; page = λ f. refl; origin = λ f. refl; options = λ f. refl; staged = λ f s. refl }
+reply_keeps world place kinds.Disconnect raw =
+    record { call = λ f. refl; page = λ f. refl; origin = λ f. refl; options = λ f. refl; staged = λ f s. refl }
 
 choice_keeps : (candidate : Option Candidate) → Keeps (with_choice candidate)
-choice_keeps None = record { page = λ f. refl; origin = λ f. refl; options = λ f. refl; staged = λ f s. refl }
-choice_keeps (Some candidate) = record { page = λ f. refl; origin = λ f. refl; options = λ f. refl; staged = λ f s. refl }
+choice_keeps None = record { call = λ f. refl; page = λ f. refl; origin = λ f. refl; options = λ f. refl; staged = λ f s. refl }
+choice_keeps (Some candidate) =
+    record { call = λ f. refl; page = λ f. refl; origin = λ f. refl; options = λ f. refl; staged = λ f s. refl }
 
 input_keeps : (world : World) (ignored : Bool) (input : Input) → Keeps (get.with_input world ignored input)
-input_keeps world true input = record { page = λ f. refl; origin = λ f. refl; options = λ f. refl; staged = λ f s. refl }
+input_keeps world true input =
+    record { call = λ f. refl; page = λ f. refl; origin = λ f. refl; options = λ f. refl; staged = λ f s. refl }
 input_keeps world false (inputs.Reply place kind raw) = reply_keeps world place kind raw
 input_keeps world false (inputs.Choose place account) =
     record {
+      call = λ f. (choice_keeps (option_and_then (chosen account) f.listed)).call f;
       page = λ f. (choice_keeps (option_and_then (chosen account) f.listed)).page f;
       origin = λ f. (choice_keeps (option_and_then (chosen account) f.listed)).origin f;
       options = λ f. (choice_keeps (option_and_then (chosen account) f.listed)).options f;
       staged = λ f s. (choice_keeps (option_and_then (chosen account) f.listed)).staged f s;
     }
-input_keeps world false inputs.GoOn = record { page = λ f. refl; origin = λ f. refl; options = λ f. refl; staged = λ f s. refl }
-input_keeps world false inputs.Cancel = record { page = λ f. refl; origin = λ f. refl; options = λ f. refl; staged = λ f s. refl }
-input_keeps world false inputs.SignIn = record { page = λ f. refl; origin = λ f. refl; options = λ f. refl; staged = λ f s. refl }
-input_keeps world false inputs.Shut = record { page = λ f. refl; origin = λ f. refl; options = λ f. refl; staged = λ f s. refl }
-input_keeps world false inputs.Resume = record { page = λ f. refl; origin = λ f. refl; options = λ f. refl; staged = λ f s. refl }
-input_keeps world false inputs.Abort = record { page = λ f. refl; origin = λ f. refl; options = λ f. refl; staged = λ f s. refl }
+input_keeps world false inputs.GoOn =
+    record { call = λ f. refl; page = λ f. refl; origin = λ f. refl; options = λ f. refl; staged = λ f s. refl }
+input_keeps world false inputs.Cancel =
+    record { call = λ f. refl; page = λ f. refl; origin = λ f. refl; options = λ f. refl; staged = λ f s. refl }
+input_keeps world false inputs.SignIn =
+    record { call = λ f. refl; page = λ f. refl; origin = λ f. refl; options = λ f. refl; staged = λ f s. refl }
+input_keeps world false inputs.Shut =
+    record { call = λ f. refl; page = λ f. refl; origin = λ f. refl; options = λ f. refl; staged = λ f s. refl }
+input_keeps world false inputs.Resume =
+    record { call = λ f. refl; page = λ f. refl; origin = λ f. refl; options = λ f. refl; staged = λ f s. refl }
+input_keeps world false inputs.Abort =
+    record { call = λ f. refl; page = λ f. refl; origin = λ f. refl; options = λ f. refl; staged = λ f s. refl }
 
 -- ---- of a call of either kind
 
@@ -124,6 +163,10 @@ with_input-at world ignored input (OfGet facts) stage = ap OfGet ((input_keeps w
 with_input-at world ignored input (OfDisconnect facts) stage = ap OfDisconnect (disconnect_at world ignored input facts stage)
 
 -- ---- of a get
+
+pub same_call : (world : World) (ignored : Bool) (input : Input) (facts : Facts)
+    → (get.with_input world ignored input facts).call ≡ facts.call
+same_call world ignored input facts = (input_keeps world ignored input).call facts
 
 pub same_origin_of : (world : World) (ignored : Bool) (input : Input) (facts : Facts)
     → (get.with_input world ignored input facts).origin ≡ facts.origin

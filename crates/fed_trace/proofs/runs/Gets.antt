@@ -19,15 +19,16 @@ use Rattle.fed_consent.specs.Outcomes.{Outcome}
 use Rattle.fed_script.specs.declared.event.Event.{Event}
 use Rattle.fed_script.specs.declared.event.Event.TheVariants as events
 use Rattle.fed_script.specs.declared.event.Header.{Header}
-use Rattle.fed_trace.specs.Begun.{Begun, CallKind, CallOptions, ToGet, kind_asked}
+use Rattle.fed_disconnect.specs.Facts.{disconnect_options}
+use Rattle.fed_trace.specs.Begun.{Begun, CallKind, CallOptions, ToGet, ToDisconnect, kind_asked}
 use Rattle.fed_trace.specs.Call.{Known, OfGet, OfDisconnect, kind_of, page_of, stage_of, known_first, first_row, input_row}
 use Rattle.fed_trace.specs.Effect.{Effect, PendingCall, pending_from, Time, Page, Closed, Cookie, Login, Begin, Move, Sent, Shown, Window}
 use Rattle.fed_trace.specs.Effect.{Kept, Flag, Result, Ignored, is_ignored, last_of, begins, call_change, get_change, begun_by}
 use Rattle.fed_trace.specs.Keyed.{entries_after}
 use Rattle.fed_trace.specs.Known.{world_at, is_begun, input_to, with_said, known_in, known_at}
 use Rattle.fed_trace.specs.Row.{effects_of, cookies_with, outcome_effects, call_effects, moves, input_effects, begin_effects, standing_call}
-use Rattle.fed_trace.specs.Row.{is_busy, ends_of, cookie_effects, login_effects, have_cookies, have_logins, cookies_from, set_cookies}
-use Rattle.fed_trace.specs.Row.{set_logins, status_effects, close_effects, IsNew, IsRun}
+use Rattle.fed_trace.specs.Row.{is_busy, ends_of, cookie_effects, login_effects, have_cookies, have_states, cookies_from, set_cookies}
+use Rattle.fed_trace.specs.Row.{set_logins, page_says, close_effects, IsNew, IsRun}
 use Rattle.fed_trace.specs.Trace.{Row, Trace, calls_of, begun, pending, pending_of, gets, page_at, stage_at, now_at, last_value, standing}
 use Rattle.fed_trace.proofs.keyed.Keyed.{IsAbsent, AreDistinct, entries_after-append, distinct_standing, lookup-standing}
 use Rattle.fed_trace.proofs.keyed.Keyed.{lookup-insert_entry}
@@ -37,7 +38,7 @@ use Rattle.fed_trace.proofs.calls.Gets.{gets_among, IsOfKind, gets_insert, gets_
 use Rattle.fed_trace.proofs.known.Known.{found_by}
 use Rattle.fed_trace.proofs.known.Facts.{staged}
 use Rattle.fed_trace.proofs.known.Kinds.{Says, Begun_last, Over_last, Nothing, says_of, kinds_agree}
-use Rattle.fed_trace.proofs.events.Aside.{have_silent, status_silent}
+use Rattle.fed_trace.proofs.events.Aside.{have_silent, says_silent}
 
 -- what effects leave of gets is what they leave of the gets among pending calls
 abbrev Keeps : List (ℕ × PendingCall) → List Effect → Type 0
@@ -186,10 +187,10 @@ keeps_input T event call input effects = keeps_is (pending T) (effects_of T even
     go false = refl
     go true = taken (known_at T call) refl
 
-keeps_get : (T : Trace) (o : Option Origin) (page call : ℕ) (options : CallOptions) → list_any (nat_eq call) (begun T.rows) ≡ false
+keeps_begun : (T : Trace) (o : Option Origin) (page call : ℕ) (options : CallOptions) → list_any (nat_eq call) (begun T.rows) ≡ false
     → Keeps (pending T) (begin_effects (world_at T) (cookies_with T) o (is_busy page (gets T)) page call options)
-keeps_get T None page call options new = refl
-keeps_get T (Some origin) page call options new = go (is_trustworthy origin)
+keeps_begun T None page call options new = refl
+keeps_begun T (Some origin) page call options new = go (is_trustworthy origin)
   where
     go : (trusted : Bool)
         → Keeps (pending T) (standing_call (world_at T) (cookies_with T) trusted (is_busy page (gets T)) (record
@@ -211,13 +212,18 @@ keeps_close T page (Some origin) =
 keeps_row : (T : Trace) (event : Event) → IsNew T.rows event → Keeps (pending T) (effects_of T event)
 keeps_row T (events.Have have) new =
     let found = have_cookies T.header.rules (now_at T) have in
-    keeps_silent (pending T) (cookie_effects found ++ have_logins have) (have_silent call_change (λ c. refl) (λ o s. refl) found have)
-    (have_silent get_change (λ c. refl) (λ o s. refl) found have)
+    keeps_silent (pending T) (cookie_effects found ++ have_states have)
+    (have_silent call_change (record { cookie = λ c. refl; login = λ o s. refl; kept = λ t k. refl; flag = λ o k. refl }) found have)
+    (have_silent get_change (record { cookie = λ c. refl; login = λ o s. refl; kept = λ t k. refl; flag = λ o k. refl }) found have)
 keeps_row T (events.At time) new = refl
+keeps_row T (events.Prevent page) new =
+    keeps_silent (pending T) (page_says (page_at T page) (λ origin. Flag origin true))
+    (says_silent call_change (λ origin. Flag origin true) (λ o. refl) (λ w. refl) (page_at T page))
+    (says_silent get_change (λ origin. Flag origin true) (λ o. refl) (λ w. refl) (page_at T page))
 keeps_row T (events.SetStatus page status) new =
-    keeps_silent (pending T) (status_effects (page_at T page) status)
-    (status_silent call_change (λ o s. refl) (λ w. refl) (page_at T page) status)
-    (status_silent get_change (λ o s. refl) (λ w. refl) (page_at T page) status)
+    keeps_silent (pending T) (page_says (page_at T page) (λ origin. Login origin status))
+    (says_silent call_change (λ origin. Login origin status) (λ o. refl) (λ w. refl) (page_at T page))
+    (says_silent get_change (λ origin. Login origin status) (λ o. refl) (λ w. refl) (page_at T page))
 keeps_row T (events.Load page url raw) new =
     let found = cookies_from T.header.rules url (now_at T) (set_cookies raw) in
     let origin = origin_of url in
@@ -226,7 +232,9 @@ keeps_row T (events.Load page url raw) new =
     (refl, load_rest_silent call_change (λ c. refl) (λ o s. refl) found origin (set_logins raw))
     (refl, load_rest_silent get_change (λ c. refl) (λ o s. refl) found origin (set_logins raw)) (ends_of (pending_of T page)) refl
 keeps_row T (events.ClosePage page) new = keeps_close T page (page_at T page)
-keeps_row T (events.Get page call options) new = keeps_get T (page_at T page) page call (ToGet options) new.0
+keeps_row T (events.Get page call options) new = keeps_begun T (page_at T page) page call (ToGet options) new.0
+keeps_row T (events.Disconnect page call config client hint) new =
+    keeps_begun T (page_at T page) page call (ToDisconnect (disconnect_options config client hint)) new
 keeps_row T (events.Abort call) new = keeps_input T (events.Abort call) call inputs.Abort refl
 keeps_row T (events.Reply call provider kind raw) new =
     keeps_input T (events.Reply call provider kind raw) call (inputs.Reply provider kind raw) refl

@@ -30,7 +30,9 @@ is_new rows used (events.Reply call provider kind raw) untaken may = tt
 is_new rows used (events.Choose call provider account) untaken may = tt
 is_new rows used (events.GoOn call) untaken may = tt
 is_new rows used (events.Cancel call) untaken may = tt
+is_new rows used (events.Prevent page) untaken may = tt
 is_new rows used (events.SetStatus page status) untaken may = tt
+is_new rows used (events.Disconnect page call config client hint) untaken may = untaken call may.once
 
 -- a run goes on with events that may follow
 runs_on : (T : Trace) (used : UsedState) (ns : List Numbered)

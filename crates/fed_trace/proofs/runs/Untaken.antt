@@ -4,9 +4,10 @@ use Rattle.std.proofs.lemmas.List.Folds.{list_any-append}
 use Rattle.std.specs.List.{list_any, filter_map}
 use Rattle.fed_script.specs.declared.event.Event.{Event}
 use Rattle.fed_script.specs.declared.event.Event.TheVariants as events
-use Rattle.fed_script.specs.declared.event.Event.TheVariants.{Get}
+use Rattle.fed_script.specs.declared.event.Event.TheVariants.{Get, Disconnect}
 use Rattle.fed_script.specs.Used.{UsedState, used_after}
-use Rattle.fed_trace.specs.Begun.{ToGet}
+use Rattle.fed_disconnect.specs.Facts.{disconnect_options}
+use Rattle.fed_trace.specs.Begun.{ToGet, ToDisconnect}
 use Rattle.fed_trace.specs.Effect.{begun_by}
 use Rattle.fed_trace.specs.Known.{world_at}
 use Rattle.fed_trace.specs.Row.{with_event, effects_of, cookies_with, is_busy}
@@ -37,6 +38,11 @@ pub untaken_after : (T : Trace) (line : ℕ) (event : Event) (used : UsedState) 
 untaken_after T line (Get page c options) used h =
     untaken_push used.calls (begun T.rows) (filter_map begun_by (effects_of T (Get page c options))) c h
     (call_begins (world_at T) (cookies_with T) (page_at T page) (is_busy page (gets T)) page c (ToGet options))
+untaken_after T line (Disconnect page c config client hint) used h =
+    untaken_push used.calls (begun T.rows) (filter_map begun_by (effects_of T (Disconnect page c config client hint))) c h
+    (call_begins (world_at T) (cookies_with T) (page_at T page) (is_busy page (gets T)) page c
+    (ToDisconnect (disconnect_options config client hint)))
+untaken_after T line (events.Prevent page) used h = untaken_same used.calls (begun T.rows) _ (begins_none T (events.Prevent page) refl) h
 untaken_after T line (events.Have have) used h = untaken_same used.calls (begun T.rows) _ (begins_none T (events.Have have) refl) h
 untaken_after T line (events.At time) used h = untaken_same used.calls (begun T.rows) _ (begins_none T (events.At time) refl) h
 untaken_after T line (events.Load page url raw) used h =

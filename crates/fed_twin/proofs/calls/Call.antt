@@ -35,8 +35,8 @@ use Rattle.fed_consent.specs.declared.table.input.Input.TheVariants as inputs
 use Rattle.fed_consent.specs.declared.table.why.Why.{Why}
 use Rattle.fed_consent.specs.Consent.{Candidate}
 use Rattle.fed_call.specs.Accounts.{accounts_of, candidate_of}
-use Rattle.fed_call.specs.Facts.{Facts, at_stage, provider_at, with_candidate, with_accounts, with_list, with_listing, with_choice}
-use Rattle.fed_call.specs.Facts.{with_input, facts_after}
+use Rattle.fed_call.specs.Facts.{Facts, at_stage, provider_at, with_candidate, reselected, with_offer, by_account, with_accounts, with_list}
+use Rattle.fed_call.specs.Facts.{with_listing, with_choice, with_input, facts_after}
 use Rattle.fed_provider.specs.FirstReplies.{config_read, wellknown_of, wellknown_read}
 use Rattle.fed_consent.specs.Outcomes.{Outcome, fails, ignored, moves, after, is_ignored}
 use Rattle.fed_call.specs.ReadingRows.{wellknown_reply, config_reply}
@@ -244,12 +244,12 @@ lengths : {A B C : Type 0} (g : A → B) (h : A → C) (xs : List A) → length 
 lengths g h [] = refl
 lengths g h (x ∷ xs) = ap suc (lengths g h xs)
 
-same_accounts : (p : Providers) (w w' : World) (f f' : Facts) → SameData p f f' → (q q' : ProviderOptions) (accounts : List Account)
-    → SameData p (with_accounts w q accounts f) (with_accounts w' q' accounts f')
-same_accounts p w w' f f' d q q' [] = d
-same_accounts p w w' f f' d q q' (only ∷ []) =
+same_offer : (p : Providers) (w w' : World) (f f' : Facts) → SameData p f f' → (q q' : ProviderOptions) (accounts : List Account)
+    → SameData p (with_offer w q accounts f) (with_offer w' q' accounts f')
+same_offer p w w' f f' d q q' [] = d
+same_offer p w w' f f' d q q' (only ∷ []) =
     same_candidate p f f' d (candidate_of w f.origin q only) (candidate_of w' f'.origin q' only)
-same_accounts p w w' f f' d q q' (first ∷ second ∷ more) =
+same_offer p w w' f f' d q q' (first ∷ second ∷ more) =
     record {
       options = d.options;
       heard = d.heard;
@@ -258,11 +258,25 @@ same_accounts p w w' f f' d q q' (first ∷ second ∷ more) =
       listed = record { accounts = refl; connected = lengths _ _ (first ∷ second ∷ more) };
     }
 
-same_list : (p : Providers) (w w' : World) (f f' : Facts) → SameData p f f'
+-- no account is reselected of what was read
+abbrev pub ReselectsNone : World → Facts → ℕ → ProviderOptions → Answer (List Account) AccountsStep → Type 0
+ReselectsNone w f place q (Err step) = ⊤
+ReselectsNone w f place q (Ok accounts) = reselected w f place q accounts ≡ None
+
+-- none of a reply
+abbrev pub OffersOnly : World → Facts → ℕ → Option ProviderOptions → List ℕ → Type 0
+OffersOnly w f place None raw = ⊤
+OffersOnly w f place (Some q) raw = ReselectsNone w f place q (accounts_of raw q)
+
+same_list : (p : Providers) (w w' : World) (f f' : Facts) → SameData p f f' → (place : ℕ)
     → (q q' : ProviderOptions) (read : Answer (List Account) AccountsStep)
-    → SameData p (with_list w q read f) (with_list w' q' read f')
-same_list p w w' f f' d q q' (Err step) = d
-same_list p w w' f f' d q q' (Ok accounts) = same_accounts p w w' f f' d q q' accounts
+    → ReselectsNone w f place q read → ReselectsNone w' f' place q' read
+    → SameData p (with_list w place q read f) (with_list w' place q' read f')
+same_list p w w' f f' d place q q' (Err step) none none' = d
+same_list p w w' f f' d place q q' (Ok accounts) none none' =
+    subst (λ r. SameData p (by_account w q accounts r f) (with_accounts w' place q' accounts f')) (sym none)
+    (subst (λ r. SameData p (with_offer w q accounts f) (by_account w' q' accounts r f')) (sym none')
+    (same_offer p w w' f f' d q q' accounts))
 
 -- the accounts that a reply holds are the same for both
 pub read_same : (p : Providers) (raw : List ℕ) (q q' : ProviderOptions) → SameProvider p q q'
@@ -272,15 +286,16 @@ read_same p raw q q' h =
     ap (λ hint. AccountsOf raw >>= (λ accounts. Hinted accounts hint q.domain_hint)) h.shares.login_hint
     ∙ ap (λ hint. AccountsOf raw >>= (λ accounts. Hinted accounts q'.login_hint hint)) h.shares.domain_hint
 
-pub same_listing : (p : Providers) (w w' : World) (f f' : Facts) → SameData p f f' → (raw : List ℕ) (q q' : Option ProviderOptions)
-    → IfBoth (SameProvider p) q q'
-    → SameData p (with_listing w raw q f) (with_listing w' raw q' f')
-same_listing p w w' f f' d raw None None h = d
-same_listing p w w' f f' d raw (Some q) (Some q') h =
-    subst (λ read. SameData p (with_list w q (accounts_of raw q) f) (with_list w' q' read f')) (read_same p raw q q' h)
-    (same_list p w w' f f' d q q' (accounts_of raw q))
-same_listing p w w' f f' d raw None (Some q') h = absurd h
-same_listing p w w' f f' d raw (Some q) None h = absurd h
+pub same_listing : (p : Providers) (w w' : World) (f f' : Facts) → SameData p f f' → (raw : List ℕ) (place : ℕ)
+    → (q q' : Option ProviderOptions) → IfBoth (SameProvider p) q q' → OffersOnly w f place q raw → OffersOnly w' f' place q' raw
+    → SameData p (with_listing w raw place q f) (with_listing w' raw place q' f')
+same_listing p w w' f f' d raw place None None h none none' = d
+same_listing p w w' f f' d raw place (Some q) (Some q') h none none' =
+    subst (λ read. SameData p (with_list w place q (accounts_of raw q) f) (with_list w' place q' read f')) (read_same p raw q q' h)
+    (same_list p w w' f f' d place q q' (accounts_of raw q) none
+    (subst (ReselectsNone w' f' place q') (sym (read_same p raw q q' h)) none'))
+same_listing p w w' f f' d raw place None (Some q') h none none' = absurd h
+same_listing p w w' f f' d raw place (Some q) None h none none' = absurd h
 
 -- ---- providers
 

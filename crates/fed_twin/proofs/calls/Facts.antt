@@ -18,7 +18,7 @@ use Rattle.fed_consent.specs.declared.table.why.Why.{Why}
 use Rattle.fed_consent.specs.Outcomes.{Outcome}
 use Rattle.fed_call.specs.Facts.{Facts}
 use Rattle.fed_script.specs.declared.event.Event.{Event}
-use Rattle.fed_script.specs.declared.event.Event.TheVariants.{Load, ClosePage, Get}
+use Rattle.fed_script.specs.declared.event.Event.TheVariants.{Load, ClosePage, Get, Disconnect}
 use Rattle.fed_trace.specs.Begun.{DisconnectCall, CallOptions, ToGet, ToDisconnect}
 use Rattle.fed_trace.specs.Call.{Known, OfDisconnect, get_facts, input_row}
 use Rattle.fed_trace.specs.OfCall.{replaces}
@@ -42,18 +42,19 @@ use Rattle.fed_twin.specs.Providers.{Providers}
 use Rattle.fed_twin.specs.Seen.{seen}
 
 -- the event begins a call
-abbrev pub is_get : Event → Bool
-is_get (Get page call options) = true
-is_get _ = false
+abbrev pub begins_call : Event → Bool
+begins_call (Get page call options) = true
+begins_call (Disconnect page call config client hint) = true
+begins_call _ = false
 
-begins_get : (event : Event) (page call : ℕ) (options : CallOptions) → Some event ≡ beginning page call options
-    → is_get event ≡ true
-begins_get event page call (ToGet options) is = let get : event ≡ Get page call options = cc in ap is_get get
-begins_get event page call (ToDisconnect options) is = absurd (cc)
+begins_one : (event : Event) (page call : ℕ) (options : CallOptions) → event ≡ beginning page call options
+    → begins_call event ≡ true
+begins_one event page call (ToGet options) is = ap begins_call is
+begins_one event page call (ToDisconnect options) is = ap begins_call is
 
 -- an event that begins no call, ends no page and brings the call nothing leaves it
 pub facts_left : (T : Trace) (line : ℕ) (event : Event) (q : ℕ) → input_to q event ≡ None
-    → ((page : ℕ) → replaces page event ≡ false) → is_get event ≡ false
+    → ((page : ℕ) → replaces page event ≡ false) → begins_call event ≡ false
     → facts_at (with_event T line event) q ≡ facts_at T q
 facts_left T line event q unsaid stands no_get = go (happens T event q)
   where
@@ -61,7 +62,7 @@ facts_left T line event q unsaid stands no_get = go (happens T event q)
     go (Left l) = facts_same T line event q l.quiet.stage l.quiet.begins_none l.same
     go (Ends e) = absurd (let no : false ≡ true = sym (stands e.page) ∙ e.replaced in cc)
     go (Started s) =
-        absurd (let no : false ≡ true = sym no_get ∙ begins_get event s.begun.page s.begun.call s.begun.options s.is_event in cc)
+        absurd (let no : false ≡ true = sym no_get ∙ begins_one event s.begun.page s.begun.call s.begun.options s.is_event in cc)
     go (Took t) = absurd (let no : None ≡ Some t.input = sym unsaid ∙ t.input_is in cc)
 
 -- an event that is ignored leaves every call
@@ -116,7 +117,7 @@ facts_close T line page q origin is =
 -- ---- calls that are no gets, or over
 
 -- nothing is seen of a disconnect
-disconnect_unseen : (p : Providers) (w : World) (ck : Ask → List ℕ) (call page : ℕ) (es : List CallEffect)
+pub disconnect_unseen : (p : Providers) (w : World) (ck : Ask → List ℕ) (call page : ℕ) (es : List CallEffect)
     → filter_map sets_login es ≡ []
     → filter_map (seen p) (flat_map (call_effects w ck DisconnectCall call page) es) ≡ []
 disconnect_unseen p w ck call page [] none = refl
@@ -133,7 +134,7 @@ disconnect_unseen p w ck call page (does.ForgetPair o u ∷ es) none =
     goes_silent (seen p) (λ t. refl) (triples_of_pair w.kept o u) (flat_map (call_effects w ck DisconnectCall call page) es)
     ∙ disconnect_unseen p w ck call page es none
 
-moved_unseen : (p : Providers) (call : ℕ) (stage : Option Stage) → filter_map (seen p) (moves DisconnectCall call stage) ≡ []
+pub moved_unseen : (p : Providers) (call : ℕ) (stage : Option Stage) → filter_map (seen p) (moves DisconnectCall call stage) ≡ []
 moved_unseen p call None = refl
 moved_unseen p call (Some stage) = refl
 

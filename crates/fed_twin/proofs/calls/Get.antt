@@ -1,66 +1,82 @@
 -- A get in two worlds that providers cannot tell apart.
-use Rattle.std.proofs.Common.{◌≡◌, ℕ, Bool, true, false, Option, Some, None, Result as Answer, Ok, Err, refl, sym, ap, ◌∙◌}
+use Rattle.std.proofs.Common.{◌≡◌, ℕ, Bool, true, false, Option, Some, None, Result as Answer, Ok, Err, refl, sym, ap}
+use Rattle.std.proofs.Common.{ap₂, ◌∙◌}
 use Rattle.url.specs.Parts.{Parts}
 use Rattle.fed_origin.specs.declared.options.GetOptions.{GetOptions}
-use Rattle.fed_origin.specs.declared.options.Mode.{Mode}
 use Rattle.fed_origin.specs.declared.options.ProviderOptions.{ProviderOptions}
 use Rattle.fed_origin.specs.declared.scheme.Scheme.{Scheme}
 use Rattle.fed_origin.specs.declared.scheme.Scheme.TheVariants.{Http, Https}
 use Rattle.fed_origin.specs.WebUrl.{origin_of, scheme_of}
 use Rattle.fed_provider.specs.declared.step.ProviderStep.{ProviderStep}
 use Rattle.fed_provider.specs.WellKnown.{WellKnownUrlOf}
+use Rattle.fed_status.specs.Flags.{has_flag}
 use Rattle.fed_status.specs.Login.{status_of}
 use Rattle.fed_status.specs.Shared.{World}
 use Rattle.fed_consent.specs.Outcomes.{only_place}
 use Rattle.fed_call.specs.Facts.{provider_at}
-use Rattle.fed_call.specs.ReadingRows.{is_gated, by_gate, by_scheme, start_at}
+use Rattle.fed_call.specs.ReadingRows.{is_prevented, is_gated, by_gate, by_silence, by_scheme, start_at}
 use Rattle.fed_trace.specs.Call.{get_outcome}
 use Rattle.fed_twin.specs.Providers.{Providers}
 use Rattle.fed_twin.specs.Same.{IfBoth, SameProvider, SameOptions}
 use Rattle.fed_twin.proofs.calls.Call.{AgreeWorlds, AllOwn, providers_both}
 use Rattle.fed_origin.specs.declared.origin.Origin.{Origin}
 
-start_same : (p : Providers) (w w' : World) → AgreeWorlds p w w' → (mode mode' : Mode) → mode ≡ mode' → (place : ℕ)
-    → (q q' : Option ProviderOptions) → IfBoth (SameProvider p) q q'
-    → start_at w mode place q ≡ start_at w' mode' place q'
-start_same p w w' agree mode mode' e place None None h = refl
-start_same p w w' agree mode mode' e place None (Some q') h = absurd h
-start_same p w w' agree mode mode' e place (Some q) None h = absurd h
-start_same p w w' agree mode mode' e place (Some q) (Some q') h =
+-- where the flag of the page's origin is the same, all that is looked at is
+start_same : (p : Providers) (w w' : World) → AgreeWorlds p w w' → (o u : Origin) → has_flag w.flags o ≡ has_flag w'.flags u
+    → (a b : GetOptions) → SameOptions p a b → (place : ℕ) (q q' : Option ProviderOptions) → IfBoth (SameProvider p) q q'
+    → start_at w o a place q ≡ start_at w' u b place q'
+start_same p w w' agree o u flag a b same place None None h = refl
+start_same p w w' agree o u flag a b same place None (Some q') h = absurd h
+start_same p w w' agree o u flag a b same place (Some q) None h = absurd h
+start_same p w w' agree o u flag a b same place (Some q) (Some q') h =
     let of_status = status_of w.login (origin_of q.config) in
-    ap (λ m. by_scheme place (scheme_of q.config) q.config (WellKnownUrlOf w.rules q.config) (is_gated m of_status)) e
-    ∙ ap (λ s. by_scheme place (scheme_of q.config) q.config (WellKnownUrlOf w.rules q.config) (is_gated mode' s))
+    let site = WellKnownUrlOf w.rules q.config in
+    ap₂ (λ x m. by_scheme place (scheme_of q.config) q.config site x (is_gated m of_status)) prevented same.mode
+    ∙ ap (λ s. by_scheme place (scheme_of q.config) q.config site prevents (is_gated b.mode s))
     (agree.status (origin_of q.config) h.known)
-    ∙ ap (λ r. by_scheme place (scheme_of q.config) q.config (WellKnownUrlOf r q.config)
-    (is_gated mode' (status_of w'.login (origin_of q.config)))) (agree.rules ∙ sym agree.rules')
-    ∙ ap (λ c. by_scheme place (scheme_of c) c (WellKnownUrlOf w'.rules c) (is_gated mode' (status_of w'.login (origin_of c))))
-    h.shares.config
+    ∙ ap (λ r. by_scheme place (scheme_of q.config) q.config (WellKnownUrlOf r q.config) prevents
+    (is_gated b.mode (status_of w'.login (origin_of q.config)))) (agree.rules ∙ sym agree.rules')
+    ∙ ap (λ c. by_scheme place (scheme_of c) c (WellKnownUrlOf w'.rules c) prevents
+    (is_gated b.mode (status_of w'.login (origin_of c)))) h.shares.config
+  where
+    prevents : Bool
+    prevents = is_prevented b.mediation (has_flag w'.flags u)
 
--- whatever the origins of the pages
-pub get_same : (p : Providers) (w w' : World) → AgreeWorlds p w w' → (busy : Bool) (o u : Origin) (a b : GetOptions) → SameOptions p a b
+    prevented : is_prevented a.mediation (has_flag w.flags o) ≡ prevents
+    prevented = ap₂ is_prevented same.mediation flag
+
+-- whatever the origins of the pages, where their flags are the same
+pub get_same : (p : Providers) (w w' : World) → AgreeWorlds p w w' → (busy : Bool) (o u : Origin)
+    → has_flag w.flags o ≡ has_flag w'.flags u → (a b : GetOptions) → SameOptions p a b
     → get_outcome w busy o a ≡ get_outcome w' busy u b
-get_same p w w' agree true o u a b h = refl
-get_same p w w' agree false o u a b h =
-    start_same p w w' agree a.mode b.mode h.mode only_place (provider_at only_place a) (provider_at only_place b)
+get_same p w w' agree true o u flag a b h = refl
+get_same p w w' agree false o u flag a b h =
+    start_same p w w' agree o u flag a b h only_place (provider_at only_place a) (provider_at only_place b)
     (providers_both p a b h only_place)
 
 own_gate : (p : Providers) (place : ℕ) (config wellknown : Parts) (gated : Bool) → AllOwn p (by_gate place config wellknown gated).effects
 own_gate p place config wellknown true = (tt, tt)
 own_gate p place config wellknown false = (tt, (tt, tt))
 
-own_scheme : (p : Providers) (place : ℕ) (scheme : Scheme) (config : Parts) (site : Answer Parts ProviderStep) (gated : Bool)
-    → AllOwn p (by_scheme place scheme config site gated).effects
-own_scheme p place Http config site gated = (tt, tt)
-own_scheme p place Https config (Err step) gated = (tt, tt)
-own_scheme p place Https config (Ok wellknown) gated = own_gate p place config wellknown gated
+own_silence : (p : Providers) (place : ℕ) (config wellknown : Parts) (prevented gated : Bool)
+    → AllOwn p (by_silence place config wellknown prevented gated).effects
+own_silence p place config wellknown true gated = (tt, tt)
+own_silence p place config wellknown false gated = own_gate p place config wellknown gated
 
-own_start : (p : Providers) (w : World) (mode : Mode) (place : ℕ) (q : Option ProviderOptions) → AllOwn p (start_at w mode place q).effects
-own_start p w mode place None = tt
-own_start p w mode place (Some q) =
+own_scheme : (p : Providers) (place : ℕ) (scheme : Scheme) (config : Parts) (site : Answer Parts ProviderStep) (prevented gated : Bool)
+    → AllOwn p (by_scheme place scheme config site prevented gated).effects
+own_scheme p place Http config site prevented gated = (tt, tt)
+own_scheme p place Https config (Err step) prevented gated = (tt, tt)
+own_scheme p place Https config (Ok wellknown) prevented gated = own_silence p place config wellknown prevented gated
+
+own_start : (p : Providers) (w : World) (origin : Origin) (options : GetOptions) (place : ℕ) (q : Option ProviderOptions)
+    → AllOwn p (start_at w origin options place q).effects
+own_start p w origin options place None = tt
+own_start p w origin options place (Some q) =
     own_scheme p place (scheme_of q.config) q.config (WellKnownUrlOf w.rules q.config)
-    (is_gated mode (status_of w.login (origin_of q.config)))
+    (is_prevented options.mediation (has_flag w.flags origin)) (is_gated options.mode (status_of w.login (origin_of q.config)))
 
 pub own_get : (p : Providers) (w : World) (busy : Bool) (origin : Origin) (options : GetOptions)
     → AllOwn p (get_outcome w busy origin options).effects
 own_get p w true origin options = (tt, tt)
-own_get p w false origin options = own_start p w options.mode only_place (provider_at only_place options)
+own_get p w false origin options = own_start p w origin options only_place (provider_at only_place options)

@@ -3,8 +3,10 @@ use Rattle.std.proofs.Common.{◌≡◌, ℕ, zero, suc, Bool, true, false, inr,
 use Rattle.std.proofs.Common.{Some}
 use Rattle.std.proofs.Common.{None, Result as Answer, Ok, Err, is_some, refl, sym, ap, subst, ◌∙◌, arith}
 use Rattle.std.specs.Prelude.{option_and_then, option_map, unwrap_or, ⊤, not}
-use Rattle.std.specs.List.{filter_map, list_any}
+use Rattle.std.specs.List.{filter_map, cons_option, list_any}
 use Rattle.url.specs.Parts.{Parts}
+use Rattle.fed_origin.specs.declared.options.Mediation.{Mediation}
+use Rattle.fed_origin.specs.declared.options.Mediation.TheVariants.{Silent, Optional, Required}
 use Rattle.fed_origin.specs.declared.options.ProviderOptions.{ProviderOptions}
 use Rattle.fed_origin.specs.declared.stage.ReplyKind.{ReplyKind}
 use Rattle.fed_origin.specs.declared.stage.ReplyKind.TheVariants as kinds
@@ -18,6 +20,7 @@ use Rattle.fed_accounts.specs.declared.account.Account.{Account}
 use Rattle.fed_accounts.specs.declared.step.AccountsStep.{AccountsStep}
 use Rattle.fed_status.specs.Login.{status_of}
 use Rattle.fed_status.specs.Shared.{World}
+use Rattle.fed_consent.specs.declared.table.effect.Effect.{Effect as CallEffect}
 use Rattle.fed_consent.specs.declared.table.effect.Effect.TheVariants as does
 use Rattle.fed_consent.specs.declared.table.failure.Failure.{Failure}
 use Rattle.fed_consent.specs.declared.table.failure.FailStep.TheVariants as steps
@@ -25,23 +28,24 @@ use Rattle.fed_consent.specs.declared.table.input.Input.{Input}
 use Rattle.fed_consent.specs.declared.table.input.Input.TheVariants as inputs
 use Rattle.fed_consent.specs.declared.table.why.Why.{Why}
 use Rattle.fed_consent.specs.declared.table.why.Why.TheVariants.{NotWaited, NotOffered, NoAccount, CallEnded}
-use Rattle.fed_consent.specs.Consent.{Agreement, Candidate, Listed, candidate_at, chosen, has_id}
+use Rattle.fed_consent.specs.Consent.{Agreement, Candidate, Listed, Pick, by_reselection, candidate_at, chosen, has_id}
 use Rattle.fed_consent.specs.declared.consent.manner.Manner.TheVariants.{Chosen, Prompted}
 use Rattle.fed_call.specs.Accounts.{accounts_of, candidate_of}
 use Rattle.fed_call.specs.AssertingRows.{asserts}
 use Rattle.fed_call.specs.DialogRows.{agreed_to, chose, choice, settles, goes_on, went_on, cancelled, metadata_reply, links_shown}
-use Rattle.fed_call.specs.Facts.{Facts, at_stage, provider_at, metadata_endpoint, with_list, with_listing, with_choice, with_input}
-use Rattle.fed_call.specs.Facts.{facts_after}
+use Rattle.fed_call.specs.Facts.{Facts, at_stage, provider_at, metadata_endpoint, reselected, with_offer, by_account, with_list}
+use Rattle.fed_call.specs.Facts.{with_listing, with_choice, with_input, facts_after}
 use Rattle.fed_consent.specs.Outcomes.{Outcome, ignored, after, only_place, is_ignored}
 use Rattle.fed_consent.specs.Failures.{plain, accounts_failure}
-use Rattle.fed_call.specs.ListingRows.{accounts_reply, by_accounts, prompt_effect, by_mismatch, is_mismatch, site_of}
+use Rattle.fed_call.specs.ListingRows.{offers, unless_silent, by_reselected, accounts_reply, by_accounts, prompt_effect, by_mismatch}
+use Rattle.fed_call.specs.ListingRows.{is_mismatch, site_of}
 use Rattle.fed_call.specs.Row.{stage_reply}
 use Rattle.fed_trace.proofs.happens.Says.{asks_token}
 use Rattle.fed_twin.specs.Providers.{Providers}
 use Rattle.fed_twin.specs.Same.{IfBoth, SameProvider, SameListed, is_open, SameData, SameFacts, SameCall}
 use Rattle.fed_twin.proofs.calls.Call.{AgreeWorlds, told_effect, OwnSend, Keeps, after_by, open_facts, keeps_ignored, keeps_fails}
 use Rattle.fed_twin.proofs.calls.Call.{keeps_moves, keeps_moves_after, same_choice, same_listing, both, keeps_wellknown, keeps_config}
-use Rattle.fed_twin.proofs.calls.Call.{configured, read_same, AllOwn}
+use Rattle.fed_twin.proofs.calls.Call.{configured, read_same, AllOwn, ReselectsNone, OffersOnly}
 
 -- ---- what comes first of a prompt
 
@@ -64,16 +68,25 @@ prompt_own p w f place q c false None = tt
 prompt_own p w f place q c false (Some to) = tt
 
 -- accounts leave the configuration
-list_config : (w : World) (q : ProviderOptions) (read : Answer (List Account) AccountsStep) (f : Facts)
-    → (with_list w q read f).config ≡ f.config
-list_config w q (Err step) f = refl
-list_config w q (Ok []) f = refl
-list_config w q (Ok (only ∷ [])) f = refl
-list_config w q (Ok (first ∷ second ∷ more)) f = refl
+offer_config : (w : World) (q : ProviderOptions) (accounts : List Account) (f : Facts) → (with_offer w q accounts f).config ≡ f.config
+offer_config w q [] f = refl
+offer_config w q (only ∷ []) f = refl
+offer_config w q (first ∷ second ∷ more) f = refl
 
-listing_config : (w : World) (raw : List ℕ) (q : Option ProviderOptions) (f : Facts) → (with_listing w raw q f).config ≡ f.config
-listing_config w raw None f = refl
-listing_config w raw (Some q) f = list_config w q (accounts_of raw q) f
+account_config : (w : World) (q : ProviderOptions) (accounts : List Account) (pick : Option Pick) (f : Facts)
+    → (by_account w q accounts pick f).config ≡ f.config
+account_config w q accounts None f = offer_config w q accounts f
+account_config w q accounts (Some pick) f = refl
+
+list_config : (w : World) (place : ℕ) (q : ProviderOptions) (read : Answer (List Account) AccountsStep) (f : Facts)
+    → (with_list w place q read f).config ≡ f.config
+list_config w place q (Err step) f = refl
+list_config w place q (Ok accounts) f = account_config w q accounts (reselected w f place q accounts) f
+
+listing_config : (w : World) (raw : List ℕ) (place : ℕ) (q : Option ProviderOptions) (f : Facts)
+    → (with_listing w raw place q f).config ≡ f.config
+listing_config w raw place None f = refl
+listing_config w raw place (Some q) f = list_config w place q (accounts_of raw q) f
 
 choice_config : (c : Option Candidate) (f : Facts) → (with_choice c f).config ≡ f.config
 choice_config None f = refl
@@ -134,81 +147,143 @@ asserts_loud : {A : Type 0} (f : Facts) (place : ℕ) (q : ProviderOptions) (con
 asserts_loud f place q None agreed known quiet = absurd (let no : false ≡ true = known in cc)
 asserts_loud f place q (Some config) agreed known quiet = absurd (cc)
 
+-- ---- reselection
+
+-- where an account is reselected, a token is asked for
+reselects_loud : (w : World) (f : Facts) (place : ℕ) (q : ProviderOptions) (accounts : List Account) (effect : CallEffect)
+    → asks_token effect ≡ None → is_some f.config ≡ true → (pick : Option Pick)
+    → IsQuiet (after effect (by_reselected w f place q accounts pick)) → pick ≡ None
+reselects_loud w f place q accounts effect unasked known None quiet = refl
+reselects_loud w f place q accounts effect unasked known (Some pick) quiet =
+    asserts_loud f place q f.config (by_reselection pick) known
+    (sym (ap (λ o. cons_option o (filter_map asks_token
+    (asserts f place (Some q) f.config (by_reselection pick)).effects)) unasked) ∙ quiet)
+
+read_loud : (w : World) (f : Facts) (place : ℕ) (q : ProviderOptions) (read : Answer (List Account) AccountsStep)
+    → is_some f.config ≡ true → IsQuiet (by_accounts w f place q read) → ReselectsNone w f place q read
+read_loud w f place q (Err step) known quiet = tt
+read_loud w f place q (Ok accounts) known quiet =
+    reselects_loud w f place q accounts (does.SetLogin (origin_of q.config) LoggedIn) refl known (reselected w f place q accounts) quiet
+
+-- so of a quiet reply none is
+offers_only : (w : World) (f : Facts) (place : ℕ) (q : Option ProviderOptions) (raw : List ℕ) → is_some f.config ≡ true
+    → IsQuiet (accounts_reply w f place q raw) → OffersOnly w f place q raw
+offers_only w f place None raw known quiet = tt
+offers_only w f place (Some q) raw known quiet = read_loud w f place q (accounts_of raw q) known quiet
+
 module _ (p : Providers) (w w' : World) (agree : AgreeWorlds p w w') (f f' : Facts) (s : SameFacts p f f') where
   -- ---- in Listing
 
-  listing_by : (place : ℕ) (raw : List ℕ)
-      → SameData p (with_input w false (inputs.Reply place kinds.Accounts raw) f)
-      (with_input w' false (inputs.Reply place kinds.Accounts raw) f')
-  listing_by place raw =
-      same_listing p w w' f f' s.said raw (provider_at place f.options) (provider_at place f'.options) (both p w w' agree f f' s place)
+  past_reading : (st : Stage) → f.stage ≡ st → (st ≡ Reading → ⊥) → is_some f.config ≡ true
+  past_reading st at other = configured p f f' s (λ r. other (sym at ∙ r))
 
   listing_known : (place : ℕ) (raw : List ℕ) → f.stage ≡ Listing
       → is_some (with_input w false (inputs.Reply place kinds.Accounts raw) f).config ≡ true
   listing_known place raw at =
-      ap is_some (listing_config w raw (provider_at place f.options) f)
-      ∙ configured p f f' s (λ r. let no : Listing ≡ Reading = sym at ∙ r in cc)
+      ap is_some (listing_config w raw place (provider_at place f.options) f) ∙ past_reading Listing at (λ r. cc)
 
-  refused_by : (place : ℕ) (raw : List ℕ) → f.stage ≡ Listing → (q q' : ProviderOptions) → SameProvider p q q'
-      → (failure : Failure) (b b' : Bool) → b ≡ b'
-      → Keeps p w w' f f' (inputs.Reply place kinds.Accounts raw) (inputs.Reply place kinds.Accounts raw)
-      (after (does.SetLogin (origin_of q.config) LoggedOut) (by_mismatch place (site_of w f.origin) failure b))
-      (after (does.SetLogin (origin_of q'.config) LoggedOut) (by_mismatch place (site_of w' f'.origin) failure b'))
-  refused_by place raw at q q' h failure true true e =
-      keeps_moves_after p w w' f f' s _ _ Mismatch _ _ _ _
-      (ap (λ c. does.SetLogin (origin_of c) LoggedOut ∷ []) h.shares.config) refl refl tt refl refl refl refl tt
-      (listing_by place raw) (inr (refl, inr (listing_known place raw at)))
-  refused_by place raw at q q' h failure false false e =
-      record {
-        outcome =
-            record { stage = refl; told = ap (λ c. does.SetLogin (origin_of c) LoggedOut ∷ []) h.shares.config; own = (tt, (tt, tt)) };
-        after = tt;
-      }
-  refused_by place raw at q q' h failure true false e = absurd (cc)
-  refused_by place raw at q q' h failure false true e = absurd (cc)
+  module _ (place : ℕ) (raw : List ℕ) (at : f.stage ≡ Listing)
+      (listing_by : SameData p (with_input w false (inputs.Reply place kinds.Accounts raw) f)
+      (with_input w' false (inputs.Reply place kinds.Accounts raw) f')) where
+    abbrev accounts_input : Input
+    accounts_input = inputs.Reply place kinds.Accounts raw
 
-  accounts_by : (place : ℕ) (raw : List ℕ) → f.stage ≡ Listing → (q q' : ProviderOptions) → SameProvider p q q'
-      → (read : Answer (List Account) AccountsStep)
-      → Keeps p w w' f f' (inputs.Reply place kinds.Accounts raw) (inputs.Reply place kinds.Accounts raw) (by_accounts w f place q read)
-      (by_accounts w' f' place q' read)
-  accounts_by place raw at q q' h (Err step) =
-      refused_by place raw at q q' h (accounts_failure step) _ _
-      (ap (λ m. is_mismatch m f.options.mediation (status_of w.login (origin_of q.config))) s.said.options.mode
-      ∙ ap (λ m. is_mismatch f'.options.mode m (status_of w.login (origin_of q.config))) s.said.options.mediation
-      ∙ ap (is_mismatch f'.options.mode f'.options.mediation)
-      (agree.status (origin_of q.config) h.known ∙ ap (λ c. status_of w'.login (origin_of c)) h.shares.config))
-  accounts_by place raw at q q' h (Ok []) =
-      record {
-        outcome = record { stage = refl; told = ap (λ c. does.SetLogin (origin_of c) LoggedIn ∷ []) h.shares.config; own = (tt, tt) };
-        after = after_by p _ _ f.stage f'.stage s.stage (listing_by place raw) (inr (s.goes_on, inr (listing_known place raw at)));
-      }
-  accounts_by place raw at q q' h (Ok (only ∷ [])) =
-      let c = candidate_of w f.origin q only in
-      let c' = candidate_of w' f'.origin q' only in
-      keeps_moves_after p w w' f f' s _ _ Prompting _ _ _ _
-      (ap (λ c. does.SetLogin (origin_of c) LoggedIn ∷ []) h.shares.config) refl refl tt
-      (prompt_untold w f place q c c.connected (metadata_endpoint f.config))
-      (prompt_untold w' f' place q' c' c'.connected (metadata_endpoint f'.config))
-      (prompt_taken w f place q c c.connected (metadata_endpoint f.config))
-      (prompt_taken w' f' place q' c' c'.connected (metadata_endpoint f'.config))
-      (prompt_own p w f place q c c.connected (metadata_endpoint f.config))
-      (listing_by place raw) (inr (refl, inr (listing_known place raw at)))
-  accounts_by place raw at q q' h (Ok (first ∷ second ∷ more)) =
-      keeps_moves_after p w w' f f' s _ _ Choosing _ _ _ _
-      (ap (λ c. does.SetLogin (origin_of c) LoggedIn ∷ []) h.shares.config) refl refl tt refl refl refl refl tt
-      (listing_by place raw) (inr (refl, inr (listing_known place raw at)))
+    refused_by : (q q' : ProviderOptions) → SameProvider p q q' → (failure : Failure) (b b' : Bool) → b ≡ b'
+        → Keeps p w w' f f' accounts_input accounts_input
+        (after (does.SetLogin (origin_of q.config) LoggedOut) (by_mismatch place (site_of w f.origin) failure b))
+        (after (does.SetLogin (origin_of q'.config) LoggedOut) (by_mismatch place (site_of w' f'.origin) failure b'))
+    refused_by q q' h failure true true e =
+        keeps_moves_after p w w' f f' s _ _ Mismatch _ _ _ _
+        (ap (λ c. does.SetLogin (origin_of c) LoggedOut ∷ []) h.shares.config) refl refl tt refl refl refl refl tt
+        listing_by (inr (refl, inr (listing_known place raw at)))
+    refused_by q q' h failure false false e =
+        record {
+          outcome = record {
+            stage = refl;
+            told = ap (λ c. does.SetLogin (origin_of c) LoggedOut ∷ []) h.shares.config;
+            own = (tt, (tt, tt));
+          };
+          after = tt;
+        }
+    refused_by q q' h failure true false e = absurd (cc)
+    refused_by q q' h failure false true e = absurd (cc)
 
-  keeps_accounts : (place : ℕ) (raw : List ℕ) → f.stage ≡ Listing → (q q' : Option ProviderOptions)
-      → IfBoth (SameProvider p) q q'
-      → Keeps p w w' f f' (inputs.Reply place kinds.Accounts raw) (inputs.Reply place kinds.Accounts raw) (accounts_reply w f place q raw)
-      (accounts_reply w' f' place q' raw)
-  keeps_accounts place raw at None None h = keeps_ignored p w w' f f' s _ _ NotWaited NotWaited
-  keeps_accounts place raw at (Some q) (Some q') h =
-      subst (λ read. Keeps p w w' f f' (inputs.Reply place kinds.Accounts raw) (inputs.Reply place kinds.Accounts raw)
-      (by_accounts w f place q (accounts_of raw q)) (by_accounts w' f' place q' read))
-      (read_same p raw q q' h) (accounts_by place raw at q q' h (accounts_of raw q))
-  keeps_accounts place raw at None (Some q') h = absurd h
-  keeps_accounts place raw at (Some q) None h = absurd h
+    offers_by : (q q' : ProviderOptions) → SameProvider p q q' → (accounts : List Account)
+        → Keeps p w w' f f' accounts_input accounts_input
+        (after (does.SetLogin (origin_of q.config) LoggedIn) (offers w f place q accounts))
+        (after (does.SetLogin (origin_of q'.config) LoggedIn) (offers w' f' place q' accounts))
+    offers_by q q' h [] =
+        record {
+          outcome = record { stage = refl; told = ap (λ c. does.SetLogin (origin_of c) LoggedIn ∷ []) h.shares.config; own = (tt, tt) };
+          after = after_by p _ _ f.stage f'.stage s.stage listing_by (inr (s.goes_on, inr (listing_known place raw at)));
+        }
+    offers_by q q' h (only ∷ []) =
+        let c = candidate_of w f.origin q only in
+        let c' = candidate_of w' f'.origin q' only in
+        keeps_moves_after p w w' f f' s _ _ Prompting _ _ _ _
+        (ap (λ c. does.SetLogin (origin_of c) LoggedIn ∷ []) h.shares.config) refl refl tt
+        (prompt_untold w f place q c c.connected (metadata_endpoint f.config))
+        (prompt_untold w' f' place q' c' c'.connected (metadata_endpoint f'.config))
+        (prompt_taken w f place q c c.connected (metadata_endpoint f.config))
+        (prompt_taken w' f' place q' c' c'.connected (metadata_endpoint f'.config))
+        (prompt_own p w f place q c c.connected (metadata_endpoint f.config))
+        listing_by (inr (refl, inr (listing_known place raw at)))
+    offers_by q q' h (first ∷ second ∷ more) =
+        keeps_moves_after p w w' f f' s _ _ Choosing _ _ _ _
+        (ap (λ c. does.SetLogin (origin_of c) LoggedIn ∷ []) h.shares.config) refl refl tt refl refl refl refl tt
+        listing_by (inr (refl, inr (listing_known place raw at)))
+
+    silent_by : (q q' : ProviderOptions) → SameProvider p q q' → (accounts : List Account) (m m' : Mediation) → m ≡ m'
+        → Keeps p w w' f f' accounts_input accounts_input
+        (after (does.SetLogin (origin_of q.config) LoggedIn) (unless_silent m (offers w f place q accounts)))
+        (after (does.SetLogin (origin_of q'.config) LoggedIn) (unless_silent m' (offers w' f' place q' accounts)))
+    silent_by q q' h accounts Silent Silent e =
+        record {
+          outcome = record {
+            stage = refl;
+            told = ap (λ c. does.SetLogin (origin_of c) LoggedIn ∷ []) h.shares.config;
+            own = (tt, (tt, tt));
+          };
+          after = tt;
+        }
+    silent_by q q' h accounts Optional Optional e = offers_by q q' h accounts
+    silent_by q q' h accounts Required Required e = offers_by q q' h accounts
+    silent_by q q' h accounts Silent Optional e = absurd (cc)
+    silent_by q q' h accounts Silent Required e = absurd (cc)
+    silent_by q q' h accounts Optional Silent e = absurd (cc)
+    silent_by q q' h accounts Optional Required e = absurd (cc)
+    silent_by q q' h accounts Required Silent e = absurd (cc)
+    silent_by q q' h accounts Required Optional e = absurd (cc)
+
+    accounts_by : (q q' : ProviderOptions) → SameProvider p q q' → (read : Answer (List Account) AccountsStep)
+        → ReselectsNone w f place q read → ReselectsNone w' f' place q' read
+        → Keeps p w w' f f' accounts_input accounts_input (by_accounts w f place q read) (by_accounts w' f' place q' read)
+    accounts_by q q' h (Err step) none none' =
+        refused_by q q' h (accounts_failure step) _ _
+        (ap (λ m. is_mismatch m f.options.mediation (status_of w.login (origin_of q.config))) s.said.options.mode
+        ∙ ap (λ m. is_mismatch f'.options.mode m (status_of w.login (origin_of q.config))) s.said.options.mediation
+        ∙ ap (is_mismatch f'.options.mode f'.options.mediation)
+        (agree.status (origin_of q.config) h.known ∙ ap (λ c. status_of w'.login (origin_of c)) h.shares.config))
+    accounts_by q q' h (Ok accounts) none none' =
+        let set = does.SetLogin (origin_of q.config) LoggedIn in
+        let set' = does.SetLogin (origin_of q'.config) LoggedIn in
+        subst (λ r. Keeps p w w' f f' accounts_input accounts_input (after set (by_reselected w f place q accounts r))
+        (by_accounts w' f' place q' (Ok accounts))) (sym none)
+        (subst (λ r. Keeps p w w' f f' accounts_input accounts_input (after set (by_reselected w f place q accounts None))
+        (after set' (by_reselected w' f' place q' accounts r))) (sym none')
+        (silent_by q q' h accounts f.options.mediation f'.options.mediation s.said.options.mediation))
+
+    keeps_accounts : (q q' : Option ProviderOptions) → IfBoth (SameProvider p) q q'
+        → OffersOnly w f place q raw → OffersOnly w' f' place q' raw
+        → Keeps p w w' f f' accounts_input accounts_input (accounts_reply w f place q raw) (accounts_reply w' f' place q' raw)
+    keeps_accounts None None h none none' = keeps_ignored p w w' f f' s _ _ NotWaited NotWaited
+    keeps_accounts (Some q) (Some q') h none none' =
+        subst (λ read. Keeps p w w' f f' accounts_input accounts_input
+        (by_accounts w f place q (accounts_of raw q)) (by_accounts w' f' place q' read))
+        (read_same p raw q q' h)
+        (accounts_by q q' h (accounts_of raw q) none (subst (ReselectsNone w' f' place q') (sym (read_same p raw q q' h)) none'))
+    keeps_accounts None (Some q') h none none' = absurd h
+    keeps_accounts (Some q) None h none none' = absurd h
 
   -- ---- a reply, by the stage and the kind
 
@@ -239,16 +314,23 @@ module _ (p : Providers) (w w' : World) (agree : AgreeWorlds p w w') (f f' : Fac
   reply_config place raw Ended at = keeps_ignored p w w' f f' s _ _ CallEnded CallEnded
 
   pub reply_accounts : (place : ℕ) (raw : List ℕ) (st : Stage) → f.stage ≡ st
+      → IsQuiet (stage_reply w f st place kinds.Accounts raw) → IsQuiet (stage_reply w' f' st place kinds.Accounts raw)
       → Keeps p w w' f f' (inputs.Reply place kinds.Accounts raw) (inputs.Reply place kinds.Accounts raw)
       (stage_reply w f st place kinds.Accounts raw) (stage_reply w' f' st place kinds.Accounts raw)
-  reply_accounts place raw Reading at = ignored_reply place kinds.Accounts raw raw
-  reply_accounts place raw Listing at =
-      keeps_accounts place raw at (provider_at place f.options) (provider_at place f'.options) (both p w w' agree f f' s place)
-  reply_accounts place raw Mismatch at = ignored_reply place kinds.Accounts raw raw
-  reply_accounts place raw Choosing at = ignored_reply place kinds.Accounts raw raw
-  reply_accounts place raw Prompting at = ignored_reply place kinds.Accounts raw raw
-  reply_accounts place raw Asserting at = ignored_reply place kinds.Accounts raw raw
-  reply_accounts place raw Ended at = keeps_ignored p w w' f f' s _ _ CallEnded CallEnded
+  reply_accounts place raw Reading at quiet quiet' = ignored_reply place kinds.Accounts raw raw
+  reply_accounts place raw Listing at quiet quiet' =
+      let known = past_reading Listing at (λ r. cc) in
+      let none = offers_only w f place (provider_at place f.options) raw known quiet in
+      let none' = offers_only w' f' place (provider_at place f'.options) raw (ap is_some (sym s.said.config) ∙ known) quiet' in
+      keeps_accounts place raw at
+      (same_listing p w w' f f' s.said raw place (provider_at place f.options) (provider_at place f'.options)
+      (both p w w' agree f f' s place) none none')
+      (provider_at place f.options) (provider_at place f'.options) (both p w w' agree f f' s place) none none'
+  reply_accounts place raw Mismatch at quiet quiet' = ignored_reply place kinds.Accounts raw raw
+  reply_accounts place raw Choosing at quiet quiet' = ignored_reply place kinds.Accounts raw raw
+  reply_accounts place raw Prompting at quiet quiet' = ignored_reply place kinds.Accounts raw raw
+  reply_accounts place raw Asserting at quiet quiet' = ignored_reply place kinds.Accounts raw raw
+  reply_accounts place raw Ended at quiet quiet' = keeps_ignored p w w' f f' s _ _ CallEnded CallEnded
 
   -- no token is awaited
   pub reply_assertion : (place : ℕ) (raw raw' : List ℕ) (st : Stage) → f.stage ≡ st

@@ -23,18 +23,18 @@ use Rattle.fed_trace.specs.declared.out.Out.TheVariants.{Request}
 use Rattle.fed_trace.specs.Effect.{Effect, Sent}
 use Rattle.fed_trace.specs.OfScript.{start, with_events}
 use Rattle.fed_trace.specs.Records.{records_of, records}
-use Rattle.fed_trace.specs.Row.{IsRun, effects_of, row_of, with_event}
+use Rattle.fed_trace.specs.Row.{effects_of, row_of, with_event}
 use Rattle.fed_session.specs.Session.{State, Stands, IsFresh}
 use Rattle.fed_trace.specs.Trace.{Trace, begun}
 use Rattle.fed_session.proofs.kept.Calls.{absent_from_numbers}
 use Rattle.fed_trace.proofs.runs.Untaken.{IsUntaken, untaken_after}
-use Rattle.fed_twin.specs.Compare.{IsQuietLength, QuietRun, is_naming_kind, is_naming_record, is_first_kind, is_first_record, quiet_count}
-use Rattle.fed_twin.specs.Compare.{quiet_requests}
-use Rattle.fed_twin.specs.Script.{is_kept, kept_events, up_to, first_bytes, first_sent, first_requests, is_naming, names, is_loud, AreQuiet}
-use Rattle.fed_twin.specs.Script.{Quiet, sign_in}
+use Rattle.fed_twin.specs.Compare.{IsQuietLength, QuietRun, is_naming_kind, is_naming_record, is_first_kind, is_first_record, get_count}
+use Rattle.fed_twin.specs.Compare.{quiet_count, quiet_requests}
+use Rattle.fed_twin.specs.Script.{is_kept, kept_events, up_to, is_disconnect, first_bytes, first_sent, first_requests, is_naming, names}
+use Rattle.fed_twin.specs.Script.{is_loud, AreQuiet, Quiet, sign_in}
 use Rattle.fed_twin.specs.Twin.{Twin}
 use Rattle.fed_twin.proofs.compared.Requests.{few_requests}
-use Rattle.fed_twin.proofs.compared.Sends.{first_any, sends_gets}
+use Rattle.fed_twin.proofs.compared.Sends.{first_any, sends_gets, sends_none}
 use Rattle.fed_twin.proofs.twins.Self.{quiet_before}
 use Rattle.fed_twin.proofs.worlds.Worlds.{two_worlds_lem}
 
@@ -73,11 +73,20 @@ first_records line (Sent kind call provider ask cookies ∷ effects) =
     (filter is_first_record (records_of line effects)) (filter_map first_any effects) (first_records line effects)
 first_records line (effect ∷ effects) = first_records line effects
 
-pub count_of_row : (T : Trace) → IsRun T.header T.rows → (line : ℕ) (event : Event)
-    → quiet_count (records (row_of T line event)) ≡ quiet_requests (row_of T line event)
-count_of_row T run line event =
-    ap₂ (λ b n. cond b None (Some n)) (naming_records line (effects_of T event))
-    (first_records line (effects_of T event) ∙ ap length (sym (sends_gets T run event)))
+gets_counted : (T : Trace) (line : ℕ) (event : Event)
+    → get_count event (records (row_of T line event)) ≡ length (filter_map first_sent (effects_of T event))
+gets_counted T line event = go (is_disconnect event) refl
+  where
+    go : (b : Bool) → is_disconnect event ≡ b
+        → cond b 0 (length (filter is_first_record (records (row_of T line event))))
+        ≡ length (filter_map first_sent (effects_of T event))
+    go true is = ap length (sym (sends_none T event is))
+    go false is = first_records line (effects_of T event) ∙ ap length (sym (sends_gets T event is))
+
+pub count_of_row : (T : Trace) (line : ℕ) (event : Event)
+    → quiet_count event (records (row_of T line event)) ≡ quiet_requests (row_of T line event)
+count_of_row T line event =
+    ap₂ (λ b n. cond b None (Some n)) (naming_records line (effects_of T event)) (gets_counted T line event)
 
 -- ---- a run, and where it stops
 
@@ -311,7 +320,7 @@ pub record GoesOn (s : Script) (most : ℕ) (session : State) (rest : List Numbe
   pub read : AreRead used rest
   pub few : kept ≤ most
   pub all : total ≡ requests_of trace
-  pub bound : total ≤ 2 * length trace.rows
+  pub bound : total ≤ 3 * length trace.rows
   pub same : run trace rest most kept sent ≡ run (start s.header) s.events most 0 0
 
 pub begins : (s : Script) (most : ℕ) (session : State) → Stands session (start s.header) → IsRead s
@@ -349,10 +358,12 @@ at_end {s = s} {most = most} {kept = kept} {sent = sent} {total = total} {sessio
     let beyond : length events ≤ i = subst (λ xs. length xs ≤ i) is over in
     subst (λ ns. GoesOn s most session ns kept sent total) (drop_all i events beyond) h
 
--- no earlier event took the call of a get
+-- no earlier event took the call of a get or of a disconnect
 fresh : (session : State) (T : Trace) (used : UsedState) (event : Event) → Stands session T → IsUntaken used.calls (begun T.rows)
     → IsUnused used event → IsFresh session event
 fresh session T used (events.Get page call options) stands untaken unused =
+    absent_from_numbers call session.calls (ap (list_any (nat_eq call)) stands.taken ∙ untaken call unused)
+fresh session T used (events.Disconnect page call config client hint) stands untaken unused =
     absent_from_numbers call session.calls (ap (list_any (nat_eq call)) stands.taken ∙ untaken call unused)
 fresh session T used (events.Have have) stands untaken unused = tt
 fresh session T used (events.At time) stands untaken unused = tt
@@ -363,6 +374,7 @@ fresh session T used (events.GoOn call) stands untaken unused = tt
 fresh session T used (events.Cancel call) stands untaken unused = tt
 fresh session T used (events.Reply call place kind raw) stands untaken unused = tt
 fresh session T used (events.Choose call place id) stands untaken unused = tt
+fresh session T used (events.Prevent page) stands untaken unused = tt
 fresh session T used (events.SetStatus page status) stands untaken unused = tt
 
 -- a step may be taken at the event

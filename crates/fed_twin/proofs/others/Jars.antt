@@ -23,7 +23,7 @@ use Rattle.fed_script.specs.declared.event.Event.{Event}
 use Rattle.fed_script.specs.declared.event.Event.TheVariants as events
 use Rattle.fed_script.specs.declared.event.Have.TheVariants as haves
 use Rattle.fed_script.specs.declared.event.Numbered.{Numbered}
-use Rattle.fed_trace.specs.Begun.{Begun, CallKind, CallOptions, ToGet, kind_asked}
+use Rattle.fed_trace.specs.Begun.{Begun, CallKind, CallOptions, ToGet, ToDisconnect, kind_asked}
 use Rattle.fed_trace.specs.Call.{Known, kind_of, page_of, known_first, first_row, input_row}
 use Rattle.fed_trace.specs.Effect as effects
 use Rattle.fed_trace.specs.Effect.{Effect, Page, Login, Begin, last_of, page_change, login_change, kept_change, flag_change, call_change}
@@ -32,7 +32,7 @@ use Rattle.fed_trace.specs.Keyed.{Change, entries_after, says}
 use Rattle.fed_trace.specs.Known.{world_at, is_begun, input_to, with_said, known_in, known_by, known_at}
 use Rattle.fed_trace.specs.Row.{effects_of, with_event, cookies_with, call_effects, moves, outcome_effects, begin_effects, standing_call}
 use Rattle.fed_trace.specs.Row.{input_effects, is_busy, ends_of, cookies_from, cookie_effects, login_effects, load_effects, close_effects}
-use Rattle.fed_trace.specs.Row.{status_effects, have_cookies, set_cookies, set_logins}
+use Rattle.fed_trace.specs.Row.{page_says, have_cookies, set_cookies, set_logins}
 use Rattle.fed_trace.specs.Trace.{Row, Trace, page_at, logins, kept, flags, pending, gets, pending_of, calls_of, now_at, begun, stage_at}
 use Rattle.fed_trace.specs.Trace.{last_value, all_said}
 use Rattle.fed_trace.specs.OfScript.{start, with_events}
@@ -284,12 +284,24 @@ input_same T U h call i =
     ∙ ap₂ (λ b f. filter_map but_cookies (input_effects (world_at U) (cookies_with U) b call f i)) (same_begun T U h call)
     (same_known T U h call)
 
+begin_same : (T U : Trace) → SameLooks T U → (page call : ℕ) (options : CallOptions)
+    → filter_map but_cookies (begin_effects (world_at T) (cookies_with T) (page_at T page) (is_busy page (gets T)) page call options)
+    ≡ filter_map but_cookies (begin_effects (world_at U) (cookies_with U) (page_at U page) (is_busy page (gets U)) page call options)
+begin_same T U h page call options =
+    but_begin (world_at T) (cookies_with T) (cookies_with U) (page_at T page) (is_busy page (gets T)) page call options
+    ∙ ap (λ w. filter_map but_cookies (begin_effects w (cookies_with U) (page_at T page) (is_busy page (gets T)) page call options))
+    (same_world T U h)
+    ∙ ap₂ (λ o x. filter_map but_cookies (begin_effects (world_at U) (cookies_with U) o (is_busy page x) page call options))
+    (same_page T U h page) (same_gets T U h)
+
 equal_effects : (T U : Trace) → SameLooks T U → (e : Event)
     → filter_map but_cookies (effects_of T e) ≡ filter_map but_cookies (effects_of U e)
 equal_effects T U h (events.Have (haves.Cookie url field)) =
     but_have (have_cookies T.header.rules (now_at T) (haves.Cookie url field))
     ∙ sym (but_have (have_cookies U.header.rules (now_at U) (haves.Cookie url field)))
 equal_effects T U h (events.Have (haves.Login origin status)) = refl
+equal_effects T U h (events.Have (haves.Kept triple)) = refl
+equal_effects T U h (events.Have (haves.Silent origin)) = refl
 equal_effects T U h (events.At time) = refl
 equal_effects T U h (events.Load page url raw) =
     but_load (pending_of T page) page url (cookies_from T.header.rules url (now_at T) (set_cookies raw)) (set_logins raw)
@@ -297,14 +309,13 @@ equal_effects T U h (events.Load page url raw) =
     ∙ sym (but_load (pending_of U page) page url (cookies_from U.header.rules url (now_at U) (set_cookies raw)) (set_logins raw))
 equal_effects T U h (events.ClosePage page) =
     ap₂ (λ x o. filter_map but_cookies (close_effects (calls_of page x) page o)) (same_pending T U h) (same_page T U h page)
-equal_effects T U h (events.SetStatus page status) = ap (λ o. filter_map but_cookies (status_effects o status)) (same_page T U h page)
-equal_effects T U h (events.Get page call options) =
-    but_begin (world_at T) (cookies_with T) (cookies_with U) (page_at T page) (is_busy page (gets T)) page call (ToGet options)
-    ∙ ap (λ w. filter_map but_cookies (begin_effects w (cookies_with U) (page_at T page) (is_busy page (gets T)) page call
-    (ToGet options)))
-    (same_world T U h)
-    ∙ ap₂ (λ o x. filter_map but_cookies (begin_effects (world_at U) (cookies_with U) o (is_busy page x) page call (ToGet options)))
-    (same_page T U h page) (same_gets T U h)
+equal_effects T U h (events.Prevent page) =
+    ap (λ o. filter_map but_cookies (page_says o (λ origin. effects.Flag origin true))) (same_page T U h page)
+equal_effects T U h (events.SetStatus page status) =
+    ap (λ o. filter_map but_cookies (page_says o (λ origin. Login origin status))) (same_page T U h page)
+equal_effects T U h (events.Get page call options) = begin_same T U h page call (ToGet options)
+equal_effects T U h (events.Disconnect page call config client hint) =
+    begin_same T U h page call (ToDisconnect (record { config = config; client = client; hint = hint }))
 equal_effects T U h (events.Abort call) = input_same T U h call _
 equal_effects T U h (events.GoOn call) = input_same T U h call _
 equal_effects T U h (events.Cancel call) = input_same T U h call _

@@ -1,26 +1,30 @@
 -- Nothing is looked up of a token.
-use Rattle.std.proofs.Common.{◌≡◌, ℕ, Bool, true, false, nat_eq, cond, List, [], ◌∷◌, ◌++◌, Option, Some, None}
+use Rattle.std.proofs.Common.{◌≡◌, ℕ, Bool, true, false, ◌||◌, nat_eq, cond, List, [], ◌∷◌, ◌++◌, Option, Some, None}
 use Rattle.std.proofs.Common.{Result as Answer, Ok, Err}
 use Rattle.std.proofs.Common.{append_assoc, refl, sym, ap, ap₂, subst, ◌∙◌}
 use Rattle.std.specs.Prelude.{◌==◌, option_map, unwrap_or, ⊤}
 use Rattle.std.specs.Option.{option_or}
-use Rattle.std.specs.List.{filter_map, list_any}
+use Rattle.std.specs.List.{filter_map, cons_option, list_any}
 use Rattle.url.specs.Parts.{Parts}
 use Rattle.fed_origin.specs.declared.options.ProviderOptions.{ProviderOptions}
 use Rattle.fed_origin.specs.declared.stage.ReplyKind.TheVariants as kinds
 use Rattle.fed_origin.specs.declared.stage.Stage.{Stage}
 use Rattle.fed_origin.specs.declared.stage.Stage.TheVariants.{Reading, Listing, Mismatch, Choosing, Prompting, Asserting, Ended}
 use Rattle.fed_origin.specs.Origin.{same_origin, origin_text}
+use Rattle.fed_origin.specs.WebUrl.{origin_of}
 use Rattle.fed_jar.specs.Writes as jar
 use Rattle.fed_token.specs.declared.step.TokenStep.{TokenStep}
 use Rattle.fed_token.specs.Read.{AssertionOf}
+use Rattle.fed_status.specs.Kept.{triple_of}
 use Rattle.fed_status.specs.Login.{Logins}
 use Rattle.fed_status.specs.Shared.{World}
 use Rattle.fed_consent.specs.declared.table.ask.Ask.{Ask}
 use Rattle.fed_consent.specs.declared.table.ask.Ask.TheVariants as asks
 use Rattle.fed_consent.specs.declared.table.input.Input.{Input}
 use Rattle.fed_consent.specs.declared.table.input.Input.TheVariants as inputs
-use Rattle.fed_call.specs.AssertingRows.{token_given, assertion_reply}
+use Rattle.fed_call.specs.AssertingRows.{clears, keeps, by_token, assertion_reply}
+use Rattle.fed_consent.specs.declared.table.finish.Finish.TheVariants.{Token}
+use Rattle.fed_consent.specs.Consent.{Candidate}
 use Rattle.fed_consent.specs.Outcomes.{finishes, only_place}
 use Rattle.fed_call.specs.Facts.{Facts, provider_at}
 use Rattle.fed_call.specs.Row.{stage_reply}
@@ -30,14 +34,15 @@ use Rattle.fed_script.specs.declared.event.Have.TheVariants as haves
 use Rattle.fed_script.specs.declared.event.Numbered.{Numbered}
 use Rattle.fed_disconnect.specs.Facts.{DisconnectFacts}
 use Rattle.fed_disconnect.specs.Rows.{provider_reply}
-use Rattle.fed_trace.specs.Begun.{GetCall, DisconnectCall, ToGet}
+use Rattle.fed_trace.specs.Begun.{GetCall, DisconnectCall, CallOptions, ToGet, ToDisconnect}
 use Rattle.fed_trace.specs.Call.{Known, OfGet, OfDisconnect, known_first, with_input}
 use Rattle.fed_trace.specs.Effect.{Effect, PendingCall, last_of, page_change, login_change, kept_change, flag_change, call_change}
 use Rattle.fed_trace.specs.Effect.{get_change, stage_change, time_of, written_by, begun_by, begins, is_ignored}
-use Rattle.fed_trace.specs.Keyed.{entries_after, last_said}
+use Rattle.fed_trace.specs.Effect.{Login, Move, Kept, Flag, Result}
+use Rattle.fed_trace.specs.Keyed.{changed, entries_after, last_said, says}
 use Rattle.fed_trace.specs.Known.{world_at, is_begun, input_to, with_said, known_in, known_by, known_at}
 use Rattle.fed_trace.specs.Row.{effects_of, row_of, with_event, cookies_with, outcome_effects, begin_effects, input_effects, is_busy}
-use Rattle.fed_trace.specs.Row.{cookies_from, cookie_effects, load_effects, close_effects, status_effects, set_cookies, set_logins}
+use Rattle.fed_trace.specs.Row.{cookies_from, cookie_effects, load_effects, close_effects, page_says, set_cookies, set_logins}
 use Rattle.fed_trace.specs.Trace.{Row, Trace, page_at, logins, kept, flags, standing, pending, calls_of, now_at, writes, begun, stage_at}
 use Rattle.fed_trace.specs.Trace.{last_in}
 use Rattle.fed_trace.specs.Trace as trace
@@ -95,37 +100,65 @@ record SameReads (es es' : List Effect) : Type 0 where
   begins_it : (q : ℕ) → last_of (begins q) es ≡ last_of (begins q) es'
   ignored : list_any is_ignored es ≡ list_any is_ignored es'
 
+same_reads : (es : List Effect) → SameReads es es
+same_reads es =
+    record {
+      time = refl;
+      page = λ q. refl;
+      stage = λ q. refl;
+      login = λ l. refl;
+      kept = λ l. refl;
+      flags = λ l. refl;
+      calls = λ l. refl;
+      gets = λ l. refl;
+      taken = refl;
+      written = refl;
+      begins_it = λ q. refl;
+      ignored = refl;
+    }
+
+-- the same after an effect more in front
+reads_after : (e : Effect) (es es' : List Effect) → SameReads es es' → SameReads (e ∷ es) (e ∷ es')
+reads_after e es es' h =
+    record {
+      time = ap (λ o. option_or o (time_of e)) h.time;
+      page = λ q. ap (λ o. option_or o (says nat_eq q (page_change e))) (h.page q);
+      stage = λ q. ap (λ o. option_or o (says nat_eq q (stage_change e))) (h.stage q);
+      login = λ l. h.login (changed same_origin (login_change e) l);
+      kept = λ l. h.kept (changed same_triple (kept_change e) l);
+      flags = λ l. h.flags (changed same_origin (flag_change e) l);
+      calls = λ l. h.calls (changed nat_eq (call_change e) l);
+      gets = λ l. h.gets (changed nat_eq (get_change e) l);
+      taken = ap (cons_option (begun_by e)) h.taken;
+      written = ap (cons_option (written_by e)) h.written;
+      begins_it = λ q. ap (λ o. option_or o (begins q e)) (h.begins_it q);
+      ignored = ap (λ b. is_ignored e || b) h.ignored;
+    }
+
 reads_same : (call : ℕ) {es es' : List Effect} → ButToken call es es' → SameReads es es'
-reads_same call (Equal es) =
-    record {
-      time = refl;
-      page = λ q. refl;
-      stage = λ q. refl;
-      login = λ l. refl;
-      kept = λ l. refl;
-      flags = λ l. refl;
-      calls = λ l. refl;
-      gets = λ l. refl;
-      taken = refl;
-      written = refl;
-      begins_it = λ q. refl;
-      ignored = refl;
-    }
-reads_same call (Tokens page provider auto token token') =
-    record {
-      time = refl;
-      page = λ q. refl;
-      stage = λ q. refl;
-      login = λ l. refl;
-      kept = λ l. refl;
-      flags = λ l. refl;
-      calls = λ l. refl;
-      gets = λ l. refl;
-      taken = refl;
-      written = refl;
-      begins_it = λ q. refl;
-      ignored = refl;
-    }
+reads_same call (Equal es) = same_reads es
+reads_same call (Tokens before page provider auto token token') = go before
+  where
+    result : List ℕ → List Effect
+    result token = Result call page (Token auto provider token) ∷ Move GetCall call Ended ∷ []
+
+    go : (before : List Effect) → SameReads (before ++ result token) (before ++ result token')
+    go [] =
+        record {
+          time = refl;
+          page = λ q. refl;
+          stage = λ q. refl;
+          login = λ l. refl;
+          kept = λ l. refl;
+          flags = λ l. refl;
+          calls = λ l. refl;
+          gets = λ l. refl;
+          taken = refl;
+          written = refl;
+          begins_it = λ q. refl;
+          ignored = refl;
+        }
+    go (e ∷ before) = reads_after e (before ++ result token) (before ++ result token') (go before)
 
 world_same : (T U : Trace) → SameAll T U → world_at T ≡ world_at U
 world_same T U h =
@@ -196,18 +229,28 @@ found_same : (T U : Trace) → SameAll T U → (url : Parts) (fields : List (Lis
 found_same T U h url fields =
     ap₂ (λ r n. cookies_from r url n fields) (ap (λ x. x.rules) h.header) (ap₂ unwrap_or h.time (ap (λ x. x.now) h.header))
 
+begin_same : (T U : Trace) → SameAll T U → (page call : ℕ) (options : CallOptions)
+    → begin_effects (world_at T) (cookies_with T) (page_at T page) (is_busy page (trace.gets T)) page call options
+    ≡ begin_effects (world_at U) (cookies_with U) (page_at U page) (is_busy page (trace.gets U)) page call options
+begin_same T U h page call options =
+    ap₂ (λ w ck. begin_effects w ck (page_at T page) (is_busy page (trace.gets T)) page call options) (world_same T U h)
+    (all_cookies_same T U h)
+    ∙ ap₂ (λ o x. begin_effects (world_at U) (cookies_with U) o (is_busy page x) page call options) (h.page page) h.gets
+
 effects_same : (T U : Trace) → SameAll T U → (e : Event) → effects_of T e ≡ effects_of U e
 effects_same T U h (events.Have (haves.Cookie url field)) = ap (λ cs. cookie_effects cs ++ []) (found_same T U h url (field ∷ []))
 effects_same T U h (events.Have (haves.Login origin status)) = refl
+effects_same T U h (events.Have (haves.Kept triple)) = refl
+effects_same T U h (events.Have (haves.Silent origin)) = refl
 effects_same T U h (events.At time) = refl
 effects_same T U h (events.Load page url raw) =
     ap₂ (λ x cs. load_effects (calls_of page x) page url cs (set_logins raw)) h.calls (found_same T U h url (set_cookies raw))
 effects_same T U h (events.ClosePage page) = ap₂ (λ x o. close_effects (calls_of page x) page o) h.calls (h.page page)
-effects_same T U h (events.SetStatus page status) = ap (λ o. status_effects o status) (h.page page)
-effects_same T U h (events.Get page call options) =
-    ap₂ (λ w ck. begin_effects w ck (page_at T page) (is_busy page (trace.gets T)) page call (ToGet options)) (world_same T U h)
-    (all_cookies_same T U h)
-    ∙ ap₂ (λ o x. begin_effects (world_at U) (cookies_with U) o (is_busy page x) page call (ToGet options)) (h.page page) h.gets
+effects_same T U h (events.Prevent page) = ap (λ o. page_says o (λ origin. Flag origin true)) (h.page page)
+effects_same T U h (events.SetStatus page status) = ap (λ o. page_says o (λ origin. Login origin status)) (h.page page)
+effects_same T U h (events.Get page call options) = begin_same T U h page call (ToGet options)
+effects_same T U h (events.Disconnect page call config client hint) =
+    begin_same T U h page call (ToDisconnect (record { config = config; client = client; hint = hint }))
 effects_same T U h (events.Abort call) = input_same T U h call inputs.Abort
 effects_same T U h (events.GoOn call) = input_same T U h call inputs.GoOn
 effects_same T U h (events.Cancel call) = input_same T U h call inputs.Cancel
@@ -216,15 +259,28 @@ effects_same T U h (events.Choose call provider account) = input_same T U h call
 
 -- ---- the row that may differ
 
-given_same : (w : World) (call page : ℕ) (auto : Bool) (place : ℕ) (a b : Answer (List ℕ) TokenStep) → AreTokens a b → (ck : Ask → List ℕ)
-    → ButToken call (outcome_effects w ck GetCall call page (finishes (token_given auto place a)))
-    (outcome_effects w ck GetCall call page (finishes (token_given auto place b)))
-given_same w call page auto place (Ok t) (Ok t') h ck = Tokens page place auto t t'
-given_same w call page auto place (Err s) (Err s') h ck =
-    subst (λ x. ButToken call (outcome_effects w ck GetCall call page (finishes (token_given auto place (Err s))))
-    (outcome_effects w ck GetCall call page (finishes (token_given auto place (Err x))))) h (Equal _)
-given_same w call page auto place (Ok t) (Err s) h ck = absurd h
-given_same w call page auto place (Err s) (Ok t) h ck = absurd h
+-- a token, by the account that it is for and by whether that was reselected
+tokens_same : (w : World) (ck : Ask → List ℕ) (call page : ℕ) (o u : Origin) (place : ℕ) (t t' : List ℕ)
+    → (picked : Option Candidate) (auto : Bool)
+    → ButToken call (outcome_effects w ck GetCall call page (keeps o u picked (clears auto o (finishes (Token auto place t)))))
+    (outcome_effects w ck GetCall call page (keeps o u picked (clears auto o (finishes (Token auto place t')))))
+tokens_same w ck call page o u place t t' None true = Tokens [] page place true t t'
+tokens_same w ck call page o u place t t' None false = Tokens (Flag o false ∷ []) page place false t t'
+tokens_same w ck call page o u place t t' (Some c) true = Tokens (Kept (triple_of o u c.account.id) true ∷ []) page place true t t'
+tokens_same w ck call page o u place t t' (Some c) false =
+    Tokens (Kept (triple_of o u c.account.id) true ∷ Flag o false ∷ []) page place false t t'
+
+given_same : (w : World) (ck : Ask → List ℕ) (call page : ℕ) (f : Facts) (place : ℕ) (q : ProviderOptions)
+    → (a b : Answer (List ℕ) TokenStep) → AreTokens a b
+    → ButToken call (outcome_effects w ck GetCall call page (by_token f place q a))
+    (outcome_effects w ck GetCall call page (by_token f place q b))
+given_same w ck call page f place q (Ok t) (Ok t') h =
+    tokens_same w ck call page f.origin (origin_of q.config) place t t' f.picked f.auto
+given_same w ck call page f place q (Err s) (Err s') h =
+    subst (λ x. ButToken call (outcome_effects w ck GetCall call page (by_token f place q (Err s)))
+    (outcome_effects w ck GetCall call page (by_token f place q (Err x)))) h (Equal _)
+given_same w ck call page f place q (Ok t) (Err s) h = absurd h
+given_same w ck call page f place q (Err s) (Ok t) h = absurd h
 
 reply_same : (w : World) (ck : Ask → List ℕ) (call page : ℕ) (f : Facts) (stage : Stage) (place : ℕ) (raw raw' : List ℕ)
     → ((o : List ℕ) → AreTokens (AssertionOf raw o) (AssertionOf raw' o))
@@ -243,8 +299,8 @@ reply_same w ck call page f Asserting place raw raw' h = go (provider_at place f
         (outcome_effects w ck GetCall call page (assertion_reply f place q raw'))
     go None = Equal _
     go (Some q) =
-        given_same w call page f.auto place (AssertionOf raw (origin_text f.origin)) (AssertionOf raw' (origin_text f.origin))
-        (h (origin_text f.origin)) ck
+        given_same w ck call page f place q (AssertionOf raw (origin_text f.origin)) (AssertionOf raw' (origin_text f.origin))
+        (h (origin_text f.origin))
 
 -- a disconnect waits for no assertion reply
 disconnect_reply_same : (w : World) (ck : Ask

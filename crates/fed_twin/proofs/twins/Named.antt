@@ -1,6 +1,6 @@
 -- The origins of a page that stands in both worlds were named together.
 use Rattle.std.proofs.Common.{◌≡◌, ℕ, Bool, true, false, nat_eq, cond, List, [], ◌∷◌, ◌++◌, Option, Some, None, IfSome}
-use Rattle.std.proofs.Common.{refl, sym, ap, ap₂}
+use Rattle.std.proofs.Common.{refl, sym, ap}
 use Rattle.std.proofs.Common.{subst, ◌∙◌, arith}
 use Rattle.std.proofs.lemmas.Bool.Decides.{nat_tests}
 use Rattle.std.specs.Prelude.{unwrap_or}
@@ -11,6 +11,7 @@ use Rattle.fed_origin.specs.declared.stage.ReplyKind.TheVariants as kinds
 use Rattle.fed_origin.specs.WebUrl.{origin_of}
 use Rattle.fed_script.specs.declared.event.Event.{Event}
 use Rattle.fed_script.specs.declared.event.Event.TheVariants as events
+use Rattle.fed_script.specs.declared.event.Have.TheVariants as haves
 use Rattle.fed_trace.specs.OfCall.{replaces}
 use Rattle.fed_trace.specs.Effect.{Page, Closed, page_change}
 use Rattle.fed_trace.specs.Keyed.{last_said, says}
@@ -20,15 +21,13 @@ use Rattle.fed_trace.proofs.happens.Happens.{pages_left}
 use Rattle.fed_trace.proofs.effects.Outcome.{last_said_after}
 use Rattle.fed_trace.proofs.calls.Pending.{ends_silent, load_rest_silent}
 use Rattle.fed_trace.proofs.effects.Silent.{last_said_silent}
-use Rattle.fed_twin.specs.Pairs.{Alike, Haves, Times, Loads, FarLoads, Closes, Statuses, Gets, Aborts, Goings, Cancels, Choices, WellKnowns}
-use Rattle.fed_twin.specs.Pairs.{Configs, AccountLists, Assertions, Disconnects, Pairs, Start, Both, Left, Right}
+use Rattle.fed_twin.specs.Pairs.{Alike, Logins, Cookies, Silents, Times, Loads, FarLoads, Closes, Prevents, Statuses, Gets, Disconnects}
+use Rattle.fed_twin.specs.Pairs.{Aborts, Goings, Cancels, Choices, WellKnowns, Configs, AccountLists, Assertions, DisconnectReplies}
+use Rattle.fed_twin.specs.Pairs.{Pairs, Start, Both, Left, Right}
 use Rattle.fed_twin.specs.Script.{is_kept}
 use Rattle.fed_twin.specs.Providers.{Providers}
-use Rattle.fed_twin.specs.Twin.{origin_named, both_named, AreOneToOne}
-use Rattle.fed_origin.specs.Origin.{same_origin}
-use Rattle.std.specs.List.{AllByRecursion}
-use Rattle.fed_twin.specs.Origins.{Agree}
-use Rattle.fed_twin.proofs.twins.Origins.{Member, Pair, all_at}
+use Rattle.fed_twin.specs.Twin.{origin_named, both_named}
+use Rattle.fed_twin.proofs.twins.Origins.{Member, Pair}
 
 -- two events that are alike, and whose origins, if they name some, are a pair of these
 pub record AlikeIn (p : Providers) (ps : List Pair) (e f : Event) : Type 0 where
@@ -111,13 +110,23 @@ both_close ps T U h line line' page q o u is is' = go (nat_eq q page) refl
 both_named_step : (p : Providers) (ps : List Pair) (T U : Trace) → PagesIn ps T U → (line line' : ℕ) {e f : Event} → Alike p e f
     → IfSome (both_named (origin_named e) (origin_named f)) (λ o. Member o ps)
     → PagesIn ps (with_event T line e) (with_event U line' f)
-both_named_step p ps T U h line line' (Haves have) m =
-    both_stay ps T U h line line' (events.Have have) (events.Have have) (λ q. refl) (λ q. refl)
+both_named_step p ps T U h line line' (Logins origin status) m =
+    both_stay ps T U h line line' (events.Have (haves.Login origin status)) (events.Have (haves.Login origin status)) (λ q. refl)
+    (λ q. refl)
+both_named_step p ps T U h line line' (Cookies url field) m =
+    both_stay ps T U h line line' (events.Have (haves.Cookie url field)) (events.Have (haves.Cookie url field)) (λ q. refl) (λ q. refl)
+both_named_step p ps T U h line line' (Silents origin origin') m =
+    both_stay ps T U h line line' (events.Have (haves.Silent origin)) (events.Have (haves.Silent origin')) (λ q. refl) (λ q. refl)
 both_named_step p ps T U h line line' (Times time) m =
     both_stay ps T U h line line' (events.At time) (events.At time) (λ q. refl) (λ q. refl)
 both_named_step p ps T U h line line' (Loads page url raw) m = both_load ps T U h line line' page url url raw raw m
 both_named_step p ps T U h line line' (FarLoads page url url' raw raw' far) m = both_load ps T U h line line' page url url' raw raw' m
 both_named_step p ps T U h line line' (Closes page) m = both_close ps T U h line line' page
+both_named_step p ps T U h line line' (Prevents page) m =
+    both_stay ps T U h line line' (events.Prevent page) (events.Prevent page) (λ q. refl) (λ q. refl)
+both_named_step p ps T U h line line' (Disconnects page call config client client' hint) m =
+    both_stay ps T U h line line' (events.Disconnect page call config client hint) (events.Disconnect page call config client' hint)
+    (λ q. refl) (λ q. refl)
 both_named_step p ps T U h line line' (Statuses page status) m =
     both_stay ps T U h line line' (events.SetStatus page status) (events.SetStatus page status) (λ q. refl) (λ q. refl)
 both_named_step p ps T U h line line' (Gets page call options options' same one) m =
@@ -142,7 +151,7 @@ both_named_step p ps T U h line line' (AccountLists call place raw) m =
 both_named_step p ps T U h line line' (Assertions call place raw raw') m =
     both_stay ps T U h line line' (events.Reply call place kinds.Assertion raw)
     (events.Reply call place kinds.Assertion raw') (λ q. refl) (λ q. refl)
-both_named_step p ps T U h line line' (Disconnects call place raw raw') m =
+both_named_step p ps T U h line line' (DisconnectReplies call place raw raw') m =
     both_stay ps T U h line line' (events.Reply call place kinds.Disconnect raw)
     (events.Reply call place kinds.Disconnect raw') (λ q. refl) (λ q. refl)
 
@@ -158,7 +167,9 @@ no_page q (events.Abort call) out = refl
 no_page q (events.GoOn call) out = refl
 no_page q (events.Cancel call) out = refl
 no_page q (events.Choose call place id) out = refl
+no_page q (events.Prevent page) out = refl
 no_page q (events.SetStatus page status) out = refl
+no_page q (events.Disconnect page call config client hint) out = refl
 
 pub pages_in : (p : Providers) (ps : List Pair) {T U : Trace} → Pairs p (AlikeIn p ps) T U → PagesIn ps T U
 pages_in p ps (Start a b rules rules' now) q o u is is' = absurd (cc)
@@ -168,13 +179,3 @@ pages_in p ps (Left T U line e out pairs) q o u is is' =
     pages_in p ps pairs q o u (sym (page_stays T line e q (no_page q e out)) ∙ is) is'
 pages_in p ps (Right T U line e out pairs) q o u is is' =
     pages_in p ps pairs q o u is (sym (page_stays U line e q (no_page q e out)) ∙ is')
-
--- ---- marks of origins, such as flags
-
--- marks that agree on all pairs still agree after both origins of a pair are marked so
-pub marks_agree : (ps : List Pair) → AreOneToOne ps → (f g : Origin → Bool) → ((o u : Origin) → Member (o, u) ps → f o ≡ g u)
-    → (a b : Origin) → Member (a, b) ps → (on : Bool) (o u : Origin) → Member (o, u) ps
-    → cond (same_origin o a) on (f o) ≡ cond (same_origin u b) on (g u)
-marks_agree ps one f g h a b m on o u n =
-    let both : Agree (o, u) (a, b) = all_at (Agree (o, u)) (a, b) (all_at (λ q. AllByRecursion (Agree q) ps) (o, u) one n) m in
-    ap₂ (λ t x. cond t on x) both (h o u n)

@@ -42,7 +42,7 @@ at_end : (p : Pair) (D : List Pair) → Member p (D ++ p ∷ [])
 at_end p [] = Here []
 at_end p (d ∷ D) = There d (D ++ p ∷ []) (at_end p D)
 
-each : {P Q : Pair → Type 0} → ((q : Pair) → P q → Q q) → (ps : List Pair) → AllByRecursion P ps → AllByRecursion Q ps
+pub each : {P Q : Pair → Type 0} → ((q : Pair) → P q → Q q) → (ps : List Pair) → AllByRecursion P ps → AllByRecursion Q ps
 each f [] h = tt
 each f (p ∷ ps) h = (f p h.0, each f ps h.1)
 
@@ -223,7 +223,8 @@ in_turn (p ∷ ps) before D s = one_more before D s p ps (λ D' s'. in_turn ps (
 
 -- ---- in turn or at once
 
-both_all : (P Q : Pair → Type 0) (ps : List Pair) → AllByRecursion P ps → AllByRecursion Q ps → AllByRecursion (λ q. P q × Q q) ps
+pub both_all : (P Q : Pair → Type 0) (ps : List Pair) → AllByRecursion P ps → AllByRecursion Q ps
+    → AllByRecursion (λ q. P q × Q q) ps
 both_all P Q [] h k = tt
 both_all P Q (p ∷ ps) h k = ((h.0, k.0), both_all P Q ps h.1 k.1)
 

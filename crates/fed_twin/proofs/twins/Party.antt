@@ -14,7 +14,7 @@ use Rattle.fed_suffix.specs.Rule.{RuleSet}
 use Rattle.fed_script.specs.declared.event.Event.{Event}
 use Rattle.fed_script.specs.declared.event.Event.TheVariants as events
 use Rattle.fed_script.specs.declared.event.Numbered.{Numbered}
-use Rattle.fed_twin.specs.Clauses.{parties_of, known_by, Gathers}
+use Rattle.fed_twin.specs.Clauses.{parties_of, provider_parties, known_by, Gathers}
 use Rattle.fed_twin.specs.Providers.{Providers, is_provider}
 use Rattle.fed_twin.specs.Twin.{AreFar, SharesLoad, configs_in, configs}
 
@@ -78,10 +78,6 @@ leaves_less : {start now new all left : List (List ℕ)} (more rest : List (List
 leaves_less {now = now} {new = new} more rest w is g =
     record { ends = λ last h. w.ends last (subst (λ l. Gathers now l last) (sym is) (gathers_both now new last more rest g h)) }
 
--- the parties of providers
-abbrev pub provider_parties : RuleSet → List ProviderOptions → List (List ℕ)
-provider_parties rules ps = parties_of rules (map (λ p. p.config) ps)
-
 -- one provider more
 pub provider_step : {start now new all : List (List ℕ)} {host q : List ℕ} (rules : RuleSet) (ps : List ProviderOptions) (i : ℕ)
     (p : ProviderOptions) → i < length ps → p ≡ get_or ps i p → host ≡ host_of p.config → q ≡ party rules host
@@ -126,7 +122,9 @@ shares_by p q same (events.Load page url raw) (events.GoOn call) h = tt
 shares_by p q same (events.Load page url raw) (events.Cancel call) h = tt
 shares_by p q same (events.Load page url raw) (events.Reply call place kind bytes) h = tt
 shares_by p q same (events.Load page url raw) (events.Choose call place id) h = tt
+shares_by p q same (events.Load page url raw) (events.Prevent page') h = tt
 shares_by p q same (events.Load page url raw) (events.SetStatus page' status) h = tt
+shares_by p q same (events.Load page url raw) (events.Disconnect page' call config client hint) h = tt
 shares_by p q same (events.Have have) f h = tt
 shares_by p q same (events.At time) f h = tt
 shares_by p q same (events.ClosePage page) f h = tt
@@ -136,7 +134,9 @@ shares_by p q same (events.GoOn call) f h = tt
 shares_by p q same (events.Cancel call) f h = tt
 shares_by p q same (events.Reply call place kind raw) f h = tt
 shares_by p q same (events.Choose call place id) f h = tt
+shares_by p q same (events.Prevent page) f h = tt
 shares_by p q same (events.SetStatus page status) f h = tt
+shares_by p q same (events.Disconnect page call config client hint) f h = tt
 
 -- providers by other rules and parties that have the same texts
 pub same_providers_by : (p : Providers) (rules : RuleSet) (keys : List (List ℕ)) → rules ≡ p.rules → Gathers [] p.parties keys

@@ -9,6 +9,8 @@ use Rattle.fed_origin.specs.declared.stage.ReplyKind.TheVariants as kinds
 use Rattle.fed_origin.specs.Origin.{same_origin}
 use Rattle.fed_script.specs.declared.event.Event.{Event}
 use Rattle.fed_script.specs.declared.event.Event.TheVariants as events
+use Rattle.fed_script.specs.declared.event.Have.{Have}
+use Rattle.fed_script.specs.declared.event.Have.TheVariants as haves
 use Rattle.fed_script.specs.declared.event.Numbered.{Numbered}
 use Rattle.fed_script.specs.Script.{Script}
 use Rattle.fed_trace.specs.Row.{with_event}
@@ -16,7 +18,8 @@ use Rattle.fed_trace.specs.Trace.{Row, Trace}
 use Rattle.fed_trace.specs.OfScript.{start, with_events}
 use Rattle.fed_twin.specs.Script.{is_kept, is_loud, kept_events, up_to, AreQuiet, Quiet}
 use Rattle.fed_twin.specs.Providers.{Providers}
-use Rattle.fed_twin.specs.Twin.{SharesProvider, SharesBytes, SharesMembers, SharesLoad, kind_of, origins_named, providers_of, Twin}
+use Rattle.fed_twin.specs.Twin.{SharesProvider, SharesBytes, SharesHave, SharesMembers, SharesLoad, kind_of, origins_named, providers_of}
+use Rattle.fed_twin.specs.Twin.{Twin}
 use Rattle.fed_twin.proofs.others.Tokens.{rows_of, rows_are}
 
 self_bytes : (kind : ReplyKind) (raw : List ℕ) → SharesBytes kind raw raw
@@ -31,8 +34,14 @@ self_providers : (qs : List ProviderOptions) → AllZip SharesProvider qs qs
 self_providers [] = tt
 self_providers (q ∷ qs) = (record { config = refl; login_hint = refl; domain_hint = refl }, self_providers qs)
 
+self_have : (have : Have) → SharesHave have have
+self_have (haves.Login origin status) = (refl, refl)
+self_have (haves.Kept triple) = tt
+self_have (haves.Silent origin) = tt
+self_have (haves.Cookie url field) = (refl, refl)
+
 self_members : (e : Event) → SharesMembers e e
-self_members (events.Have have) = refl
+self_members (events.Have have) = self_have have
 self_members (events.At time) = refl
 self_members (events.Load page url raw) = tt
 self_members (events.ClosePage page) = refl
@@ -43,7 +52,9 @@ self_members (events.GoOn call) = refl
 self_members (events.Cancel call) = refl
 self_members (events.Reply call place kind raw) = (refl, refl, refl, self_bytes kind raw)
 self_members (events.Choose call place id) = (refl, refl, refl)
+self_members (events.Prevent page) = refl
 self_members (events.SetStatus page status) = (refl, refl)
+self_members (events.Disconnect page call config client hint) = (refl, refl, refl, refl)
 
 self_load : (p : Providers) (e : Event) → SharesLoad p e e
 self_load p (events.Have have) = tt
@@ -56,7 +67,9 @@ self_load p (events.GoOn call) = tt
 self_load p (events.Cancel call) = tt
 self_load p (events.Reply call place kind raw) = tt
 self_load p (events.Choose call place id) = tt
+self_load p (events.Prevent page) = tt
 self_load p (events.SetStatus page status) = tt
+self_load p (events.Disconnect page call config client hint) = tt
 
 all_self : (R : Event → Event → Type 0) → ((e : Event) → R e e) → (es : List Event)
     → AllByRecursion (λ x. R x.0 x.1) (zip es es)
@@ -66,7 +79,10 @@ all_self R self (e ∷ es) = (self e, all_self R self es)
 doubles : (es : List Event) → AllByRecursion (λ p. p.0 ≡ p.1) (origins_named (zip es es))
 doubles [] = tt
 doubles (events.Load page url raw ∷ es) = (refl, doubles es)
-doubles (events.Have have ∷ es) = doubles es
+doubles (events.Have (haves.Silent origin) ∷ es) = (refl, doubles es)
+doubles (events.Have (haves.Login origin status) ∷ es) = doubles es
+doubles (events.Have (haves.Kept triple) ∷ es) = doubles es
+doubles (events.Have (haves.Cookie url field) ∷ es) = doubles es
 doubles (events.At time ∷ es) = doubles es
 doubles (events.ClosePage page ∷ es) = doubles es
 doubles (events.Get page call options ∷ es) = doubles es
@@ -75,7 +91,9 @@ doubles (events.GoOn call ∷ es) = doubles es
 doubles (events.Cancel call ∷ es) = doubles es
 doubles (events.Reply call place kind raw ∷ es) = doubles es
 doubles (events.Choose call place id ∷ es) = doubles es
+doubles (events.Prevent page ∷ es) = doubles es
 doubles (events.SetStatus page status ∷ es) = doubles es
+doubles (events.Disconnect page call config client hint ∷ es) = doubles es
 
 -- ---- quiet before
 

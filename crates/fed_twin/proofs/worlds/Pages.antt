@@ -8,6 +8,7 @@ use Rattle.std.specs.List.{filter_map, cons_option}
 use Rattle.url.specs.Parts.{Parts}
 use Rattle.fed_origin.specs.declared.origin.Origin.{Origin}
 use Rattle.fed_origin.specs.declared.status.LoginStatus.{LoginStatus}
+use Rattle.fed_origin.specs.declared.status.Triple.{Triple}
 use Rattle.fed_origin.specs.Origin.{is_trustworthy}
 use Rattle.fed_origin.specs.WebUrl.{host_of, origin_of}
 use Rattle.fed_cookie.specs.Fields.{set_cookie_of}
@@ -19,15 +20,18 @@ use Rattle.fed_call.specs.Facts.{Facts}
 use Rattle.fed_script.specs.declared.event.Event.{Event}
 use Rattle.fed_script.specs.declared.event.Event.TheVariants as events
 use Rattle.fed_script.specs.declared.event.Have.{Have}
+use Rattle.fed_script.specs.declared.event.Have.TheVariants as haves
 use Rattle.fed_trace.specs.Begun.{CallKind, GetCall, DisconnectCall, of_get}
 use Rattle.fed_trace.specs.Call.{OfGet}
-use Rattle.fed_trace.specs.Effect.{Effect, PendingCall, Page, Closed, Cookie, call_change}
+use Rattle.fed_trace.specs.Effect.{Effect, PendingCall, Page, Closed, Cookie, Login, Flag, call_change}
 use Rattle.fed_trace.specs.Known.{known_at, facts_at}
 use Rattle.fed_trace.specs.Row.{IsRun, with_event, ends_of, close_effects, cookie_from, cookies_from, cookie_effects}
-use Rattle.fed_trace.specs.Row.{login_effects, have_cookies, have_logins, set_cookies, set_logins, status_effects, standing_status}
+use Rattle.fed_trace.specs.Row.{login_effects, have_cookies, have_states, set_cookies, set_logins, page_says, standing_says}
 use Rattle.fed_trace.specs.Trace.{Trace, page_at, pending, pending_of, by_kind, calls_of, now_at}
 use Rattle.fed_trace.proofs.calls.Gets.{gets_among, has_get, get_is_among, among_is_get}
 use Rattle.fed_trace.proofs.calls.Pending.{is_among}
+use Rattle.fed_trace.proofs.effects.Silent.{said_silent}
+use Rattle.fed_trace.proofs.events.Aside.{says_silent}
 use Rattle.fed_trace.proofs.happens.Taken.{is_get}
 use Rattle.fed_trace.proofs.keyed.Keyed.{distinct_standing}
 use Rattle.fed_trace.proofs.runs.Gets.{known_kind, gets_are}
@@ -37,7 +41,7 @@ use Rattle.fed_twin.specs.Seen as views
 use Rattle.fed_twin.specs.Same.{SameCall, SameWorlds}
 use Rattle.fed_twin.specs.Twin.{AreFar}
 use Rattle.fed_twin.proofs.calls.Facts.{EndsThere, facts_left, facts_load, facts_close, facts_ignored}
-use Rattle.fed_twin.proofs.worlds.Grow.{grow}
+use Rattle.fed_twin.proofs.worlds.Grow.{grow, grow_alone}
 use Rattle.fed_twin.proofs.seen.Look.{now_same, page_same, gets_same, same_party}
 
 -- a call that both leave is the same
@@ -132,11 +136,27 @@ pub step_have : (p : Providers) (T U : Trace) → SameWorlds p T U → (line lin
     → SameWorlds p (with_event T line (events.Have have)) (with_event U line' (events.Have have))
 step_have p T U h line line' have =
     grow p T U h line line' (events.Have have) (events.Have have)
-    (ap (λ cs. filter_map (seen p) (cookie_effects cs ++ have_logins have))
+    (ap (λ cs. filter_map (seen p) (cookie_effects cs ++ have_states have))
     (ap (λ r. have_cookies r (now_at T) have)
     (h.rules ∙ sym h.rules') ∙ ap (λ n. have_cookies U.header.rules n have) (now_same p T U h.now h.seen)))
     (λ q. call_left p T U h q _ _ (facts_left T line (events.Have have) q refl (λ page. refl) refl) (facts_left U line'
     (events.Have have) q refl (λ page. refl) refl))
+
+-- a flag of each, of which providers can tell nothing
+pub step_silent : (p : Providers) (T U : Trace) → SameWorlds p T U → (line line' : ℕ) (origin origin' : Origin)
+    → SameWorlds p (with_event T line (events.Have (haves.Silent origin))) (with_event U line' (events.Have (haves.Silent origin')))
+step_silent p T U h line line' origin origin' =
+    grow p T U h line line' (events.Have (haves.Silent origin)) (events.Have (haves.Silent origin')) refl
+    (λ q. call_left p T U h q _ _ (facts_left T line (events.Have (haves.Silent origin)) q refl (λ page. refl) refl)
+    (facts_left U line' (events.Have (haves.Silent origin')) q refl (λ page. refl) refl))
+
+-- a permission in one world alone, of which they can tell nothing
+pub step_kept : (p : Providers) (T U : Trace) → SameWorlds p T U → (line : ℕ) (triple : Triple)
+    → SameWorlds p (with_event T line (events.Have (haves.Kept triple))) U
+step_kept p T U h line triple =
+    grow_alone p T U h line (events.Have (haves.Kept triple)) refl
+    (λ q. subst (λ x. SameCall p x (facts_at U q))
+    (sym (facts_left T line (events.Have (haves.Kept triple)) q refl (λ page. refl) refl)) (h.calls q))
 
 pub step_at : (p : Providers) (T U : Trace) → SameWorlds p T U → (line line' time : ℕ)
     → SameWorlds p (with_event T line (events.At time)) (with_event U line' (events.At time))
@@ -145,10 +165,12 @@ step_at p T U h line line' time =
     (λ q. call_left p T U h q _ _ (facts_left T line (events.At time) q refl (λ page. refl) refl) (facts_left U line'
     (events.At time) q refl (λ page. refl) refl))
 
--- ---- a page sets the status of its origin
+-- ---- a page says something of its origin
 
+-- a status that it sets
 status_seen : (p : Providers) (o u : Option Origin) → option_map (told p) o ≡ option_map (told p) u → (status : LoginStatus)
-    → filter_map (seen p) (status_effects o status) ≡ filter_map (seen p) (status_effects u status)
+    → filter_map (seen p) (page_says o (λ origin. Login origin status))
+    ≡ filter_map (seen p) (page_says u (λ origin. Login origin status))
 status_seen p None None e status = refl
 status_seen p None (Some u) e status = absurd (cc)
 status_seen p (Some o) None e status = absurd (cc)
@@ -168,7 +190,8 @@ status_seen p (Some o) (Some u) e status = go (is_trustworthy o) (is_trustworthy
     shown false true k = absurd (cc)
     shown false false k = refl
 
-    go : (a b : Bool) → a ≡ b → filter_map (seen p) (standing_status a o status) ≡ filter_map (seen p) (standing_status b u status)
+    go : (a b : Bool) → a ≡ b
+        → filter_map (seen p) (standing_says a (Login o status)) ≡ filter_map (seen p) (standing_says b (Login u status))
     go true true k = shown (is_provider p o.host) (is_provider p u.host) named
     go true false k = absurd (cc)
     go false true k = absurd (cc)
@@ -181,6 +204,20 @@ step_status p T U h line line' page status =
     (status_seen p (page_at T page) (page_at U page) (page_same p T U page h.seen) status)
     (λ q. call_left p T U h q _ _ (facts_left T line (events.SetStatus page status) q refl (λ page. refl) refl)
     (facts_left U line' (events.SetStatus page status) q refl (λ page. refl) refl))
+
+-- a flag that it sets, of which providers can tell nothing
+prevent_seen : (p : Providers) (o : Option Origin) → filter_map (seen p) (page_says o (λ origin. Flag origin true)) ≡ []
+prevent_seen p o =
+    said_silent (seen p) (page_says o (λ origin. Flag origin true))
+    (says_silent (seen p) (λ origin. Flag origin true) (λ origin. refl) (λ why. refl) o)
+
+pub step_prevent : (p : Providers) (T U : Trace) → SameWorlds p T U → (line line' page : ℕ)
+    → SameWorlds p (with_event T line (events.Prevent page)) (with_event U line' (events.Prevent page))
+step_prevent p T U h line line' page =
+    grow p T U h line line' (events.Prevent page) (events.Prevent page)
+    (prevent_seen p (page_at T page) ∙ sym (prevent_seen p (page_at U page)))
+    (λ q. call_left p T U h q _ _ (facts_left T line (events.Prevent page) q refl (λ page. refl) refl)
+    (facts_left U line' (events.Prevent page) q refl (λ page. refl) refl))
 
 -- ---- pages that close
 

@@ -13,6 +13,7 @@ use Rattle.fed_origin.specs.declared.stage.ReplyKind.TheVariants as kinds
 use Rattle.fed_origin.specs.declared.stage.Stage.{Stage}
 use Rattle.fed_origin.specs.declared.stage.Stage.TheVariants.{Reading, Prompting, Ended}
 use Rattle.fed_origin.specs.Origin.{is_trustworthy}
+use Rattle.fed_status.specs.Flags.{has_flag}
 use Rattle.fed_consent.specs.declared.table.input.Input.{Input}
 use Rattle.fed_consent.specs.declared.table.input.Input.TheVariants as inputs
 use Rattle.fed_call.specs.Facts.{Facts, at_stage, fresh, facts_after}
@@ -31,7 +32,7 @@ use Rattle.fed_trace.specs.Effect.{Effect, Begin, Ignored, last_of, stage_change
 use Rattle.fed_trace.specs.Keyed.{last_said}
 use Rattle.fed_trace.specs.Known.{world_at, is_begun, input_to, with_said, known_at, facts_at}
 use Rattle.fed_trace.specs.Row.{effects_of, with_event, cookies_with, outcome_effects, begin_effects, standing_call, input_effects, is_busy}
-use Rattle.fed_trace.specs.Trace.{Trace, page_at, gets}
+use Rattle.fed_trace.specs.Trace.{Trace, page_at, flags, gets}
 use Rattle.fed_trace.proofs.happens.First.{FirstTurn, FailsFirst, ReadsFirst, first_turn, known_begun}
 use Rattle.fed_trace.proofs.happens.Ends.{Takes, event_for}
 use Rattle.fed_trace.proofs.effects.Outcome.{moves_no_other}
@@ -45,7 +46,7 @@ use Rattle.fed_twin.specs.Seen.{seen, told}
 use Rattle.fed_twin.specs.Seen as views
 use Rattle.fed_twin.specs.Same.{SameOptions, SameFacts, SameCall, SameWorlds}
 use Rattle.fed_twin.proofs.calls.Call.{AgreeWorlds, Keeps, after_at, keeps_fails, told_effect, configured}
-use Rattle.fed_twin.proofs.calls.Facts.{is_get, facts_left, facts_ignored, others_unseen, get_is_begun}
+use Rattle.fed_twin.proofs.calls.Facts.{begins_call, facts_left, facts_ignored, others_unseen, get_is_begun}
 use Rattle.fed_twin.proofs.calls.Get.{get_same, own_get}
 use Rattle.fed_twin.proofs.worlds.Grow.{grow, grow_alone}
 use Rattle.fed_twin.proofs.seen.Look.{page_same, gets_same}
@@ -120,12 +121,13 @@ first_stage o (ReadsFirst reading asks gives) = (Reading, reading, inr refl)
 -- both gets are taken
 taken_get : (p : Providers) (T U : Trace) → SameWorlds p T U
     → (line line' page call : ℕ) (o u : Origin) (options options' : GetOptions)
+    → has_flag (flags T) o ≡ has_flag (flags U) u
     → SameOptions p options options' → length options.providers ≡ 1 → (busy : Bool)
     → Does T line page call o options (get_outcome (world_at T) busy o options)
     → Does U line' page call u options' (get_outcome (world_at U) busy u options')
     → SameWorlds p (with_event T line (events.Get page call options)) (with_event U line' (events.Get page call options'))
 unfolding get_begun
-taken_get p T U h line line' page call o u options options' same one busy is is' =
+taken_get p T U h line line' page call o u options options' flag same one busy is is' =
     grow p T U h line line' (events.Get page call options) (events.Get page call options')
     (ap (filter_map (seen p)) is ∙ seen_same ∙ sym (ap (filter_map (seen p)) is'))
     (λ q. calls q (nat_eq q call) refl)
@@ -137,7 +139,7 @@ taken_get p T U h line line' page call o u options options' same one busy is is'
     first' = get_outcome (world_at U) busy u options'
 
     one_outcome : first ≡ first'
-    one_outcome = get_same p (world_at T) (world_at U) (worlds_agree p T U h) busy o u options options' same
+    one_outcome = get_same p (world_at T) (world_at U) (worlds_agree p T U h) busy o u flag options options' same
 
     seen_same : filter_map (seen p) (Begin (get_begun page call o options)
         ∷ outcome_effects (world_at T) (cookies_with T) GetCall call page first)
@@ -170,11 +172,16 @@ taken_get p T U h line line' page call o u options options' same one busy is is'
         (subst (λ x. SameCall p (at_stage stage.0 (fresh call page o options)) x) (sym right)
         (first_facts p call page page o u options options' same stage.0 stage.2)))
 
+-- where the page stands in both worlds, the flags of its origins are the same
+abbrev pub FlagsOf : Trace → Trace → ℕ → Type 0
+FlagsOf T U page =
+    (o u : Origin) → page_at T page ≡ Some o → page_at U page ≡ Some u → has_flag (flags T) o ≡ has_flag (flags U) u
+
 pub step_get : (p : Providers) (T U : Trace) → SameWorlds p T U → (line line' page call : ℕ) (options options' : GetOptions)
-    → SameOptions p options options' → length options.providers ≡ 1
+    → FlagsOf T U page → SameOptions p options options' → length options.providers ≡ 1
     → SameWorlds p (with_event T line (events.Get page call options)) (with_event U line' (events.Get page call options'))
 unfolding get_begun
-step_get p T U h line line' page call options options' same one =
+step_get p T U h line line' page call options options' flag same one =
     go (page_at T page) (page_at U page) refl refl (page_same p T U page h.seen)
   where
     e : Event
@@ -208,7 +215,7 @@ step_get p T U h line line' page call options options' same one =
         (λ q. call_left p T U h q _ _ (get_ignored T line page call options q _ none refl refl)
         (get_ignored U line' page call options' q _ none' refl refl))
     trusted o u is is' true true t t' same_trust =
-        taken_get p T U h line line' page call o u options options' same one
+        taken_get p T U h line line' page call o u options options' (flag o u is is') same one
         (is_busy page (gets T))
         (by (Some o) is ∙ ap (λ x. standing_call (world_at T) (cookies_with T) x (is_busy page (gets T))
         (get_begun page call o options)) t)
@@ -244,13 +251,13 @@ pub record IsInput (event : Event) (call : ℕ) (i : Input) : Type 0 where
   pub effects : (T : Trace)
       → effects_of T event ≡ input_effects (world_at T) (cookies_with T) (is_begun T call) call (known_at T call) i
   pub stands : (page : ℕ) → replaces page event ≡ false
-  pub no_get : is_get event ≡ false
+  pub no_begin : begins_call event ≡ false
 
 -- it leaves other calls
 other_left : (T : Trace) (line : ℕ) (event : Event) (call : ℕ) (i : Input) → IsInput event call i → (q : ℕ)
     → nat_eq q call ≡ false
     → facts_at (with_event T line event) q ≡ facts_at T q
-other_left T line event call i is q ne = facts_left T line event q (is.said q ∙ ap (λ b. cond b (Some i) None) ne) is.stands is.no_get
+other_left T line event call i is q ne = facts_left T line event q (is.said q ∙ ap (λ b. cond b (Some i) None) ne) is.stands is.no_begin
 
 -- the call takes it
 takes : (T : Trace) (event : Event) (call : ℕ) (i : Input) → IsInput event call i → is_begun T call ≡ true → Takes T event call
@@ -384,7 +391,8 @@ module _ (p : Providers) (T U : Trace) (h : SameWorlds p T U) where
   row_accounts place raw f f' s q q' =
       subst (λ st. Keeps p (world_at T) (world_at U) f f' (inputs.Reply place kinds.Accounts raw) (inputs.Reply place kinds.Accounts raw)
       (stage_reply (world_at T) f f.stage place kinds.Accounts raw) (stage_reply (world_at U) f' st place kinds.Accounts raw)) s.stage
-      (reply_accounts p (world_at T) (world_at U) agree f f' s place raw f.stage refl)
+      (reply_accounts p (world_at T) (world_at U) agree f f' s place raw f.stage refl q
+      (subst (λ st. IsQuiet (stage_reply (world_at U) f' st place kinds.Accounts raw)) (sym s.stage) q'))
 
   pub row_assertion : (place : ℕ) (raw raw' : List ℕ)
       → OwesRow p T U (inputs.Reply place kinds.Assertion raw) (inputs.Reply place kinds.Assertion raw')
@@ -429,19 +437,19 @@ module _ (p : Providers) (T U : Trace) (h : SameWorlds p T U) where
 
 pub is_reply : (call place : ℕ) (kind : ReplyKind) (raw : List ℕ)
     → IsInput (events.Reply call place kind raw) call (inputs.Reply place kind raw)
-is_reply call place kind raw = record { said = λ q. refl; is_event = refl; effects = λ T. refl; stands = λ page. refl; no_get = refl }
+is_reply call place kind raw = record { said = λ q. refl; is_event = refl; effects = λ T. refl; stands = λ page. refl; no_begin = refl }
 
 pub is_choose : (call place : ℕ) (id : List ℕ) → IsInput (events.Choose call place id) call (inputs.Choose place id)
-is_choose call place id = record { said = λ q. refl; is_event = refl; effects = λ T. refl; stands = λ page. refl; no_get = refl }
+is_choose call place id = record { said = λ q. refl; is_event = refl; effects = λ T. refl; stands = λ page. refl; no_begin = refl }
 
 pub is_go_on : (call : ℕ) → IsInput (events.GoOn call) call inputs.GoOn
-is_go_on call = record { said = λ q. refl; is_event = refl; effects = λ T. refl; stands = λ page. refl; no_get = refl }
+is_go_on call = record { said = λ q. refl; is_event = refl; effects = λ T. refl; stands = λ page. refl; no_begin = refl }
 
 pub is_cancel : (call : ℕ) → IsInput (events.Cancel call) call inputs.Cancel
-is_cancel call = record { said = λ q. refl; is_event = refl; effects = λ T. refl; stands = λ page. refl; no_get = refl }
+is_cancel call = record { said = λ q. refl; is_event = refl; effects = λ T. refl; stands = λ page. refl; no_begin = refl }
 
 pub is_abort : (call : ℕ) → IsInput (events.Abort call) call inputs.Abort
-is_abort call = record { said = λ q. refl; is_event = refl; effects = λ T. refl; stands = λ page. refl; no_get = refl }
+is_abort call = record { said = λ q. refl; is_event = refl; effects = λ T. refl; stands = λ page. refl; no_begin = refl }
 
 -- ---- a metadata reply in one world alone
 

@@ -1,77 +1,100 @@
 -- Two traces that grow together stay the same, as far as providers can tell, until either asks for a token.
 use Rattle.std.proofs.Common.{◌≡◌, ℕ, zero, suc, Bool, true, false, cond, ◌||◌, ◌⊎◌, inl, inr, List, [], ◌∷◌}
 use Rattle.std.proofs.Common.{◌++◌, map, zip, length}
-use Rattle.std.proofs.Common.{Option, refl, sym, ap, subst, arith}
+use Rattle.std.proofs.Common.{Option, Some, None, refl, sym, ap, subst, arith}
 use Rattle.std.proofs.lemmas.Slice.Eq.{bytes_eq-Decides}
-use Rattle.std.specs.Prelude.{bytes_eq, if◌then◌else◌}
-use Rattle.std.specs.List.{list_any, AllByRecursion, AllZip}
+use Rattle.std.specs.Prelude.{bytes_eq, if◌then◌else◌, IfSome}
+use Rattle.std.specs.List.{list_any, cons_option, AllByRecursion, AllZip}
 use Rattle.url.specs.Parts.{Parts}
 use Rattle.fed_origin.specs.declared.options.ProviderOptions.{ProviderOptions}
 use Rattle.fed_origin.specs.declared.stage.ReplyKind.{ReplyKind}
 use Rattle.fed_origin.specs.declared.stage.ReplyKind.TheVariants as kinds
 use Rattle.fed_origin.specs.WebUrl.{host_of}
 use Rattle.fed_suffix.specs.Registrable.{party}
+use Rattle.fed_status.specs.Flags.{has_flag}
 use Rattle.fed_consent.specs.declared.table.input.Input.TheVariants as inputs
 use Rattle.fed_script.specs.declared.event.Event.{Event}
 use Rattle.fed_script.specs.declared.event.Event.TheVariants as events
+use Rattle.fed_script.specs.declared.event.Have.{Have}
+use Rattle.fed_script.specs.declared.event.Have.TheVariants as haves
 use Rattle.fed_script.specs.declared.event.Numbered.{Numbered}
 use Rattle.fed_script.specs.Script.{Script, AreRead, IsRead}
 use Rattle.fed_script.specs.Used.{UsedState, unused, used_after, HasOneProvider}
-use Rattle.fed_trace.specs.Row.{IsRun, effects_of, with_event}
+use Rattle.fed_trace.specs.Row.{IsRun, IsNew, effects_of, with_event}
 use Rattle.fed_trace.specs.Trace.{Trace}
+use Rattle.fed_trace.specs.Trace as trace
 use Rattle.fed_trace.specs.OfScript.{start, with_events}
 use Rattle.fed_trace.proofs.runs.Scripts.{script_runs}
 use Rattle.fed_twin.specs.Script.{is_kept, kept_events, up_to, trace_to, names, AreQuiet}
 use Rattle.fed_twin.specs.Providers.{Providers, is_provider}
-use Rattle.fed_twin.specs.Same.{SameProvider, SameOptions, SameWorlds}
-use Rattle.fed_twin.specs.Pairs.{Alike, Haves, Times, Loads, FarLoads, Closes, Statuses, Gets, Aborts, Goings, Cancels, Choices, WellKnowns}
-use Rattle.fed_twin.specs.Pairs.{Configs, AccountLists, Assertions, Disconnects, Pairs, Start, Both, Left, Right}
-use Rattle.fed_twin.specs.Twin.{kind_of, SharesProvider, SharesBytes, SharesMembers, SharesLoad, AreFar, configs_in, configs, providers_of}
+use Rattle.fed_twin.specs.Same.{SameProvider, SameOptions, SameWorlds, SameFlags}
+use Rattle.fed_twin.specs.Pairs.{Alike, Logins, Cookies, Silents, Times, Loads, FarLoads, Closes, Prevents, Statuses, Gets, Disconnects}
+use Rattle.fed_twin.specs.Pairs.{Aborts, Goings, Cancels, Choices, WellKnowns, Configs, AccountLists, Assertions, DisconnectReplies}
+use Rattle.fed_twin.specs.Pairs.{Pairs, Start, Both, Left, Right}
+use Rattle.fed_twin.specs.Twin.{kind_of, SharesProvider, SharesBytes, SharesHave, SharesMembers, SharesLoad, AreFar, origin_named}
+use Rattle.fed_twin.specs.Twin.{both_named}
+use Rattle.fed_twin.specs.Twin.{AreOneToOne, origins_named, configs_in, configs, providers_of, pairs_of}
 use Rattle.fed_twin.specs.Laws.{TwoWorlds}
-use Rattle.fed_twin.proofs.worlds.Flip.{flip_worlds}
 use Rattle.fed_twin.proofs.seen.Look.{sign_in_same}
-use Rattle.fed_twin.proofs.worlds.Pages.{AreRuns, step_have, step_at, step_status, step_close, step_load, step_far_load}
+use Rattle.fed_twin.proofs.twins.Named.{AlikeIn, PagesIn, pages_in}
+use Rattle.fed_twin.proofs.twins.Origins.{Pair, Member, Here, There, all_at, each}
+use Rattle.fed_twin.proofs.worlds.Disconnects.{step_disconnect}
+use Rattle.fed_twin.proofs.worlds.Flags.{flags_begin, flags_both, flags_left_alone, flags_right_alone}
+use Rattle.fed_twin.proofs.worlds.Flip.{flip_worlds}
+use Rattle.fed_twin.proofs.worlds.Pages.{AreRuns, step_have, step_silent, step_kept, step_at, step_status, step_prevent, step_close}
+use Rattle.fed_twin.proofs.worlds.Pages.{step_load}
+use Rattle.fed_twin.proofs.worlds.Pages.{step_far_load}
 use Rattle.fed_twin.proofs.worlds.Steps.{step_get, step_input, step_metadata, row_wellknown, row_config, row_accounts, row_assertion}
 use Rattle.fed_twin.proofs.worlds.Steps.{row_disconnect, row_choose, row_go_on, row_cancel, row_abort, is_reply, is_choose, is_go_on}
 use Rattle.fed_twin.proofs.worlds.Steps.{is_cancel, is_abort}
 
 -- ---- one row more
 
-step_alike : (p : Providers) (T U : Trace) → SameWorlds p T U → AreRuns T U → (line line' : ℕ) {event event' : Event}
-    → Alike p event event'
+step_alike : (p : Providers) (ps : List Pair) (T U : Trace) → SameWorlds p T U → SameFlags ps T U → PagesIn ps T U → AreRuns T U
+    → (line line' : ℕ) {event event' : Event} → Alike p event event' → IsNew T.rows event → IsNew U.rows event'
     → list_any names (effects_of T event) ≡ false → list_any names (effects_of U event') ≡ false
     → SameWorlds p (with_event T line event) (with_event U line' event')
-step_alike p T U h runs line line' (Haves have) q q' = step_have p T U h line line' have
-step_alike p T U h runs line line' (Times time) q q' = step_at p T U h line line' time
-step_alike p T U h runs line line' (Loads page url raw) q q' = step_load p T U h runs line line' page url raw
-step_alike p T U h runs line line' (FarLoads page url url' raw raw' far) q q' =
+step_alike p ps T U h flags pages runs line line' (Logins origin status) new new' q q' =
+    step_have p T U h line line' (haves.Login origin status)
+step_alike p ps T U h flags pages runs line line' (Cookies url field) new new' q q' =
+    step_have p T U h line line' (haves.Cookie url field)
+step_alike p ps T U h flags pages runs line line' (Silents origin origin') new new' q q' =
+    step_silent p T U h line line' origin origin'
+step_alike p ps T U h flags pages runs line line' (Prevents page) new new' q q' = step_prevent p T U h line line' page
+step_alike p ps T U h flags pages runs line line' (Disconnects page call config client client' hint) new new' q q' =
+    step_disconnect p T U h line line' page call config client client' hint new new'
+step_alike p ps T U h flags pages runs line line' (Times time) new new' q q' = step_at p T U h line line' time
+step_alike p ps T U h flags pages runs line line' (Loads page url raw) new new' q q' = step_load p T U h runs line line' page url raw
+step_alike p ps T U h flags pages runs line line' (FarLoads page url url' raw raw' far) new new' q q' =
     step_far_load p T U h runs line line' page url url' raw raw' far
-step_alike p T U h runs line line' (Closes page) q q' = step_close p T U h runs line line' page
-step_alike p T U h runs line line' (Statuses page status) q q' = step_status p T U h line line' page status
-step_alike p T U h runs line line' (Gets page call options options' same one) q q' =
-    step_get p T U h line line' page call options options' same one
-step_alike p T U h runs line line' (Aborts call) q q' =
+step_alike p ps T U h flags pages runs line line' (Closes page) new new' q q' = step_close p T U h runs line line' page
+step_alike p ps T U h flags pages runs line line' (Statuses page status) new new' q q' = step_status p T U h line line' page status
+step_alike p ps T U h flags pages runs line line' (Gets page call options options' same one) new new' q q' =
+    step_get p T U h line line' page call options options'
+    (λ o u is is'. all_at (λ x. has_flag (trace.flags T) x.0 ≡ has_flag (trace.flags U) x.1) (o, u) flags
+    (pages page o u is is')) same one
+step_alike p ps T U h flags pages runs line line' (Aborts call) new new' q q' =
     step_input p T U h line line' _ _ call inputs.Abort inputs.Abort (is_abort call) (is_abort call) (row_abort p T U h) q q'
-step_alike p T U h runs line line' (Goings call) q q' =
+step_alike p ps T U h flags pages runs line line' (Goings call) new new' q q' =
     step_input p T U h line line' _ _ call inputs.GoOn inputs.GoOn (is_go_on call) (is_go_on call) (row_go_on p T U h) q q'
-step_alike p T U h runs line line' (Cancels call) q q' =
+step_alike p ps T U h flags pages runs line line' (Cancels call) new new' q q' =
     step_input p T U h line line' _ _ call inputs.Cancel inputs.Cancel (is_cancel call) (is_cancel call) (row_cancel p T U h) q q'
-step_alike p T U h runs line line' (Choices call place id) q q' =
+step_alike p ps T U h flags pages runs line line' (Choices call place id) new new' q q' =
     step_input p T U h line line' _ _ call (inputs.Choose place id) (inputs.Choose place id) (is_choose call place id)
     (is_choose call place id) (row_choose p T U h place id) q q'
-step_alike p T U h runs line line' (WellKnowns call place raw) q q' =
+step_alike p ps T U h flags pages runs line line' (WellKnowns call place raw) new new' q q' =
     step_input p T U h line line' _ _ call (inputs.Reply place kinds.WellKnown raw) (inputs.Reply place kinds.WellKnown raw)
     (is_reply call place kinds.WellKnown raw) (is_reply call place kinds.WellKnown raw) (row_wellknown p T U h place raw) q q'
-step_alike p T U h runs line line' (Configs call place raw) q q' =
+step_alike p ps T U h flags pages runs line line' (Configs call place raw) new new' q q' =
     step_input p T U h line line' _ _ call (inputs.Reply place kinds.Config raw) (inputs.Reply place kinds.Config raw)
     (is_reply call place kinds.Config raw) (is_reply call place kinds.Config raw) (row_config p T U h place raw) q q'
-step_alike p T U h runs line line' (AccountLists call place raw) q q' =
+step_alike p ps T U h flags pages runs line line' (AccountLists call place raw) new new' q q' =
     step_input p T U h line line' _ _ call (inputs.Reply place kinds.Accounts raw) (inputs.Reply place kinds.Accounts raw)
     (is_reply call place kinds.Accounts raw) (is_reply call place kinds.Accounts raw) (row_accounts p T U h place raw) q q'
-step_alike p T U h runs line line' (Assertions call place raw raw') q q' =
+step_alike p ps T U h flags pages runs line line' (Assertions call place raw raw') new new' q q' =
     step_input p T U h line line' _ _ call (inputs.Reply place kinds.Assertion raw) (inputs.Reply place kinds.Assertion raw')
     (is_reply call place kinds.Assertion raw) (is_reply call place kinds.Assertion raw') (row_assertion p T U h place raw raw') q q'
-step_alike p T U h runs line line' (Disconnects call place raw raw') q q' =
+step_alike p ps T U h flags pages runs line line' (DisconnectReplies call place raw raw') new new' q q' =
     step_input p T U h line line' _ _ call (inputs.Reply place kinds.Disconnect raw) (inputs.Reply place kinds.Disconnect raw')
     (is_reply call place kinds.Disconnect raw) (is_reply call place kinds.Disconnect raw') (row_disconnect p T U h place raw raw') q q'
 
@@ -84,7 +107,10 @@ step_alone p T U h line (events.Reply call place kinds.Config raw) out = absurd 
 step_alone p T U h line (events.Reply call place kinds.Accounts raw) out = absurd (cc)
 step_alone p T U h line (events.Reply call place kinds.Assertion raw) out = absurd (cc)
 step_alone p T U h line (events.Reply call place kinds.Disconnect raw) out = absurd (cc)
-step_alone p T U h line (events.Have have) out = absurd (cc)
+step_alone p T U h line (events.Have (haves.Kept triple)) out = step_kept p T U h line triple
+step_alone p T U h line (events.Have (haves.Login origin status)) out = absurd (cc)
+step_alone p T U h line (events.Have (haves.Silent origin)) out = absurd (cc)
+step_alone p T U h line (events.Have (haves.Cookie url field)) out = absurd (cc)
 step_alone p T U h line (events.At time) out = absurd (cc)
 step_alone p T U h line (events.Load page url raw) out = absurd (cc)
 step_alone p T U h line (events.ClosePage page) out = absurd (cc)
@@ -93,18 +119,31 @@ step_alone p T U h line (events.Abort call) out = absurd (cc)
 step_alone p T U h line (events.GoOn call) out = absurd (cc)
 step_alone p T U h line (events.Cancel call) out = absurd (cc)
 step_alone p T U h line (events.Choose call place id) out = absurd (cc)
+step_alone p T U h line (events.Prevent page) out = absurd (cc)
 step_alone p T U h line (events.SetStatus page status) out = absurd (cc)
+step_alone p T U h line (events.Disconnect page call config client hint) out = absurd (cc)
 
--- the induction
-pub stay_same : (p : Providers) {T U : Trace} → Pairs p (Alike p) T U → AreQuiet T.rows → AreQuiet U.rows → IsRun T.header T.rows
-    → IsRun U.header U.rows → SameWorlds p T U
-stay_same p (Start a b rules rules' now) q q' run run' =
-    record { rules = rules; rules' = rules'; now = now; seen = refl; calls = λ call. tt }
-stay_same p (Both T U line line' event event' alike pairs) q q' run run' =
-    step_alike p T U (stay_same p pairs q.1 q'.1 run.2 run'.2) (record { first = run.2; second = run'.2 }) line line' alike q.0 q'.0
-stay_same p (Left T U line event out pairs) q q' run run' = step_alone p T U (stay_same p pairs q.1 q' run.2 run') line event out
-stay_same p (Right T U line event out pairs) q q' run run' =
-    flip_worlds p (with_event U line event) T (step_alone p U T (flip_worlds p T U (stay_same p pairs q q'.1 run run'.2)) line event out)
+-- the induction: all that providers can tell, and the flags of origins that are named together
+pub stay_same : (p : Providers) (ps : List Pair) → AreOneToOne ps → {T U : Trace} → Pairs p (AlikeIn p ps) T U
+    → AreQuiet T.rows → AreQuiet U.rows → IsRun T.header T.rows → IsRun U.header U.rows → SameWorlds p T U × SameFlags ps T U
+stay_same p ps one (Start a b rules rules' now) q q' run run' = (
+  record { rules = rules; rules' = rules'; now = now; seen = refl; calls = λ call. tt },
+  flags_begin ps a b,
+)
+stay_same p ps one (Both T U line line' event event' r pairs) q q' run run' =
+    let before = stay_same p ps one pairs q.1 q'.1 run.2 run'.2 in
+    let pages = pages_in p ps pairs in (
+      step_alike p ps T U before.0 before.1 pages (record { first = run.2; second = run'.2 }) line line' r.alike run.1 run'.1 q.0 q'.0,
+      flags_both p ps one T U before.0 pages before.1 line line' r,
+    )
+stay_same p ps one (Left T U line event out pairs) q q' run run' =
+    let before = stay_same p ps one pairs q.1 q' run.2 run' in
+    (step_alone p T U before.0 line event out, flags_left_alone p ps T U before.0 before.1 line event out)
+stay_same p ps one (Right T U line event out pairs) q q' run run' =
+    let before = stay_same p ps one pairs q q'.1 run run'.2 in (
+      flip_worlds p (with_event U line event) T (step_alone p U T (flip_worlds p T U before.0) line event out),
+      flags_right_alone p ps T U before.0 before.1 line event out,
+    )
 
 -- the events of a readable script up to a kept one are readable
 read_to : (k : ℕ) (used : UsedState) (ns : List Numbered) → AreRead used ns → AreRead used (up_to k ns)
@@ -241,7 +280,19 @@ alike_reply p call place kinds.Accounts raw raw' h kept =
     (AccountLists call place raw)
 alike_reply p call place kinds.Metadata raw raw' h kept = absurd (cc)
 alike_reply p call place kinds.Assertion raw raw' h kept = Assertions call place raw raw'
-alike_reply p call place kinds.Disconnect raw raw' h kept = Disconnects call place raw raw'
+alike_reply p call place kinds.Disconnect raw raw' h kept = DisconnectReplies call place raw raw'
+
+alike_have : (p : Providers) (have have' : Have) → SharesHave have have' → is_kept (events.Have have) ≡ true
+    → Alike p (events.Have have) (events.Have have')
+alike_have p (haves.Login origin status) (haves.Login origin' status') h kept =
+    subst (λ x. Alike p (events.Have (haves.Login origin status)) (events.Have (haves.Login x status'))) h.0
+    (subst (λ x. Alike p (events.Have (haves.Login origin status)) (events.Have (haves.Login origin x))) h.1 (Logins origin status))
+alike_have p (haves.Cookie url field) (haves.Cookie url' field') h kept =
+    subst (λ x. Alike p (events.Have (haves.Cookie url field)) (events.Have (haves.Cookie x field'))) h.0
+    (subst (λ x. Alike p (events.Have (haves.Cookie url field)) (events.Have (haves.Cookie url x))) h.1 (Cookies url field))
+alike_have p (haves.Silent origin) (haves.Silent origin') h kept = Silents origin origin'
+alike_have p (haves.Kept triple) have' h kept = absurd (cc)
+alike_have p have have' h kept = absurd h
 
 alike_load : (p : Providers) (page page' : ℕ) (url url' : Parts) (raw raw' : Option (List ℕ)) → page ≡ page'
     → (((url ≡ url') × (raw ≡ raw')) ⊎ AreFar p url url')
@@ -255,8 +306,7 @@ alike_load p page page' url url' raw raw' e (inr far) =
 
 alike_events : (p : Providers) (e e' : Event) → kind_of e ≡ kind_of e' → SharesMembers e e' → SharesLoad p e e' → IsGood p e
     → Alike p e e'
-alike_events p (events.Have have) (events.Have have') kind h load good =
-    subst (λ x. Alike p (events.Have have) (events.Have x)) h (Haves have)
+alike_events p (events.Have have) (events.Have have') kind h load good = alike_have p have have' h good.kept
 alike_events p (events.At time) (events.At time') kind h load good = subst (λ x. Alike p (events.At time) (events.At x)) h (Times time)
 alike_events p (events.Load page url raw) (events.Load page' url' raw') kind h load good =
     alike_load p page page' url url' raw raw' load.0 load.1
@@ -287,21 +337,42 @@ alike_events p (events.Choose call place id) (events.Choose call' place' id') ki
     subst (λ x. Alike p (events.Choose call place id) (events.Choose x place' id')) h.0
     (subst (λ x. Alike p (events.Choose call place id) (events.Choose call x id')) h.1
     (subst (λ x. Alike p (events.Choose call place id) (events.Choose call place x)) h.2 (Choices call place id)))
+alike_events p (events.Prevent page) (events.Prevent page') kind h load good =
+    subst (λ x. Alike p (events.Prevent page) (events.Prevent x)) h (Prevents page)
+alike_events p (events.Disconnect page call config client hint) (events.Disconnect page' call' config' client' hint') kind h load good =
+    subst (λ x. Alike p (events.Disconnect page call config client hint) (events.Disconnect x call' config' client' hint')) h.0
+    (subst (λ x. Alike p (events.Disconnect page call config client hint) (events.Disconnect page x config' client' hint')) h.1
+    (subst (λ x. Alike p (events.Disconnect page call config client hint) (events.Disconnect page call x client' hint')) h.2
+    (subst (λ x. Alike p (events.Disconnect page call config client hint) (events.Disconnect page call config client' x)) h.3
+    (Disconnects page call config client client' hint))))
 alike_events p (events.SetStatus page status) (events.SetStatus page' status') kind h load good =
     subst (λ x. Alike p (events.SetStatus page status) (events.SetStatus x status')) h.0
     (subst (λ x. Alike p (events.SetStatus page status) (events.SetStatus page x)) h.1 (Statuses page status))
 alike_events p e e' kind h load good = absurd (cc)
 
-all_alike : (p : Providers) (es fs : List Event) → length es ≡ length fs
+all_alike : (p : Providers) (ps : List Pair) (es fs : List Event) → length es ≡ length fs
     → AllByRecursion (λ x. kind_of x.0 ≡ kind_of x.1) (zip es fs)
     → AllByRecursion (λ x. SharesMembers x.0 x.1) (zip es fs) → AllByRecursion (λ x. SharesLoad p x.0 x.1) (zip es fs)
-    → AllByRecursion (IsGood p) es
-    → AllZip (Alike p) es fs
-all_alike p [] [] n kind member load good = tt
-all_alike p [] (f ∷ fs) n kind member load good = absurd (omega (arith, n))
-all_alike p (e ∷ es) [] n kind member load good = absurd (omega (arith, n))
-all_alike p (e ∷ es) (f ∷ fs) n kind member load good =
-    (alike_events p e f kind.0 member.0 load.0 good.0, all_alike p es fs (omega (arith, n)) kind.1 member.1 load.1 good.1)
+    → AllByRecursion (λ o. Member o ps) (origins_named (zip es fs)) → AllByRecursion (IsGood p) es
+    → AllZip (AlikeIn p ps) es fs
+all_alike p ps [] [] n kind member load named good = tt
+all_alike p ps [] (f ∷ fs) n kind member load named good = absurd (omega (arith, n))
+all_alike p ps (e ∷ es) [] n kind member load named good = absurd (omega (arith, n))
+all_alike p ps (e ∷ es) (f ∷ fs) n kind member load named good =
+    let names = apart (both_named (origin_named e) (origin_named f)) named in (
+      record { alike = alike_events p e f kind.0 member.0 load.0 good.0; named = names.0 },
+      all_alike p ps es fs (omega (arith, n)) kind.1 member.1 load.1 names.1 good.1,
+    )
+  where
+    apart : (o : Option Pair) → AllByRecursion (λ o. Member o ps) (cons_option o (origins_named (zip es fs)))
+        → IfSome o (λ o. Member o ps) × AllByRecursion (λ o. Member o ps) (origins_named (zip es fs))
+    apart None h = (tt, h)
+    apart (Some o) h = h
+
+-- each of some pairs is one of them
+all_members : (ps : List Pair) → AllByRecursion (λ o. Member o ps) ps
+all_members [] = tt
+all_members (p ∷ ps) = (Here ps, each (λ q m. There p ps m) ps (all_members ps))
 
 configs_known : (a b : Script) → AllByRecursion (λ url. is_provider (providers_of a b) (host_of url) ≡ true) (configs a.events)
 unfolding is_provider
@@ -317,9 +388,12 @@ one_each used (n ∷ ns) read = (read.0.provider, one_each (used_after n.event u
 pub two_worlds_lem : TwoWorlds
 two_worlds_lem a b read read' twin k quiet quiet' =
     let p = providers_of a b in
-    let alike = all_alike p (kept_events a.events) (kept_events b.events) twin.count twin.kind twin.member twin.load
+    let ps = origins_named (pairs_of a b) in
+    let alike = all_alike p ps (kept_events a.events) (kept_events b.events) twin.count twin.kind twin.member twin.load
+    (all_members ps)
     (good_kept p a.events (one_each (unused a.header.now) a.events read)
     (each_event (λ url. is_provider p (host_of url) ≡ true) a.events (configs_known a b))) in
-    let pairs = go_together p (Alike p) a.events b.events alike k (start a.header) (start b.header)
+    let pairs = go_together p (AlikeIn p ps) a.events b.events alike k (start a.header) (start b.header)
     (Start a.header b.header refl (sym twin.rules) twin.now) in
-    sign_in_same p (trace_to a k) (trace_to b k) (stay_same p pairs quiet quiet' (run_to a read k) (run_to b read' k)).seen
+    sign_in_same p (trace_to a k) (trace_to b k)
+    (stay_same p ps twin.origins pairs quiet quiet' (run_to a read k) (run_to b read' k)).0.seen

@@ -20,13 +20,14 @@ use Rattle.fed_trace.specs.Effect as does
 use Rattle.fed_trace.specs.OfScript.{start, with_events, trace_of}
 use Rattle.fed_trace.specs.Records.{records, records_in, record_of}
 use Rattle.fed_script.specs.declared.event.Header.{Header}
-use Rattle.fed_trace.specs.Row.{IsRun, row_of, with_event}
+use Rattle.fed_trace.specs.Row.{IsRun, effects_of, row_of, with_event}
 use Rattle.fed_trace.specs.Trace.{Row, Trace}
 use Rattle.fed_print.specs.Lines.{line_of, record_line, text_of}
-use Rattle.fed_twin.specs.Script.{is_kept, up_to, trace_to, first_bytes, first_sent, first_requests}
-use Rattle.fed_twin.proofs.compared.Sends.{first_any, sends_gets}
+use Rattle.fed_twin.specs.Script.{is_kept, is_disconnect, up_to, trace_to, first_bytes, first_sent, first_requests}
+use Rattle.fed_twin.proofs.compared.Sends.{first_any, sends_gets, sends_none}
 use Rattle.fed_twin.proofs.worlds.Worlds.{run_to, two_worlds_lem}
-use Rattle.fedcm.specs.Alike.{sign_in_bytes, sign_in_request, sign_in_requests, records_to, Begins, AreHalves, HalvesRunAlike}
+use Rattle.fedcm.specs.Alike.{sign_in_bytes, sign_in_request, sign_in_requests, records_to, get_records, get_records_in, Begins, AreHalves}
+use Rattle.fedcm.specs.Alike.{HalvesRunAlike}
 use Rattle.fedcm.specs.Run.{rows_text, script_text}
 use Rattle.fedcm.specs.Text.{end_members}
 
@@ -150,15 +151,24 @@ same_sent line (does.Flag origin stays ∷ es) = same_sent line es
 same_sent line (does.Result call page finish ∷ es) = same_sent line es
 same_sent line (does.Ignored why ∷ es) = same_sent line es
 
--- the records of a run's rows have the requests that its gets send
-same_requests : (header : Header) (rows : List Row) → IsRun header rows → sign_in_requests (records_in rows) ≡ first_requests rows
+-- the records of a row have the requests that gets send
+row_requests : (T : Trace) (row : Row) → row.effects ≡ effects_of T row.event
+    → sign_in_requests (get_records row) ≡ filter_map first_sent row.effects
+row_requests T row is = go (is_disconnect row.event) refl
+  where
+    go : (b : Bool) → is_disconnect row.event ≡ b
+        → sign_in_requests (if b then [] else records row) ≡ filter_map first_sent row.effects
+    go true begins = sym (sends_none T row.event begins) ∙ ap (filter_map first_sent) (sym is)
+    go false other =
+        same_sent row.line row.effects ∙ ap (filter_map first_any) is ∙ sym (sends_gets T row.event other)
+        ∙ ap (filter_map first_sent) (sym is)
+
+-- so have the records of a run's rows
+same_requests : (header : Header) (rows : List Row) → IsRun header rows → sign_in_requests (get_records_in rows) ≡ first_requests rows
 same_requests header [] run = refl
 same_requests header (row ∷ rows) run =
-    let T : Trace = record { header = header; rows = rows } in
-    filter_map-append sign_in_request (records_in rows) (records row)
-    ∙ ap₂ ◌++◌ (same_requests header rows run.2)
-    (same_sent row.line row.effects ∙ ap (filter_map first_any) run.0 ∙ sym (sends_gets T run.2 row.event)
-    ∙ ap (filter_map first_sent) (sym run.0))
+    filter_map-append sign_in_request (get_records_in rows) (get_records row)
+    ∙ ap₂ ◌++◌ (same_requests header rows run.2) (row_requests (record { header = header; rows = rows }) row run.0)
 
 -- ---- the law
 

@@ -1,10 +1,10 @@
 use Rattle.std.proofs.Common.{◌≡◌, length}
 use Rattle.fed_json.specs.Part.{items_at}
-use Rattle.fed_accounts.specs.Entry.{texts_of, texts_at}
+use Rattle.fed_accounts.specs.Entry.{item_texts, texts_at}
 use Rattle.fed_accounts.proofs.entry.has_first.Given as goal
 
 abbrev pub invariant-loop-item : goal.invariant-loop-item
-invariant-loop-item l = texts_at l.value ≡ texts_of (items_at l.items)
+invariant-loop-item l = texts_at l.value ≡ item_texts (items_at l.items)
 
 abbrev pub decreases-loop-item : goal.decreases-loop-item
 decreases-loop-item l = length l.items

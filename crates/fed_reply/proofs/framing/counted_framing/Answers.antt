@@ -4,11 +4,8 @@ use Rattle.fed_reply.proofs.body.Framing.{counted_first}
 use Rattle.fed_reply.proofs.framing.counted_framing.Goals as goal
 
 pub returns-then-not-are_all : goal.returns-then-not-are_all
-returns-then-not-are_all c =
-    let split = sym c.get_all.ensures.value ∙ (sym c.iter-lengths.ensures ∙ c.in-Some.ensures.steps) in
-    sym (counted_first _ _ _ _ _ split c.as_bytes-first.ensures.value c.if-not-are_all.ensures)
+returns-then-not-are_all c = sym (counted_first _ _ _ _ c.in-Some.ensures.some c.if-not-are_all.ensures)
 
 pub returns-in-Some-length : goal.returns-in-Some-length
 returns-in-Some-length c =
-    let split = sym c.get_all.ensures.value ∙ (sym c.iter-lengths.ensures ∙ c.in-Some.ensures.steps) in
-    sym (counted_first _ _ _ _ _ split c.as_bytes-first.ensures.value c.if-not-are_all.ensures ∙ ap counted (sym c.in-Some-length.ensures))
+    sym (counted_first _ _ _ _ c.in-Some.ensures.some c.if-not-are_all.ensures ∙ ap counted (sym c.in-Some-length.ensures))

@@ -7,7 +7,7 @@ pub returns : goal.returns
 returns g c =
     λ T stands.
     let row = c.in_ok-outs.ensures.row T stands in (
-      c.requests_among-found.ensures ∙ ap quiet_count (c.as_slice.ensures ∙ row.0)
-          ∙ count_of_row T stands.run c.args.n.now.line c.args.n.now.event,
+      c.requests_among-found.ensures ∙ ap (quiet_count c.args.n.now.event) (c.as_slice.ensures ∙ row.0)
+          ∙ count_of_row T c.args.n.now.line c.args.n.now.event,
       row.1,
     )

@@ -1,8 +1,9 @@
-use Rattle.std.proofs.Common.{◌∙◌, sym, subst, refl}
+use Rattle.std.proofs.Common.{◌∙◌, sym, subst, refl, true}
 use Rattle.fed_script.specs.declared.event.Event.TheVariants as events
+use Rattle.fed_trace.specs.Effect.{Login, Flag}
 use Rattle.fed_session.specs.Session.{State, Stands}
 use Rattle.fed_session.specs.StepParts.{revived}
-use Rattle.fed_session.proofs.events.Event.{owes_close, close_records-stand, owes_status, status_records-stand}
+use Rattle.fed_session.proofs.events.Event.{owes_close, close_records-stand, owes_prevent, owes_status, says_records-stand}
 use Rattle.fed_session.proofs.stands.Stands.{stands_after}
 use Rattle.fed_session.proofs.session.Session.take.Goals as goal
 
@@ -28,8 +29,19 @@ returns-in_ok-outs-in-SetStatus-clause-row c =
     rw c.in-SetStatus.is
     (λ T h.
     let before = subst (λ (s : State). Stands (revived s) T) (sym c.self-in-SetStatus.view_is) h in (
-      c.in_ok-outs-in-SetStatus.ensures.outs ∙ status_records-stand _ T c.args.line c.in-SetStatus.page c.in-SetStatus.status before,
+      c.in_ok-outs-in-SetStatus.ensures.outs ∙ says_records-stand _ T c.args.line c.in-SetStatus.page (λ origin. Login origin
+          c.in-SetStatus.status) before,
       stands_after _ _ T c.args.line (events.SetStatus c.in-SetStatus.page c.in-SetStatus.status) before tt refl refl
           (owes_status _ _ T c.args.line c.in-SetStatus.page c.in-SetStatus.status before refl c.in_ok-outs-in-SetStatus.ensures.login refl
           refl),
+    ))
+
+pub returns-in_ok-outs-in-Prevent-clause-row : goal.returns-in_ok-outs-in-Prevent-clause-row
+returns-in_ok-outs-in-Prevent-clause-row c =
+    rw c.in-Prevent.is
+    (λ T h.
+    let before = subst (λ (s : State). Stands (revived s) T) (sym c.self-in-Prevent.view_is) h in (
+      c.in_ok-outs-in-Prevent.ensures.outs ∙ says_records-stand _ T c.args.line c.in-Prevent.page (λ origin. Flag origin true) before,
+      stands_after _ _ T c.args.line (events.Prevent c.in-Prevent.page) before tt refl refl
+          (owes_prevent _ _ T c.args.line c.in-Prevent.page before refl c.in_ok-outs-in-Prevent.ensures.flags refl refl),
     ))

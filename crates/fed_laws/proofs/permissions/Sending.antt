@@ -1,0 +1,291 @@
+-- What stands of a disconnect call since it began: once it awaits its answer, an earlier row sent its request.
+use Rattle.std.proofs.Common.{◌≡◌, ℕ, Bool, true, false, nat_eq, List, [], ◌∷◌, Option, Some, None, map, refl, sym, ap, subst}
+use Rattle.std.proofs.Common.{◌∙◌}
+use Rattle.std.proofs.Common.{◌⊎◌, inl, inr}
+use Rattle.std.specs.Prelude.{option_map, unwrap_or}
+use Rattle.std.specs.List.{filter_map, list_any}
+use Rattle.fed_origin.specs.declared.origin.Origin.{Origin}
+use Rattle.fed_origin.specs.declared.stage.Stage.{Stage}
+use Rattle.fed_origin.specs.declared.stage.Stage.TheVariants.{Reading, Asserting, Ended}
+use Rattle.fed_status.specs.Shared.{World}
+use Rattle.fed_call.specs.Facts.{Facts}
+use Rattle.fed_call.specs.Facts as get
+use Rattle.fed_consent.specs.declared.table.ask.Ask.TheVariants as asks
+use Rattle.fed_consent.specs.declared.table.finish.Finish.{Finish}
+use Rattle.fed_consent.specs.declared.table.input.Input.{Input}
+use Rattle.fed_consent.specs.declared.table.input.Input.TheVariants as inputs
+use Rattle.fed_consent.specs.Outcomes as outcomes
+use Rattle.fed_consent.specs.Outcomes.{Outcome, only_place}
+use Rattle.fed_disconnect.specs.Facts.{DisconnectFacts, DisconnectOptions}
+use Rattle.fed_disconnect.specs.Facts as disconnect
+use Rattle.fed_script.specs.declared.event.Event.{Event}
+use Rattle.fed_script.specs.declared.event.Header.{Header}
+use Rattle.fed_trace.specs.Begun.{Begun, CallOptions, DisconnectCall, ToGet, ToDisconnect, kind_asked}
+use Rattle.fed_trace.specs.Call.{OfGet, OfDisconnect, at_stage, first_row, fresh, input_row}
+use Rattle.fed_trace.specs.Effect.{Move, PendingCall, begins, call_change, last_of}
+use Rattle.fed_trace.specs.Keyed.{last_said}
+use Rattle.fed_trace.specs.Known.{known_at, known_in, world_at}
+use Rattle.fed_trace.specs.OfCall.{given}
+use Rattle.fed_trace.specs.Row.{IsNew, IsRun, cookies_with, effects_of, outcome_effects, row_of, with_event}
+use Rattle.fed_trace.specs.Trace.{Row, Trace}
+use Rattle.fed_trace.proofs.happens.Ends.{Happens, Left, Ends as EndsNow, Started, Took, Leaves, Starts}
+use Rattle.fed_trace.proofs.happens.First.{FirstTurn, FailsFirst, ReadsFirst, HasOne, first_turn, is_beginning, is_first, known_begun}
+use Rattle.fed_trace.proofs.happens.Gets.{Taking, ByGet, ByDisconnect, ByNone, taking}
+use Rattle.fed_trace.proofs.happens.Happens.{happens}
+use Rattle.fed_trace.proofs.happens.Over.{still_over}
+use Rattle.fed_trace.proofs.happens.Says.{finish_of, outcome_begins, outcome_gives, outcome_pending}
+use Rattle.fed_trace.proofs.happens.Taken.{Knows, does_it, knows, known_taken}
+use Rattle.fed_trace.proofs.known.Known.{known_moved, known_same, over, said_of}
+use Rattle.fed_trace.proofs.known.Stages.{Goes, goes_or_ends}
+use Rattle.fed_laws.specs.Cause.{AskedToDisconnect}
+use Rattle.fed_laws.proofs.pending.Asked.{row_is}
+use Rattle.fed_laws.proofs.pending.Begun.{begun_now}
+use Rattle.fed_laws.proofs.pending.Stood.{Going, apart_page, going_on, not_some}
+use Rattle.fed_laws.proofs.pending.Taken.{input_keeps_pages, still_pending}
+use Rattle.fed_laws.proofs.permissions.Disconnects.{Way, Sends, Answers, Ends, Rests, way_of}
+
+-- a pending disconnect call of this page
+abbrev pub disconnect_at : ℕ → PendingCall
+disconnect_at page = record { page = page; kind = DisconnectCall }
+
+-- what stands of a disconnect call of which this is known
+pub record Sending (T : Trace) (call : ℕ) (f : DisconnectFacts) : Type 0 where
+  pub begun : Begun
+  pub going : Going T call (disconnect_at f.page) begun
+  pub of_origin : f.origin ≡ begun.origin
+  pub is_disconnect : begun.options ≡ ToDisconnect f.options
+  pub asked : f.stage ≡ Asserting → AskedToDisconnect T.rows call f.origin f.options
+
+-- ---- one row more
+
+asked_on : (rows : List Row) (row : Row) (call : ℕ) (page : Origin) (options : DisconnectOptions)
+    → AskedToDisconnect rows call page options → AskedToDisconnect (row ∷ rows) call page options
+asked_on rows row call page options a =
+    record {
+      since = row ∷ a.since;
+      asking = a.asking;
+      before = a.before;
+      rows_are = ap (λ rs. row ∷ rs) a.rows_are;
+      to = a.to;
+      cookies = a.cookies;
+      sends = a.sends;
+    }
+
+sending_left : (T : Trace) (line : ℕ) (event : Event) (call : ℕ) (f : DisconnectFacts) → Leaves T event call → Sending T call f
+    → Sending (with_event T line event) call f
+sending_left T line event call f l s =
+    let apart = apart_page T event call (disconnect_at f.page) s.begun.origin l s.going.pending s.going.page in
+    record {
+      begun = s.begun;
+      going =
+          going_on T line event call (disconnect_at f.page) s.begun s.going apart l.quiet.pending l.quiet.begins_none l.quiet.gives;
+      of_origin = s.of_origin;
+      is_disconnect = s.is_disconnect;
+      asked = λ at. asked_on T.rows (row_of T line event) call f.origin f.options (s.asked at);
+    }
+
+-- ---- the call begins
+
+not_of_get : {A : Type 0} (o : Option Facts) (f : DisconnectFacts) → option_map OfGet o ≡ Some (OfDisconnect f) → A
+not_of_get None f is = absurd (cc)
+not_of_get (Some g) f is = absurd (cc)
+
+sending_begun : (T : Trace) (line : ℕ) (event : Event) (call : ℕ) (f : DisconnectFacts) → IsNew T.rows event → Starts T event call
+    → known_at (with_event T line event) call ≡ Some (OfDisconnect f) → Sending (with_event T line event) call f
+sending_begun T line event call f new s is =
+    subst (λ c. Sending (with_event T line event) c f) s.is_call
+    (go b.options refl (first_turn (world_at T) s.busy b.origin b.options one))
+  where
+    b : Begun
+    b = s.begun
+
+    o : Outcome
+    o = first_row (world_at T) s.busy b.origin b.options
+
+    one : HasOne b.options
+    one = (is_first T event b.page b.call b.options new s.is_event).one
+
+    known : (stage : Stage) → o.stage ≡ Some stage → (options : CallOptions) → b.options ≡ options
+        → at_stage stage (fresh b.call b.page b.origin options) ≡ Some (OfDisconnect f)
+    known stage at options asked =
+        ap (λ x. at_stage stage (fresh b.call b.page b.origin x)) (sym asked)
+        ∙ sym (known_begun T line event b o stage s.effects at)
+        ∙ subst (λ c. known_at (with_event T line event) c ≡ Some (OfDisconnect f)) (sym s.is_call) is
+
+    go : (options : CallOptions) → b.options ≡ options → FirstTurn o → Sending (with_event T line event) b.call f
+    go (ToGet options) asked (ReadsFirst reading none gives) =
+        not_of_get (get.at_stage Reading (get.fresh b.call b.page b.origin options)) f (known Reading reading (ToGet options) asked)
+    go (ToGet options) asked (FailsFirst failure ended none gives) =
+        not_of_get (get.at_stage Ended (get.fresh b.call b.page b.origin options)) f (known Ended ended (ToGet options) asked)
+    go (ToDisconnect options) asked (FailsFirst failure ended none gives) =
+        let no : None ≡ Some (OfDisconnect f) = known Ended ended (ToDisconnect options) asked in absurd (cc)
+    go (ToDisconnect options) asked (ReadsFirst reading none gives) =
+        let whole : Some (OfDisconnect (disconnect.fresh b.call b.page b.origin options)) ≡ Some (OfDisconnect f) =
+        known Reading reading (ToDisconnect options) asked in
+        let same : disconnect.fresh b.call b.page b.origin options ≡ f = cc in
+        let g = begun_now T line event b (is_beginning event b.page b.call b.options s.is_event) s.stands o reading s.effects in
+        subst (Sending (with_event T line event) b.call) same
+        (record {
+          begun = b;
+          going = subst (λ at. Going (with_event T line event) b.call at b)
+              (ap (λ x. let v : PendingCall = record { page = b.page; kind = kind_asked x } in v) asked) g;
+          of_origin = refl;
+          is_disconnect = asked;
+          asked = λ at. absurd (cc);
+        })
+
+-- ---- an input
+
+-- what an input leaves of what the call began with
+record SameCall (f w : DisconnectFacts) : Type 0 where
+  page : w.page ≡ f.page
+  origin : w.origin ≡ f.origin
+  options : w.options ≡ f.options
+
+same_call : (world : World) (ignored : Bool) (input : Input) (f : DisconnectFacts)
+    → SameCall f (disconnect.with_input world ignored input f)
+same_call world true input f = record { page = refl; origin = refl; options = refl }
+same_call world false (inputs.Reply place kind raw) f = record { page = refl; origin = refl; options = refl }
+same_call world false (inputs.Choose place account) f = record { page = refl; origin = refl; options = refl }
+same_call world false inputs.GoOn f = record { page = refl; origin = refl; options = refl }
+same_call world false inputs.Cancel f = record { page = refl; origin = refl; options = refl }
+same_call world false inputs.SignIn f = record { page = refl; origin = refl; options = refl }
+same_call world false inputs.Shut f = record { page = refl; origin = refl; options = refl }
+same_call world false inputs.Resume f = record { page = refl; origin = refl; options = refl }
+same_call world false inputs.Abort f = record { page = refl; origin = refl; options = refl }
+
+-- a call that goes on is at the stage that it comes to
+record After (w f : DisconnectFacts) (stage : Stage) : Type 0 where
+  is : f ≡ record w { stage = stage }
+  going : Goes stage
+
+after_by : (stage : Stage) (w f : DisconnectFacts) → at_stage stage (OfDisconnect w) ≡ Some (OfDisconnect f) → After w f stage
+after_by stage w f h = go (goes_or_ends stage)
+  where
+    go : (stage ≡ Ended) ⊎ Goes stage → After w f stage
+    go (inl ended) =
+        not_some (at_stage stage (OfDisconnect w)) (OfDisconnect f) (ap (λ st. at_stage st (OfDisconnect w)) ended) h
+    go (inr going) =
+        let whole : Some (OfDisconnect (record w { stage = stage })) ≡ Some (OfDisconnect f) = sym (going.kept (OfDisconnect w)) ∙ h in
+        let is : record w { stage = stage } ≡ f = cc in
+        record { is = sym is; going = going }
+
+sending_taken : (T : Trace) (line : ℕ) (event : Event) (call : ℕ) (f f' : DisconnectFacts) → Knows T event call (OfDisconnect f)
+    → Sending T call f → known_at (with_event T line event) call ≡ Some (OfDisconnect f')
+    → Sending (with_event T line event) call f'
+sending_taken T line event call f f' m s is = go (way_of (world_at T) f input)
+  where
+    input : Input
+    input = m.takes.input
+
+    o : Outcome
+    o = input_row (world_at T) (OfDisconnect f) input
+
+    w : DisconnectFacts
+    w = disconnect.with_input (world_at T) (list_any outcomes.is_ignored o.effects) input f
+
+    after : After w f' (unwrap_or o.stage f.stage)
+    after = after_by (unwrap_or o.stage f.stage) w f' (sym (known_taken T line event call (OfDisconnect f) m) ∙ is)
+
+    same : SameCall f w
+    same = same_call (world_at T) (list_any outcomes.is_ignored o.effects) input f
+
+    page : f'.page ≡ f.page
+    page = ap (λ g. g.page) after.is ∙ same.page
+
+    origin : f'.origin ≡ f.origin
+    origin = ap (λ g. g.origin) after.is ∙ same.origin
+
+    options : f'.options ≡ f.options
+    options = ap (λ g. g.options) after.is ∙ same.options
+
+    does : effects_of T event ≡ outcome_effects (world_at T) (cookies_with T) DisconnectCall call f.page o
+    does = does_it T event call (OfDisconnect f) m
+
+    -- it goes on, given nothing
+    on : filter_map finish_of o.effects ≡ []
+        → (f'.stage ≡ Asserting → AskedToDisconnect (with_event T line event).rows call f.origin f.options)
+        → Sending (with_event T line event) call f'
+    on gives asked =
+        record {
+          begun = s.begun;
+          going = subst (λ p. Going (with_event T line event) call (disconnect_at p) s.begun) (sym page)
+              (going_on T line event call (disconnect_at f.page) s.begun s.going
+              (input_keeps_pages event call input f.page m.takes.is_event)
+              (ap (last_said nat_eq call_change call) does
+              ∙ outcome_pending (world_at T) (cookies_with T) DisconnectCall call f.page call o
+              ∙ still_pending DisconnectCall call (OfDisconnect w) f.stage o.stage after.going)
+              (ap (last_of (begins call)) does ∙ outcome_begins (world_at T) (cookies_with T) DisconnectCall call f.page call o)
+              (ap (filter_map (given call)) does ∙ outcome_gives (world_at T) (cookies_with T) DisconnectCall call f.page o
+              ∙ ap (map {B = ℕ × Finish} (λ finish. (f.page, finish))) gives));
+          of_origin = origin ∙ s.of_origin;
+          is_disconnect = s.is_disconnect ∙ ap ToDisconnect (sym options);
+          asked = λ at.
+              subst (λ x. AskedToDisconnect (with_event T line event).rows call x f'.options) (sym origin)
+              (subst (λ x. AskedToDisconnect (with_event T line event).rows call f.origin x) (sym options) (asked at));
+        }
+
+    ends : o.stage ≡ Some Ended → Sending (with_event T line event) call f'
+    ends ended =
+        not_some (known_at (with_event T line event) call) (OfDisconnect f')
+        (known_taken T line event call (OfDisconnect f) m
+        ∙ ap (λ st. at_stage (unwrap_or st f.stage) (OfDisconnect w)) ended) is
+
+    go : Way (world_at T) f input o → Sending (with_event T line event) call f'
+    go (Sends to sends) =
+        on (ap (λ x. filter_map finish_of x.effects) sends)
+        (λ at. record {
+          since = [];
+          asking = row_of T line event;
+          before = T.rows;
+          rows_are = refl;
+          to = to;
+          cookies = cookies_with T (asks.Disconnect to f.options.client f.options.hint f.origin);
+          sends = record {
+            before = [];
+            after = Move DisconnectCall call Asserting ∷ [];
+            all = does ∙ ap (outcome_effects (world_at T) (cookies_with T) DisconnectCall call f.page) sends;
+          };
+        })
+    go (Answers raw at is_reply answers) = ends (ap (λ x. x.stage) answers)
+    go (Ends ended leaves) = ends ended
+    go (Rests stays gives leaves) =
+        on gives
+        (λ at. asked_on T.rows (row_of T line event) call f.origin f.options
+        (s.asked (sym (ap (λ g. g.stage) after.is ∙ ap (λ st. unwrap_or st f.stage) stays) ∙ at)))
+
+-- ---- every row
+
+sending_row : (T : Trace) (line : ℕ) (event : Event) (call : ℕ) (f : DisconnectFacts) → IsNew T.rows event
+    → ((g : DisconnectFacts) → known_at T call ≡ Some (OfDisconnect g) → Sending T call g)
+    → known_at (with_event T line event) call ≡ Some (OfDisconnect f) → Sending (with_event T line event) call f
+sending_row T line event call f new earlier is = go (happens T event call)
+  where
+    taken : Taking T event call → Sending (with_event T line event) call f
+    taken (ByGet g m) =
+        not_of_get (get.facts_after (world_at T) g m.takes.input (input_row (world_at T) (OfGet g) m.takes.input)) f
+        (sym (known_taken T line event call (OfGet g) (knows T event call g m)) ∙ is)
+    taken (ByDisconnect g m) = sending_taken T line event call g f m (earlier g m.found) is
+    taken (ByNone t none) = not_some (known_at (with_event T line event) call) (OfDisconnect f) (still_over T line event call t none) is
+
+    go : Happens T event call → Sending (with_event T line event) call f
+    go (Left l) =
+        sending_left T line event call f l
+        (earlier f (sym (known_same T line event call l.quiet.stage l.quiet.begins_none l.same) ∙ is))
+    go (EndsNow e) =
+        not_some (known_at (with_event T line event) call) (OfDisconnect f)
+        (known_moved T line event call (Some (Some Ended)) None e.stage e.begins_none
+        ∙ over (option_map (said_of T event call) (known_in T.header T.rows call))) is
+    go (Started s) = sending_begun T line event call f new s is
+    go (Took t) = taken (taking T event call t)
+
+pub sending : (header : Header) (rows : List Row) (call : ℕ) → IsRun header rows → (f : DisconnectFacts)
+    → known_at (record { header = header; rows = rows }) call ≡ Some (OfDisconnect f)
+    → Sending (record { header = header; rows = rows }) call f
+sending header [] call run f is = absurd (cc)
+sending header (row ∷ rows) call run f is =
+    let T : Trace = record { header = header; rows = rows } in
+    let same = row_is T row run.0 in
+    subst (λ r. Sending (record { header = header; rows = r ∷ rows }) call f) (sym same)
+    (sending_row T row.line row.event call f run.1 (sending header rows call run.2)
+    (subst (λ r. known_at (record { header = header; rows = r ∷ rows }) call ≡ Some (OfDisconnect f)) same is))

@@ -1,0 +1,27 @@
+use Rattle.std.proofs.Common.{◌≡◌, ◌∙◌, sym, subst, refl, nat_eq, None}
+use Rattle.std.specs.Map.{lookup}
+use Rattle.fed_script.specs.declared.event.Event.TheVariants as events
+use Rattle.fed_disconnect.specs.Facts.{disconnect_options}
+use Rattle.fed_trace.specs.Begun.{ToDisconnect}
+use Rattle.fed_session.specs.Session.{State, Stands}
+use Rattle.fed_session.specs.StepParts.{revived}
+use Rattle.fed_session.proofs.events.Begin.{BeginsBy, owes_begin, begin_records-stand, is_new}
+use Rattle.fed_session.proofs.stands.Stands.{stands_after}
+use Rattle.fed_session.proofs.session.Session.disconnect.Goals as goal
+
+pub returns-clause-row : goal.returns-clause-row
+returns-clause-row c = λ T h.
+    let before = subst (λ (s : State). Stands (revived s) T) (sym c.self.view_is) h in
+    let fresh = subst (λ (s : State). lookup (nat_eq c.args.call) s.calls ≡ None) (sym c.self.view_is) c.requires in
+    let event = events.Disconnect c.args.page c.args.call c.args.config.now c.args.client.now c.args.hint.now in
+    let begins : BeginsBy T event c.args.page c.args.call
+    (ToDisconnect (disconnect_options c.args.config.now c.args.client.now c.args.hint.now)) =
+    record { effects = refl; inputs = λ q k. refl } in (
+      c.in_ok-outs.ensures.outs ∙ begin_records-stand _ T c.args.line event c.args.page c.args.call
+          (ToDisconnect (disconnect_options c.args.config.now c.args.client.now c.args.hint.now)) before
+          begins,
+      stands_after _ _ T c.args.line event before (is_new _ T c.args.call before fresh) refl refl
+          (owes_begin _ _ T c.args.line event c.args.page c.args.call
+          (ToDisconnect (disconnect_options c.args.config.now c.args.client.now c.args.hint.now)) before begins fresh tt refl
+          c.in_ok-outs.ensures.pages c.in_ok-outs.ensures.calls),
+    )

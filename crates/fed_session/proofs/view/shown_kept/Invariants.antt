@@ -1,6 +1,0 @@
-use Rattle.std.proofs.Common.{◌≡◌, take}
-use Rattle.fed_session.proofs.view.shown_kept.Given as goal
-
--- What stands up to here was shown.
-abbrev pub invariant-loop-place : goal.invariant-loop-place
-invariant-loop-place l = l.shown ≡ take l.place l.fn.kept

@@ -1,0 +1,3 @@
+pub mod found
+pub mod homes
+pub mod closing

@@ -1,0 +1,2 @@
+-- One call less of a page that closes.
+pub mod Turns

@@ -1,0 +1,10 @@
+use Rattle.std.proofs.Common.{ap, ◌∙◌}
+use Rattle.fed_table.specs.Table.{TableParts, present_item}
+use Rattle.fed_table.proofs.found.Items.{present_is}
+use Rattle.fed_table.proofs.table.Table.get.Goals as goal
+
+pub returns : goal.returns
+returns g c = record {
+  value = c.item.ensures ∙ present_is c.args.call c.self.inside.places.entries
+      ∙ ap (λ (t : TableParts g.row.C.Denot). present_item t.items c.args.call) c.self.view_is;
+}

@@ -1,0 +1,61 @@
+-- Pages with their calls, and their items, as contracts see them.
+use Rattle.std.specs.Prelude.{ℕ, Bool, cond, nat_eq, ◌≡◌, ◌<◌, ◌≤◌, List, Option, Some, None, option_and_then, is_some}
+use Rattle.std.specs.List.{IsDistinct}
+use Rattle.std.specs.Map.{lookup, keys_of}
+use Rattle.fed_origin.specs.declared.origin.Origin.{Origin}
+use Rattle.fed_origin.specs.Origin.{same_origin}
+use Rattle.fed_table.specs.Lists.{has, calls_at, stands_in, times_in, total}
+
+-- the pages in order of first opening, each with its calls; the provider origins in the order in which they were first waited for, each
+-- with the calls that wait for it; and each call's item, none where it is lent out. The order of the items says nothing
+pub record TableParts (C : Type 0) : Type 0 where
+  pub pages : List (ℕ × List ℕ)
+  pub waits : List (Origin × List ℕ)
+  pub items : List (ℕ × Option C)
+
+-- whether a page was added
+abbrev pub has_page : List (ℕ × List ℕ) → ℕ → Bool
+has_page pages page = is_some (lookup (nat_eq page) pages)
+
+-- the calls of a page
+abbrev pub page_calls : List (ℕ × List ℕ) → ℕ → List ℕ
+page_calls pages page = calls_at (nat_eq page) pages
+
+-- the calls that wait for a provider origin
+abbrev pub waiting_for : List (Origin × List ℕ) → Origin → List ℕ
+waiting_for waits origin = calls_at (same_origin origin) waits
+
+module _ {C : Type 0} where
+  -- what is known of a call's item: nothing where the call is not in the table, no item where it is lent out
+  abbrev pub item_of : List (ℕ × Option C) → ℕ → Option (Option C)
+  item_of items call = lookup (nat_eq call) items
+
+  -- whether a call is in the table
+  abbrev pub has_call : List (ℕ × Option C) → ℕ → Bool
+  has_call items call = is_some (item_of items call)
+
+  -- the present item of a call
+  abbrev pub present_item : List (ℕ × Option C) → ℕ → Option C
+  present_item items call = option_and_then (λ item. item) (item_of items call)
+
+  -- the same, once it is lent out
+  abbrev pub lent_out : Option (Option C) → Option (Option C)
+  lent_out None = None
+  lent_out (Some item) = Some None
+
+  -- what is known of this call's item changes, and of no other's
+  abbrev pub ChangesItem : ℕ → Option (Option C) → List (ℕ × Option C) → List (ℕ × Option C) → Type 0
+  ChangesItem call known old new = (other : ℕ) → item_of new other ≡ cond (nat_eq call other) known (item_of old other)
+
+  -- the items of these calls go, and all others stay
+  abbrev pub LosesItems : List ℕ → List (ℕ × Option C) → List (ℕ × Option C) → Type 0
+  LosesItems gone old new = (other : ℕ) → item_of new other ≡ cond (has other gone) None (item_of old other)
+
+  -- what is so of each table. No page and no origin stands twice. A call that is in the table stands once in the pages' lists, and no
+  -- other call does. A call waits at most once, and only where it is in the table. There are fewer than 2 ^ 32 calls
+  pub record IsCallTable (table : TableParts C) : Type 0 where
+    pub pages : IsDistinct nat_eq (keys_of table.pages)
+    pub origins : IsDistinct same_origin (keys_of table.waits)
+    pub standing : (call : ℕ) → times_in call table.pages ≡ cond (has_call table.items call) 1 0
+    pub waiting : (call : ℕ) → times_in call table.waits ≤ cond (has_call table.items call) 1 0
+    pub few : total table.pages < 4294967296

@@ -1,0 +1,11 @@
+//! Pages with their pending calls, and the calls that wait.
+#![tactic(auto)]
+
+mod calls;
+mod lists;
+mod place;
+mod table;
+#[cfg(test)]
+mod tests;
+
+pub use table::Table;

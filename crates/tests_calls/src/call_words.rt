@@ -1,0 +1,368 @@
+//! Calls in tests: what they look at, and what they do, in words.
+ghost use Rattle.std.specs.Prelude.{◌≡◌, true, IfOk, length};
+ghost use Rattle.fed_origin.specs.Status.{is_known};
+
+use crate::call_inputs::inputs;
+use fed_call::CallState;
+use fed_consent::{Ask, AssertionAsk, Dialog, Effect, Finish, Input};
+use fed_io::{Items, NoRoom, Text};
+use fed_origin::{
+    Context, GetOptions, LoginStatus, Mediation, Mode, Origin, ProviderOptions, Stage, Triple,
+    WebUrl,
+};
+use fed_status::{KeptSet, LoginMap, Shared, SilentFlags};
+use fed_suffix::Suffixes;
+use std::alloc::Global;
+use std::process::Abort;
+use std::test::Fail;
+
+pub const PAGE: &str = "https://rp.example/";
+
+pub const CONFIG: &str = "https://accounts.idp.example/fedcm.json";
+
+// What the calls of a test look at.
+pub struct Browser {
+    rules: Suffixes,
+    login: LoginMap,
+    kept: KeptSet,
+    flags: SilentFlags,
+    // The mediation of the calls.
+    mediation: Mediation,
+}
+
+impl Drop for Browser {
+    fn drop(self) {
+        let Browser {
+            rules: _,
+            login: _,
+            kept: _,
+            flags: _,
+            mediation: _,
+        } = self;
+    }
+}
+
+impl Browser {
+    pub fn new(alloc: Global) -> Browser {
+        Browser {
+            rules: Suffixes::new(alloc),
+            login: LoginMap::new(alloc),
+            kept: KeptSet::new(alloc),
+            flags: SilentFlags::new(alloc),
+            mediation: Mediation::Optional,
+        }
+    }
+
+    // The same for calls of this mediation.
+    pub fn mediated(self, mediation: Mediation) -> Browser {
+        let mut browser = self;
+        browser.mediation = mediation;
+        browser
+    }
+
+    // The same where the flag of the page's origin is set.
+    pub fn prevented(self, alloc: Global) -> Result<Browser, NoRoom> {
+        let origin = page_origin(alloc, PAGE)?;
+        let mut browser = self;
+        browser.flags.set(&origin)?;
+        Ok(browser)
+    }
+
+    pub fn lent(&self) -> Shared<'_> {
+        Shared {
+            rules: &self.rules,
+            login: &self.login,
+            kept: &self.kept,
+            flags: &self.flags,
+        }
+    }
+}
+
+// What all calls look at where the origin of this URL has this status.
+pub fn with_status(alloc: Global, of: &str, status: LoginStatus) -> Result<Browser, NoRoom>
+    requires { is_known status ≡ true }
+{
+    let origin = page_origin(alloc, of)?;
+    let mut browser = Browser::new(alloc);
+    browser.login.set(&origin, status)?;
+    Ok(browser)
+}
+
+// What calls look at where ann may sign in at the page.
+pub fn with_permission(alloc: Global) -> Result<Browser, NoRoom> {
+    let mut browser = Browser::new(alloc);
+    browser.kept.add(Triple {
+        page: page_origin(alloc, PAGE)?,
+        provider: page_origin(alloc, CONFIG)?,
+        account: Text::of(alloc, "u1")?,
+    })?;
+    Ok(browser)
+}
+
+fn url(alloc: Global, text: &str) -> Result<WebUrl, NoRoom> {
+    match WebUrl::read(alloc, text) {
+        Ok(url) => Ok(url),
+        Err(_) => Err(NoRoom),
+    }
+}
+
+fn provider(alloc: Global, config: &str) -> Result<ProviderOptions, NoRoom> {
+    Ok(ProviderOptions {
+        config: url(alloc, config)?,
+        client: Text::of(alloc, "c1")?,
+        nonce: None,
+        login_hint: None,
+        domain_hint: None,
+        params: None,
+    })
+}
+
+fn options(
+    alloc: Global,
+    config: &str,
+    mode: Mode,
+    mediation: Mediation,
+) -> Result<GetOptions, NoRoom>
+    ensures { IfOk result (λ options. length options.providers ≡ 1) }
+{
+    let mut providers = Items::new(alloc);
+    providers.push(provider(alloc, config)?)?;
+    Ok(GetOptions {
+        mediation,
+        mode,
+        activation: mode == Mode::Active,
+        context: Context::SignIn,
+        providers,
+    })
+}
+
+// A call, and what it did last.
+#[derive(Drop)]
+pub struct Seen {
+    state: CallState,
+    word: &'static str,
+}
+
+fn with_word(call: (CallState, Items<Effect>)) -> Seen {
+    let (state, effects) = call;
+    Seen {
+        state,
+        word: word(&effects),
+    }
+}
+
+fn page_origin(alloc: Global, text: &str) -> Result<Origin, NoRoom> {
+    let url = url(alloc, text)?;
+    Origin::of_url(alloc, &url)
+}
+
+pub fn begin(alloc: Global, config: &str, mode: Mode, browser: &Browser) -> Result<Seen, NoRoom> {
+    let origin = page_origin(alloc, PAGE)?;
+    let options = options(alloc, config, mode, browser.mediation)?;
+    match CallState::start(alloc, 1, 7, origin, options, &browser.lent()) {
+        Ok(call) => Ok(with_word(call)),
+        Err(NoRoom) => Err(NoRoom),
+    }
+}
+
+// What was done, in a word.
+fn word(effects: &Items<Effect>) -> &'static str {
+    match effects.as_slice() {
+        [] => "nothing",
+        [effect] => effect_word(effect),
+        [first, second] => pair_word(first, second),
+        [
+            Effect::Keep(_),
+            Effect::ClearFlag(_),
+            Effect::Finish(finish),
+        ] => finish_word(finish),
+        _ => "else",
+    }
+}
+
+fn pair_word(first: &Effect, second: &Effect) -> &'static str {
+    match first {
+        Effect::SetLogin(_, LoginStatus::LoggedOut) => logged_out_word(second),
+        Effect::SetLogin(_, LoginStatus::LoggedIn) => logged_in_word(second),
+        Effect::Send(0, Ask::WellKnown { .. }) => after_wellknown_word(second),
+        Effect::Keep(_) => again_word(second),
+        _ => "else",
+    }
+}
+
+fn logged_out_word(effect: &Effect) -> &'static str {
+    match effect {
+        Effect::Finish(finish) => finish_word(finish),
+        Effect::Dialog(Dialog::Mismatch { .. }) => "mismatch",
+        _ => "else",
+    }
+}
+
+fn logged_in_word(effect: &Effect) -> &'static str {
+    match effect {
+        Effect::Dialog(dialog) => dialog_word(dialog),
+        Effect::Send(0, ask) => ask_word(ask),
+        Effect::Finish(finish) => finish_word(finish),
+        _ => "else",
+    }
+}
+
+// A result without the flag cleared.
+fn again_word(effect: &Effect) -> &'static str {
+    match effect {
+        Effect::Finish(Finish::Token { auto: true, .. }) => "token again",
+        _ => "else",
+    }
+}
+
+fn after_wellknown_word(effect: &Effect) -> &'static str {
+    match effect {
+        Effect::Send(0, Ask::Config { .. }) => "first",
+        _ => "else",
+    }
+}
+
+fn effect_word(effect: &Effect) -> &'static str {
+    match effect {
+        Effect::Send(0, ask) => ask_word(ask),
+        Effect::Finish(finish) => finish_word(finish),
+        Effect::Dialog(dialog) => dialog_word(dialog),
+        Effect::Ignored(why) => why.as_str(),
+        _ => "else",
+    }
+}
+
+fn ask_word(ask: &Ask) -> &'static str {
+    match ask {
+        Ask::Accounts { to } => accounts_word(to.as_str()),
+        Ask::Metadata { .. } => "metadata",
+        Ask::Assertion(ask) => assertion_word(ask),
+        _ => "else",
+    }
+}
+
+fn accounts_word(to: &str) -> &'static str {
+    if to == "https://accounts.idp.example/accounts" {
+        "accounts"
+    } else {
+        "elsewhere"
+    }
+}
+
+fn finish_word(finish: &Finish) -> &'static str {
+    match finish {
+        Finish::Failed(failure) => match failure.detail {
+            Some(detail) => detail.as_str(),
+            None => failure.step.as_str(),
+        },
+        _ => finish.seen(),
+    }
+}
+
+// Of an assertion request for this account, whether the user was shown what the provider tells the page.
+fn assertion_word(ask: &AssertionAsk) -> &'static str {
+    match (ask.account().as_str(), ask.disclosure()) {
+        ("u1", false) if ask.auto() => "asserts u1 again",
+        ("u1", false) => "asserts u1",
+        ("u1", true) => "asserts u1, disclosed",
+        ("u2", true) => "asserts u2, disclosed",
+        _ => "asserts another",
+    }
+}
+
+fn dialog_word(dialog: &Dialog) -> &'static str {
+    match dialog {
+        Dialog::Choose { accounts, site, .. } => choice_word(accounts.len(), site.as_str()),
+        Dialog::Prompt {
+            account,
+            privacy,
+            ..
+        } => prompt_word(account.connected, privacy.is_some()),
+        Dialog::Mismatch { .. } => "mismatch",
+    }
+}
+
+fn choice_word(count: usize, site: &str) -> &'static str {
+    if count == 2 && site == "rp.example" {
+        "choose"
+    } else {
+        "another choice"
+    }
+}
+
+fn prompt_word(connected: bool, linked: bool) -> &'static str {
+    match (linked, connected) {
+        (true, _) => "linked",
+        (false, true) => "connected",
+        (false, false) => "prompt",
+    }
+}
+
+fn then(alloc: Global, call: Seen, input: &Input, browser: &Browser) -> Result<Seen, NoRoom> {
+    match call.state.advance(alloc, input, &browser.lent()) {
+        Ok(call) => Ok(with_word(call)),
+        Err(NoRoom) => Err(NoRoom),
+    }
+}
+
+// The call after these inputs.
+fn after(alloc: Global, call: Seen, inputs: &[Input], browser: &Browser) -> Result<Seen, NoRoom> {
+    let mut call = call;
+    for input in inputs {
+        call = then(alloc, call, input, browser)?;
+    }
+    Ok(call)
+}
+
+// What a call did last, and where it is.
+fn ending(call: Seen) -> (&'static str, Stage) {
+    (call.word, call.state.stage())
+}
+
+// What a call did last, and its page; none where it is over.
+pub fn paged(call: Seen) -> (&'static str, Option<u32>) {
+    (call.word, call.state.page())
+}
+
+// What a call does at the last of these inputs, and where it is then.
+fn last(alloc: Global, words: &str, browser: &Browser) -> Result<(&'static str, Stage), NoRoom> {
+    let inputs = inputs(alloc, words)?;
+    let call = begin(alloc, CONFIG, Mode::Passive, browser)?;
+    let call = after(alloc, call, inputs.as_slice(), browser)?;
+    Ok(ending(call))
+}
+
+fn stage_word(stage: Stage) -> &'static str {
+    match stage {
+        Stage::Reading => "reading",
+        Stage::Listing => "listing",
+        Stage::Mismatch => "mismatch",
+        Stage::Choosing => "choosing",
+        Stage::Prompting => "prompting",
+        Stage::Asserting => "asserting",
+        Stage::Ended => "ended",
+    }
+}
+
+// The parts of a line round its first bar.
+fn parts(line: &str) -> Result<(&str, &str), Fail> {
+    Ok(line.split_once(" | ").ok_or("a line")?)
+}
+
+// A line: the inputs of a call, what it does at the last of them, and its stage then.
+fn follows(rt: &impl Abort, alloc: Global, browser: &Browser, line: &str) -> Result<(), Fail> {
+    let (words, more) = parts(line)?;
+    let (expected, stage) = parts(more)?;
+    let (word, at) = last(alloc, words, browser)?;
+    assert_eq!(rt; word, expected, "{line}");
+    assert_eq!(rt; stage_word(at), stage, "{line}");
+    Ok(())
+}
+
+// That calls do as each of these lines says.
+pub fn follow(rt: &impl Abort, alloc: Global, browser: &Browser, text: &str) -> Result<(), Fail> {
+    for line in text.split('\n') {
+        follows(rt, alloc, browser, line)?;
+    }
+    Ok(())
+}

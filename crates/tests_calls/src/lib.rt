@@ -1,0 +1,23 @@
+//! Tests of consents, requests and calls.
+#![tactic(auto)]
+
+#[cfg(test)]
+mod call;
+#[cfg(test)]
+mod call_assertions;
+#[cfg(test)]
+mod call_dialogs;
+#[cfg(test)]
+mod call_inputs;
+#[cfg(test)]
+mod call_words;
+#[cfg(test)]
+mod consent;
+#[cfg(test)]
+mod disconnect;
+#[cfg(test)]
+mod disconnect_inputs;
+#[cfg(test)]
+mod disconnect_words;
+#[cfg(test)]
+mod request;

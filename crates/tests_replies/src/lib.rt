@@ -1,0 +1,11 @@
+//! Tests of replies, and of what is read in them.
+#![tactic(auto)]
+
+#[cfg(test)]
+mod accounts;
+#[cfg(test)]
+mod provider;
+#[cfg(test)]
+mod reply;
+#[cfg(test)]
+mod token;

@@ -1,0 +1,247 @@
+//! The jar on worked examples, each a list of steps, and a table of what is stored.
+use fed_cookie::read_set_cookie;
+use fed_jar::{Cookie, Jar};
+use fed_origin::WebUrl;
+use fed_suffix::Suffixes;
+use std::alloc::{AllocError, Global};
+use std::process::Abort;
+use std::test::Fail;
+
+const NOW: u64 = 1700000000;
+
+// A cookie under a nested suffix names the registrable domain of the other suffix.
+const NESTED_SUFFIX: &str =
+    "store | https://foo.blog.example.com/ | x=1; Domain=example.com; Path=/; SameSite=None; Secure | no
+text | 0 | https://example.com/accounts | none
+store | https://a.example.com/ | x=1; Domain=example.com; Path=/; SameSite=None; Secure | yes
+text | 0 | https://example.com/accounts | x=1
+text | 0 | https://foo.blog.example.com/ | none";
+
+// A cookie that is replaced keeps its place; a Lax one is not sent; longer paths go first.
+const COOKIES_IN_ORDER: &str =
+    "store | https://accounts.idp.example/login/start | a=1; Path=/; SameSite=None; Secure | yes
+store | https://accounts.idp.example/login/start | b=2; Path=/accounts; SameSite=None; Secure | yes
+store | https://accounts.idp.example/login/start | c=3; Path=/ | yes
+store | https://accounts.idp.example/login/start | d=4; Domain=idp.example; Path=/; SameSite=None; Secure | yes
+store | https://accounts.idp.example/login/start | e=6; SameSite=None; Secure | yes
+store | https://accounts.idp.example/login/start | a=5; Path=/; SameSite=None; Secure | yes
+text | 0 | https://accounts.idp.example/accounts | b=2; a=5; d=4
+list | idp.example | a=5 /;b=2 /accounts;c=3 /;d=4 /;e=6 /login;
+all | - | a=5 /;b=2 /accounts;c=3 /;d=4 /;e=6 /login;
+store | https://other.example/ | o=1 | yes
+list | idp.example | a=5 /;b=2 /accounts;c=3 /;d=4 /;e=6 /login;
+all | - | a=5 /;b=2 /accounts;c=3 /;d=4 /;e=6 /login;o=1 /;";
+
+// Max-Age counts before Expires, and an expired cookie keeps its place.
+const EXPIRY: &str =
+    "store | https://a.example/ | a=1; SameSite=None; Secure; Max-Age=10; Expires=Thu, 01 Jan 1970 00:00:00 GMT | yes
+store | https://a.example/ | b=1; SameSite=None; Secure; Max-Age=0; Expires=Thu, 01 Jan 2099 00:00:00 GMT | yes
+store | https://a.example/ | c=1; SameSite=None; Secure; Expires=Thu, 01 Jan 2099 00:00:00 GMT | yes
+text | 9 | https://a.example/ | a=1; c=1
+text | 10 | https://a.example/ | c=1
+store | https://a.example/ | b=2; SameSite=None; Secure | yes
+text | 0 | https://a.example/ | a=1; b=2; c=1";
+
+// What a jar without cookies makes of a field: the cookie is for hosts below too (`domain`), for
+// the host alone (`host`), or ignored (`no`), under the rules `com`, `co.example` and `*.ck`. Of
+// these RFC 6265 has no prefixes, no rule on SameSite and none on Secure over http, and stores a
+// cookie of a domain that is no registrable domain's.
+const FIELDS: &str = "alone | https://a.example/ | x=1 | host
+alone | https://a.example/ | x=1; SameSite=None | no
+alone | https://a.example/ | x=1; SameSite=None; Secure | host
+alone | http://a.example/ | x=1; Secure | no
+alone | http://a.example/ | x=1 | host
+alone | https://a.example/ | __Host-a=1; Secure; Path=/p | no
+alone | https://a.example/ | __Host-a=1; Secure; Path=/ | host
+alone | https://a.example/ | __Host-a=1; Secure | host
+alone | https://a.example/p/q | __Host-a=1; Secure | no
+alone | https://a.example/ | __Host-a=1; Path=/ | no
+alone | https://a.example/ | __Host-a=1; Secure; Path=/; Domain=a.example | no
+alone | https://a.example/ | __host-a=1; Path=/p | host
+alone | https://a.example/ | __Secure-a=1 | no
+alone | https://a.example/ | __Secure-a=1; Secure; Path=/p | host
+alone | https://localhost/ | x=1; Domain=localhost | host
+alone | https://a.localhost/ | x=1; Domain=localhost | no
+alone | https://127.0.0.1/ | x=1; Domain=127.0.0.1 | host
+alone | https://127.0.0.1/ | x=1; Domain=0.0.1 | no
+alone | https://a.example/ | x=1; Domain=. | no
+alone | https://a.example/ | x=1; Domain= | host
+alone | https://a.example/ | x=1; Domain=example | no
+alone | https://a.example/ | x=1; Domain=a.example | domain
+alone | https://b.a.example/ | x=1; Domain=.A.Example | domain
+alone | https://a.example/ | x=1; Domain=b.a.example | no
+alone | https://a.example/ | x=1; Domain=b.example | no
+alone | https://a.co.example/ | x=1; Domain=co.example | no
+alone | https://co.example/ | x=1; Domain=co.example | host
+alone | https://b.a.co.example/ | x=1; Domain=a.co.example | domain
+alone | https://a.b.ck/ | x=1; Domain=b.ck | no";
+
+// The rules of a list, one on each line.
+fn rules_of(alloc: Global, list: &str) -> Result<Suffixes, Fail> {
+    let mut rules = Suffixes::new(alloc);
+    for line in list.split('\n') {
+        rules.read_line(line)?;
+    }
+    Ok(rules)
+}
+
+// Whether the field of a page is stored.
+fn stores(
+    jar: &mut Jar,
+    alloc: Global,
+    rules: &Suffixes,
+    url: &str,
+    field: &[u8],
+) -> Result<bool, Fail> {
+    let url = WebUrl::read(alloc, url)?;
+    let raw = read_set_cookie(alloc, field)?.ok_or("no cookie")?;
+    Ok(jar.store(rules, &url, NOW, raw)?)
+}
+
+// Names, values and paths.
+fn shown(alloc: Global, cookies: &[Cookie]) -> Result<Vec<u8>, Fail> {
+    let mut text = Vec::new(alloc);
+    for cookie in cookies {
+        add(&mut text, &cookie.copy(alloc)?)?;
+    }
+    Ok(text)
+}
+
+fn add(text: &mut Vec<u8>, cookie: &Cookie) -> Result<(), AllocError> {
+    text.extend_from_slice(cookie.name.as_slice())?;
+    text.push(b'=')?;
+    text.extend_from_slice(cookie.value.as_slice())?;
+    text.push(b' ')?;
+    text.extend_from_slice(cookie.path.as_slice())?;
+    text.push(b';')?;
+    Ok(())
+}
+
+// The parts of a step round its first bar.
+fn parts(step: &str) -> Result<(&str, &str), Fail> {
+    Ok(step.split_once(" | ").ok_or("a step")?)
+}
+
+fn store_step(
+    rt: &impl Abort,
+    jar: &mut Jar,
+    alloc: Global,
+    rules: &Suffixes,
+    step: &str,
+) -> Result<(), Fail> {
+    let (url, more) = parts(step)?;
+    let (field, answer) = parts(more)?;
+    let is_stored = stores(jar, alloc, rules, url, field.as_bytes())?;
+    assert_eq!(rt; is_stored, answer == "yes", "{step}");
+    Ok(())
+}
+
+fn alone_step(rt: &impl Abort, alloc: Global, rules: &Suffixes, step: &str) -> Result<(), Fail> {
+    let (url, more) = parts(step)?;
+    let (field, scope) = parts(more)?;
+    let mut jar = Jar::new(alloc);
+    let is_stored = stores(&mut jar, alloc, rules, url, field.as_bytes())?;
+    assert_eq!(rt; is_stored, scope != "no", "{step}");
+    for cookie in jar.list(alloc)?.iter() {
+        assert_eq!(rt; cookie.host_only, scope == "host", "{step}");
+    }
+    Ok(())
+}
+
+fn text_step(
+    rt: &impl Abort,
+    jar: &Jar,
+    alloc: Global,
+    rules: &Suffixes,
+    step: &str,
+) -> Result<(), Fail> {
+    let (later, more) = parts(step)?;
+    let (url, wanted) = parts(more)?;
+    let url = WebUrl::read(alloc, url)?;
+    let now = NOW.saturating_add(later.parse::<u64>().unwrap_or(0));
+    let text = jar.cookie_text(alloc, rules, &url, now)?;
+    let wanted = if wanted == "none" {
+        b"".as_slice()
+    } else {
+        wanted.as_bytes()
+    };
+    assert_eq!(rt; text.as_slice(), wanted, "{step}");
+    Ok(())
+}
+
+fn list_step(
+    rt: &impl Abort,
+    jar: &Jar,
+    alloc: Global,
+    rules: &Suffixes,
+    step: &str,
+) -> Result<(), Fail> {
+    let (party, wanted) = parts(step)?;
+    let list = if party == "-" {
+        jar.list(alloc)?
+    } else {
+        jar.list_of(alloc, rules, party.as_bytes())?
+    };
+    let text = shown(alloc, list.as_slice())?;
+    assert_eq!(rt; text.as_slice(), wanted.as_bytes(), "{step}");
+    Ok(())
+}
+
+fn follows(rt: &impl Abort, alloc: Global, list: &str, steps: &str) -> Result<(), Fail> {
+    let rules = rules_of(alloc, list)?;
+    let mut jar = Jar::new(alloc);
+    for line in steps.split('\n') {
+        let (word, step) = parts(line)?;
+        match word {
+            "store" => store_step(rt, &mut jar, alloc, &rules, step)?,
+            "alone" => alone_step(rt, alloc, &rules, step)?,
+            "text" => text_step(rt, &jar, alloc, &rules, step)?,
+            _ => list_step(rt, &jar, alloc, &rules, step)?,
+        }
+    }
+    Ok(())
+}
+
+#[test]
+fn nested_suffix(rt: HostRuntime) -> Result<(), Fail> {
+    follows(&rt, rt.alloc(), "com\nblog.example.com", NESTED_SUFFIX)
+}
+
+#[test]
+fn cookies_in_order(rt: HostRuntime) -> Result<(), Fail> {
+    follows(&rt, rt.alloc(), "", COOKIES_IN_ORDER)
+}
+
+#[test]
+fn expiry(rt: HostRuntime) -> Result<(), Fail> {
+    follows(&rt, rt.alloc(), "", EXPIRY)
+}
+
+#[test]
+fn stored_fields(rt: HostRuntime) -> Result<(), Fail> {
+    follows(&rt, rt.alloc(), "com\nco.example\n*.ck", FIELDS)
+}
+
+// Whether a cookie whose name and value have so many bytes together is stored.
+fn stores_bytes(alloc: Global, count: usize) -> Result<bool, Fail> {
+    let rules = Suffixes::new(alloc);
+    let mut jar = Jar::new(alloc);
+    let mut field = b"name=".to_vec(alloc)?;
+    for _ in 4..count {
+        field.push(b'v')?;
+    }
+    stores(
+        &mut jar,
+        alloc,
+        &rules,
+        "https://a.example/",
+        field.as_slice(),
+    )
+}
+
+#[test]
+fn longest_cookie(rt: HostRuntime) -> Result<(), Fail> {
+    assert!(rt; stores_bytes(rt.alloc(), 4096)?);
+    assert!(rt; !stores_bytes(rt.alloc(), 4097)?);
+    Ok(())
+}

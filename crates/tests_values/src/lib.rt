@@ -1,0 +1,13 @@
+//! Tests of URLs, suffixes, cookies and statuses.
+#![tactic(auto)]
+
+#[cfg(test)]
+mod cookie;
+#[cfg(test)]
+mod jar;
+#[cfg(test)]
+mod origin;
+#[cfg(test)]
+mod status;
+#[cfg(test)]
+mod suffix;
