@@ -4,14 +4,14 @@ ghost use Rattle.fed_origin.specs.WebUrl.{origin_of};
 ghost use Rattle.fed_call.specs.Accounts as spec;
 
 use crate::begun::Call;
-use fed_accounts::{Account, Accounts, AccountsStep, connected, keep_hinted, read_accounts};
+use fed_accounts::{Account, Accounts, AccountsStep, connected, read_hinted};
 use fed_io::{Fault, Items, NoRoom, Text};
 use fed_origin::{Origin, ProviderOptions};
 use fed_status::KeptSet;
 use std::alloc::Global;
 
 /// The accounts in an accounts reply that the hints of the call ask for, or the step at which they are refused.
-#[tactic(auto, unfolding(crate::specs::Accounts::accounts_of))]
+#[tactic(auto, unfolding(crate::specs::Accounts::accounts_of, fed_accounts::specs::Hints::HintedOf))]
 pub fn hinted_accounts(
     alloc: Global,
     raw: &[u8],
@@ -19,14 +19,9 @@ pub fn hinted_accounts(
 ) -> Result<Result<Accounts, AccountsStep>, NoRoom>
     ensures { IfOk result (λ read. read ≡ spec.accounts_of raw.now provider.now) }
 {
-    let accounts = match read_accounts(alloc, raw) {
-        Ok(accounts) => accounts,
-        Err(Fault::Step(step)) => return Ok(Err(step)),
-        Err(Fault::NoRoom) => return Err(NoRoom),
-    };
     let login = provider.login_hint.as_ref();
     let domain = provider.domain_hint.as_ref();
-    match keep_hinted(alloc, accounts, login, domain) {
+    match read_hinted(alloc, raw, login, domain) {
         Ok(accounts) => Ok(Ok(accounts)),
         Err(Fault::Step(step)) => Ok(Err(step)),
         Err(Fault::NoRoom) => Err(NoRoom),

@@ -33,7 +33,7 @@ fn push_number(bytes: &mut Vec<u8>, number: usize) -> Result<(), NoRoom>
     Ok(())
 }
 
-// Adds a host, and the port where it is not the scheme's own.
+// Adds a host, and the port where it is not `own_port`.
 fn push_host(bytes: &mut Vec<u8>, host: &str, port: u16, own_port: u16) -> Result<(), NoRoom>
     ensures { OnOk result (bytes.new.items ≡ bytes.old.items ++ spec.host_port host.now port own_port) }
 {
@@ -61,14 +61,7 @@ pub fn push_origin_line(bytes: &mut Vec<u8>, origin: &Origin) -> Result<(), NoRo
     ensures { OnOk result (bytes.new.items ≡ bytes.old.items ++ line (codes "Origin: ") (origin_text origin.now)) }
 {
     bytes.extend_from_slice(b"Origin: ")?;
-    bytes.extend_from_slice(origin.scheme.as_str().as_bytes())?;
-    bytes.extend_from_slice(b"://")?;
-    push_host(
-        bytes,
-        origin.host.text.as_str(),
-        origin.port,
-        origin.scheme.own_port(),
-    )?;
+    origin.push_to(bytes)?;
     bytes.extend_from_slice(b"\r\n")?;
     Ok(())
 }

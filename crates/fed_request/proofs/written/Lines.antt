@@ -1,9 +1,9 @@
 -- The lines of a request as they are written are those of the definitions.
-use Rattle.std.proofs.Common.{◌≡◌, ℕ, ◌<◌, true, false, ◌==◌, Bool, decimal, List, [], ◌∷◌, ◌++◌, length, codes}
+use Rattle.std.proofs.Common.{◌≡◌, ℕ, ◌<◌, decimal, List, [], ◌∷◌, ◌++◌, length, codes}
 use Rattle.std.proofs.Common.{refl, append_assoc, arith}
-use Rattle.fed_origin.specs.Origin.{origin_text, own_port, scheme_text}
+use Rattle.fed_origin.specs.Origin.{origin_text}
 use Rattle.fed_origin.specs.declared.origin.Origin.{Origin}
-use Rattle.fed_request.specs.Text.{line, first_lines, last_lines, form_lines, host_port, after_target}
+use Rattle.fed_request.specs.Text.{line, first_lines, last_lines, form_lines, after_target}
 
 -- pieces after what was written
 pub three_more : (old a b c : List ℕ) → ((old ++ a) ++ b) ++ c ≡ old ++ (a ++ (b ++ c))
@@ -28,13 +28,6 @@ pub form_lines_written : (form : List ℕ) → form_lines form
 unfolding line form_lines
 form_lines_written form = simp append_assoc
 
--- the port follows the host in both cases
-origin_by_port : (o : Origin) (same : Bool) → (o.port == own_port o.scheme) ≡ same
-    → origin_text o ≡ scheme_text o.scheme ++ (codes "://" ++ host_port o.host o.port (own_port o.scheme))
-origin_by_port o true is = rw is (append_assoc (scheme_text o.scheme) (codes "://") o.host)
-origin_by_port o false is = rw is (simp append_assoc)
-
-pub origin_line_written : (o : Origin) → line (codes "Origin: ") (origin_text o) ≡ codes "Origin: "
-    ++ (scheme_text o.scheme ++ (codes "://" ++ (host_port o.host o.port (own_port o.scheme) ++ codes "\r\n")))
+pub origin_line_written : (o : Origin) → line (codes "Origin: ") (origin_text o) ≡ codes "Origin: " ++ (origin_text o ++ codes "\r\n")
 unfolding line
-origin_line_written o = rw (origin_by_port o (o.port == own_port o.scheme) refl) (simp append_assoc)
+origin_line_written o = refl
