@@ -5,11 +5,9 @@ of parties.
 
     bench/cookies.py [PARTIES ..]
 """
-import os
 import sys
-import tempfile
 
-from measure import run
+from measure import measured
 
 HEADER = '{"fedcm":1,"now":1700000000,"rules":"example"}\n'
 A_LOAD = 90
@@ -36,18 +34,13 @@ def main():
     counts = [int(word) for word in sys.argv[1:]] or [100, 1000]
     print("| parties | cookies kept | cookies written | input MB | seconds | written a second | peak MB |")
     print("|---|---|---|---|---|---|---|")
-    with tempfile.TemporaryDirectory() as folder:
-        path = os.path.join(folder, "script.jsonl")
-        for parties in counts:
-            with open(path, "w") as out:
-                out.write(HEADER)
-                out.writelines(script(parties))
-            seconds, peak = run(path)
-            written = parties * 360
-            print(
-                f"| {parties} | {parties * 180} | {written} | {os.path.getsize(path) / 1e6:.1f} "
-                f"| {seconds:.2f} | {written / seconds:,.0f} | {peak:.0f} |"
-            )
+    for parties in counts:
+        _, size, seconds, peak = measured(HEADER, script(parties))
+        written = parties * 360
+        print(
+            f"| {parties} | {parties * 180} | {written} | {size:.1f} "
+            f"| {seconds:.2f} | {written / seconds:,.0f} | {peak:.0f} |"
+        )
 
 
 if __name__ == "__main__":

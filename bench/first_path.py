@@ -7,11 +7,9 @@ page that is loaded again and again, with a get in between that each load ends.
 
     bench/first_path.py [EVENTS ..]
 """
-import os
 import sys
-import tempfile
 
-from measure import run
+from measure import measured
 
 HEADER = '{"fedcm":1,"now":0,"rules":""}\n'
 # URLs as short as `url` reads them: 1,000,000 events have to fit into the 67,108,864 bytes of an input.
@@ -30,24 +28,14 @@ def one_page(events):
         yield LOAD % 0 if i % 2 == 0 else GET % (0, i)
 
 
-def write(lines, path):
-    with open(path, "w") as script:
-        script.write(HEADER)
-        script.writelines(lines)
-    return os.path.getsize(path)
-
-
 def main():
     counts = [int(word) for word in sys.argv[1:]] or [10_000, 100_000, 1_000_000]
     print("| shape | events | input MB | seconds | events a second | MB a second | peak MB |")
     print("|---|---|---|---|---|---|---|")
-    with tempfile.TemporaryDirectory() as folder:
-        path = os.path.join(folder, "script.jsonl")
-        for name, shape in (("pages", pages), ("one page", one_page)):
-            for events in counts:
-                size = write(shape(events), path) / 1e6
-                seconds, peak = run(path)
-                print(f"| {name} | {events:,} | {size:.1f} | {seconds:.2f} | {events / seconds:,.0f} | {size / seconds:.1f} | {peak:.0f} |")
+    for name, shape in (("pages", pages), ("one page", one_page)):
+        for events in counts:
+            _, size, seconds, peak = measured(HEADER, shape(events))
+            print(f"| {name} | {events:,} | {size:.1f} | {seconds:.2f} | {events / seconds:,.0f} | {size / seconds:.1f} | {peak:.0f} |")
 
 
 if __name__ == "__main__":

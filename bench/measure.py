@@ -2,7 +2,9 @@
 import os
 import subprocess
 import sys
+import tempfile
 import time
+from typing import NamedTuple
 
 TOP = os.path.dirname(os.path.dirname(os.path.abspath(__file__)))
 PROGRAM = os.path.join(TOP, "crates", "fedcm", "out", "fedcm")
@@ -30,3 +32,26 @@ def run(path, word="run"):
     if status != 0:
         sys.exit(f"status {os.waitstatus_to_exitcode(status)} for {path}")
     return time.monotonic() - begin, usage.ru_maxrss / 1024
+
+
+class Measured(NamedTuple):
+    """What a run over a script took."""
+
+    events: int
+    megabytes: float
+    seconds: float
+    peak: float
+
+
+def measured(header, events):
+    """The run over the script of this header and these lines of events, which may come one after another: the number of the events, the
+    script's MB, the seconds, and the peak of memory in MB."""
+    with tempfile.TemporaryDirectory() as folder:
+        path = os.path.join(folder, "script.jsonl")
+        count = 0
+        with open(path, "w") as script:
+            script.write(header)
+            for event in events:
+                script.write(event)
+                count += 1
+        return Measured(count, os.path.getsize(path) / 1e6, *run(path))

@@ -6,11 +6,9 @@ a second and peak memory, for each number of accounts.
     bench/permissions.py [ACCOUNTS ..]
 """
 import json
-import os
 import sys
-import tempfile
 
-from measure import run
+from measure import measured
 
 HEADER = '{"fedcm":1,"now":0,"rules":""}\n'
 PROVIDER = "https://accounts.idp.example"
@@ -46,27 +44,14 @@ def disconnects(accounts, others):
         yield reply(i, "disconnect", {"account_id": f"u{i}"}, CORS)
 
 
-def write(lines, path):
-    count = 0
-    with open(path, "w") as script:
-        script.write(HEADER)
-        for text in lines:
-            script.write(text)
-            count += 1
-    return count
-
-
 def main():
     counts = [int(word) for word in sys.argv[1:]] or [5_000, 10_000, 20_000]
     print("| permissions beside the page's own | accounts | events | seconds | events a second | peak MB |")
     print("|---|---|---|---|---|---|")
-    with tempfile.TemporaryDirectory() as folder:
-        path = os.path.join(folder, "script.jsonl")
-        for name, others in (("none", False), ("as many", True)):
-            for accounts in counts:
-                events = write(disconnects(accounts, others), path)
-                seconds, peak = run(path)
-                print(f"| {name} | {accounts:,} | {events:,} | {seconds:.2f} | {events / seconds:,.0f} | {peak:.0f} |")
+    for name, others in (("none", False), ("as many", True)):
+        for accounts in counts:
+            events, _, seconds, peak = measured(HEADER, disconnects(accounts, others))
+            print(f"| {name} | {accounts:,} | {events:,} | {seconds:.2f} | {events / seconds:,.0f} | {peak:.0f} |")
 
 
 if __name__ == "__main__":

@@ -1,3 +1,4 @@
 pub mod ids
 pub mod lists
+pub mod names
 pub mod reselection

@@ -3,4 +3,5 @@ pub mod Connection
 pub mod Read
 pub mod Hints
 pub mod Entry
+pub mod Found
 pub mod Kept

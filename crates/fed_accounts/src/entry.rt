@@ -3,17 +3,19 @@ ghost use Rattle.std.specs.Prelude.{◌≡◌, ◌==◌, IfOk, length, not, opti
 ghost use Rattle.std.specs.Option.{option_copied};
 ghost use Rattle.std.specs.Result.{result_map_both};
 ghost use Rattle.fed_json.specs.Part.{data_at, items_at};
-ghost use Rattle.fed_reply.specs.Members.{text_under, list_under};
+ghost use Rattle.fed_reply.specs.Members.{member_map};
 ghost use Rattle.fed_reply.specs.Shape.{required, optional};
 ghost use Rattle.fed_accounts.specs.Connection.{has_text};
 ghost use Rattle.fed_accounts.specs.Entry as seen;
+ghost use Rattle.fed_accounts.specs.Found.{account_found, list_found};
 ghost use Rattle.fed_accounts.specs.Hints as hints;
 ghost use Rattle.fed_accounts.specs.Read as spec;
 
+use crate::members::{Found, Lists, find_members};
 use crate::{Account, AccountsStep};
 use fed_io::{Items, NoRoom, Text, text_of};
 use fed_json::{Entries, Part};
-use fed_reply::{Member, text_member, value_member};
+use fed_reply::Member;
 use std::alloc::Global;
 
 /// An account as its entry has it. Nothing is copied, so that what no call is about costs no copy.
@@ -31,18 +33,33 @@ pub(crate) struct Entry<'t, 'a> {
 }
 
 /// The account of an entry.
-#[tactic(auto, unfolding(crate::specs::Read::account_of, crate::specs::Read::texts_of, crate::specs::Read::with_lists))]
 pub(crate) fn read_entry<'t, 'a>(entry: &Part<'t, 'a>) -> Result<Entry<'t, 'a>, AccountsStep>
     ensures { result_map_both seen.account (λ e. e) result ≡ spec.account_of (data_at entry.now) }
 {
-    let id = required_text(entry, "id")?;
-    let name = required_text(entry, "name")?;
-    let email = required_text(entry, "email")?;
-    let given_name = optional_text(entry, "given_name")?;
-    let picture = optional_text(entry, "picture")?;
-    let approved = text_list(entry, "approved_clients")?;
-    let login_hints = text_list(entry, "login_hints")?;
-    let domain_hints = text_list(entry, "domain_hints")?;
+    match find_members(entry) {
+        Some(found) => read_found(found),
+        None => Err(AccountsStep::Shape),
+    }
+}
+
+// The account of what was found.
+fn read_found<'t, 'a>(found: Found<'t, 'a>) -> Result<Entry<'t, 'a>, AccountsStep>
+    ensures { result_map_both seen.account (λ e. e) result ≡ account_found found.entry }
+{
+    let Found { texts, lists } = found;
+    let Lists {
+        approved,
+        login_hints,
+        domain_hints,
+    } = lists;
+    let id = required_text(texts.id)?;
+    let name = required_text(texts.name)?;
+    let email = required_text(texts.email)?;
+    let given_name = optional_text(texts.given_name)?;
+    let picture = optional_text(texts.picture)?;
+    let approved = text_list(approved)?;
+    let login_hints = text_list(login_hints)?;
+    let domain_hints = text_list(domain_hints)?;
     Ok(Entry {
         id,
         name,
@@ -56,43 +73,44 @@ pub(crate) fn read_entry<'t, 'a>(entry: &Part<'t, 'a>) -> Result<Entry<'t, 'a>, 
 }
 
 // A text that has to be there.
-fn required_text<'a>(entry: &Part<'_, 'a>, name: &str) -> Result<&'a str, AccountsStep>
+fn required_text(found: Member<&str>) -> Result<&str, AccountsStep>
     ensures { result_map_both (λ text. text.now) (λ e. e) result
-        ≡ required AccountsStep.Shape (text_under name.now (data_at entry.now)) }
+        ≡ required AccountsStep.Shape (member_map (λ s. s.now) found.entry) }
 {
-    match text_member(entry, name) {
+    match found {
         Member::Is(text) => Ok(text),
         Member::Absent | Member::Wrong => Err(AccountsStep::Shape),
     }
 }
 
 // A text that may be left out.
-fn optional_text<'a>(entry: &Part<'_, 'a>, name: &str) -> Result<Option<&'a str>, AccountsStep>
-    ensures { result_map_both option_copied (λ e. e) result ≡ optional AccountsStep.Shape (text_under name.now (data_at entry.now)) }
+fn optional_text(found: Member<&str>) -> Result<Option<&str>, AccountsStep>
+    ensures { result_map_both option_copied (λ e. e) result ≡ optional AccountsStep.Shape (member_map (λ s. s.now) found.entry) }
 {
-    match text_member(entry, name) {
+    match found {
         Member::Is(text) => Ok(Some(text)),
         Member::Absent => Ok(None),
         Member::Wrong => Err(AccountsStep::Shape),
     }
 }
 
-// A list of texts that may be left out.
-fn text_list<'t, 'a>(entry: &Part<'t, 'a>, name: &str) -> Result<Option<Part<'t, 'a>>, AccountsStep>
+// A list of texts that may be left out; null counts as left out.
+fn text_list<'t, 'a>(found: Option<Part<'t, 'a>>) -> Result<Option<Part<'t, 'a>>, AccountsStep>
     ensures list { result_map_both (option_map seen.texts_at) (λ e. e) result
-        ≡ spec.optional_list (list_under name.now (data_at entry.now)) }
-    ensures or_empty { result_map_both seen.or_empty (λ e. e) result ≡ spec.list_or_empty (list_under name.now (data_at entry.now)) }
+        ≡ spec.optional_list (list_found found.entry) }
+    ensures or_empty { result_map_both seen.or_empty (λ e. e) result
+        ≡ spec.list_or_empty (list_found found.entry) }
 {
-    match value_member(entry, name) {
-        Member::Is(list) => {
-            if is_text_list(&list) {
-                Ok(Some(list))
-            } else {
-                Err(AccountsStep::Shape)
-            }
-        }
-        Member::Absent => Ok(None),
-        Member::Wrong => Err(AccountsStep::Shape),
+    let Some(list) = found else {
+        return Ok(None);
+    };
+    if list.is_null() {
+        return Ok(None);
+    }
+    if is_text_list(&list) {
+        Ok(Some(list))
+    } else {
+        Err(AccountsStep::Shape)
     }
 }
 

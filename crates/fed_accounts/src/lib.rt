@@ -6,6 +6,7 @@ mod accounts;
 mod connection;
 mod entry;
 mod hints;
+mod members;
 mod read;
 mod step;
 

@@ -1,5 +1,6 @@
 -- Cookie dates (RFC 6265, 5.1.1).
-use Rattle.std.specs.Prelude.{ℕ, ℤ, pos, negsuc, ◌+◌, ◌*◌, Bool, ◌&&◌, ◌||◌, ◌==◌, List, [], ◌∷◌, take, drop, map, codes, fold, nat_le, bytes_eq, Option, None, Some, option_map, option_and_then, if◌then◌else◌}
+use Rattle.std.specs.Prelude.{ℕ, ℤ, pos, negsuc, ◌+◌, ◌*◌, Bool, ◌&&◌, ◌||◌, ◌==◌, List, [], ◌∷◌, take, drop, map, codes, fold, nat_le}
+use Rattle.std.specs.Prelude.{bytes_eq, Option, None, Some, option_map, option_and_then, if◌then◌else◌}
 use Rattle.std.specs.Char.{is_ascii_digit, to_ascii_lowercase}
 use Rattle.std.specs.List.{prefix_len, slice_split}
 use Rattle.std.specs.Option.{option_map_or}
@@ -33,7 +34,8 @@ field_colon bytes = option_and_then past_colon (field 1 2 bytes)
 -- three fields of one or two digits joined by colons; what follows the last is no digit
 abbrev pub time_of : List ℕ → Option Time
 time_of token =
-    option_and_then (λ h. option_and_then (λ m. option_map (λ s. record { hour = h.0; minute = m.0; second = s.0 }) (field 1 2 m.1)) (field_colon h.1)) (field_colon token)
+    option_and_then (λ h. option_and_then (λ m. option_map (λ s. record { hour = h.0; minute = m.0; second = s.0 }) (field 1 2 m.1))
+    (field_colon h.1)) (field_colon token)
 
 -- one or two digits
 abbrev pub day_of : List ℕ → Option ℕ
@@ -123,7 +125,8 @@ moment time year month day =
 -- the moment of the parts, where none of them is missing
 abbrev pub moment_of : DateParts → Option ℕ
 moment_of parts =
-    option_and_then (λ time. option_and_then (λ day. option_and_then (λ month. option_and_then (λ year. moment time (full_year year) month day) parts.year) parts.month) parts.day) parts.time
+    option_and_then (λ time. option_and_then (λ day. option_and_then
+    (λ month. option_and_then (λ year. moment time (full_year year) month day) parts.year) parts.month) parts.day) parts.time
 
 -- what a cookie date says: seconds since 1970
 unfoldable pub date_of : List ℕ → Option ℕ

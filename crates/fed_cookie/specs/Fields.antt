@@ -1,12 +1,14 @@
 -- Reading a Set-Cookie field (RFC 6265, 5.2).
-use Rattle.std.specs.Prelude.{ℕ, ℤ, pos, neg_ℤ, ◌-◌, ◌^◌, min, Bool, true, false, not, ◌&&◌, ◌||◌, ◌==◌, List, [], ◌∷◌, length, map, codes, slice_index, nat_lt, bytes_eq, Option, None, Some, option_map, option_and_then, unwrap_or, if◌then◌else◌}
+use Rattle.std.specs.Prelude.{ℕ, ℤ, pos, neg_ℤ, ◌-◌, ◌^◌, min, Bool, true, false, not, ◌&&◌, ◌||◌, ◌==◌, List, [], ◌∷◌, length, map, codes}
+use Rattle.std.specs.Prelude.{slice_index, nat_lt, bytes_eq, Option, None, Some, option_map, option_and_then, unwrap_or, if◌then◌else◌}
 use Rattle.std.specs.Char.{is_ascii_digit, to_ascii_lowercase}
 use Rattle.std.specs.List.{list_any, list_all, slice_split}
 use Rattle.std.specs.Option.{option_or}
 use Rattle.fed_cookie.specs.declared.same_site.SameSite.{SameSite}
 use Rattle.fed_cookie.specs.declared.same_site.SameSite.TheVariants.{Strict, Lax, NoLimit}
 use Rattle.fed_cookie.specs.declared.attributes.AttributeKind.{AttributeKind}
-use Rattle.fed_cookie.specs.declared.attributes.AttributeKind.TheVariants.{Expires, MaxAge, Domain, Path, Secure, SameSite as SameSiteKind, Other}
+use Rattle.fed_cookie.specs.declared.attributes.AttributeKind.TheVariants.{Expires, MaxAge, Domain, Path, Secure, SameSite as SameSiteKind}
+use Rattle.fed_cookie.specs.declared.attributes.AttributeKind.TheVariants.{Other}
 use Rattle.fed_io.specs.Trim.{trimmed}
 use Rattle.fed_cookie.specs.Bytes.{cut_at, number_of, last_some}
 use Rattle.fed_cookie.specs.Date.{date_of}

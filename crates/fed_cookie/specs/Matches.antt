@@ -1,5 +1,6 @@
 -- Which paths and hosts a cookie's path and domain match (RFC 6265, 5.1.3 and 5.1.4).
-use Rattle.std.specs.Prelude.{ℕ, ◌-◌, Bool, true, false, ◌&&◌, ◌||◌, ◌==◌, List, [], ◌∷◌, length, slice_index, nat_lt, nat_eq, bytes_eq, count_by, if◌then◌else◌}
+use Rattle.std.specs.Prelude.{ℕ, ◌-◌, Bool, true, false, ◌&&◌, ◌||◌, ◌==◌, List, [], ◌∷◌, length, slice_index, nat_lt, nat_eq, bytes_eq}
+use Rattle.std.specs.Prelude.{count_by, if◌then◌else◌}
 use Rattle.std.specs.List.{starts_with, ends_with, before_last}
 use Rattle.fed_origin.specs.Host.{host_kind}
 use Rattle.fed_origin.specs.declared.host.HostKind.{HostKind}

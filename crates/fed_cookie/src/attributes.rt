@@ -39,7 +39,15 @@ impl<'a> Model for Attributes<'a> {
 
     ghost Value = { spec.Attributes };
 
-    ghost view = { λ a. record { expires = a.expires; max_age = a.max_age; domain = option_copied a.domain; path = option_copied a.path; secure = a.secure; same_site = a.same_site } };
+    ghost view = { λ a. record {
+      expires = a.expires;
+      max_age = a.max_age;
+      domain = option_copied a.domain;
+      path = option_copied a.path;
+      secure =
+          a.secure;
+      same_site = a.same_site;
+    } };
 }
 
 impl<'a> Attributes<'a> {

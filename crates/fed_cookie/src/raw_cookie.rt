@@ -29,7 +29,17 @@ impl Model for RawCookie {
 
     ghost Value = { SetCookie };
 
-    ghost view = { λ c. record { name = c.name; value = c.value; domain = c.domain; path = c.path; expires = c.expires; max_age = c.max_age; secure = c.secure; same_site = c.same_site } };
+    ghost view = { λ c. record {
+      name = c.name;
+      value = c.value;
+      domain = c.domain;
+      path = c.path;
+      expires = c.expires;
+      max_age = c.max_age;
+      secure =
+          c.secure;
+      same_site = c.same_site;
+    } };
 
     ghost invariant = { λ c. HasNoLineEnd c.name × HasNoLineEnd c.value };
 }

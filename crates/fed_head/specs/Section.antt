@@ -1,5 +1,6 @@
 -- A block of field lines, read line by line.
-use Rattle.std.specs.Prelude.{ℕ, Bool, true, false, ◌&&◌, ◌==◌, nat_lt, nat_le, List, [], ◌∷◌, ◌++◌, length, if◌then◌else◌, Option, Some, None, option_map, option_and_then}
+use Rattle.std.specs.Prelude.{ℕ, Bool, true, false, ◌&&◌, ◌==◌, nat_lt, nat_le, List, [], ◌∷◌, ◌++◌, length, if◌then◌else◌, Option, Some}
+use Rattle.std.specs.Prelude.{None, option_map, option_and_then}
 use Rattle.std.specs.List.{list_all}
 use Rattle.httparse.specs.Grammar.{is_token_byte, is_value_byte, trim_ows, Field}
 

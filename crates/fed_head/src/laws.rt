@@ -1,6 +1,7 @@
 //! Laws.
 ghost use Rattle.std.specs.Prelude.{◌≡◌, ℕ, List, map, Some};
-ghost use Rattle.httparse.specs.Grammar.{Field, LineEnd, ReadsSection, ChunkLine, ReadsChunkLine, chunk_size, ResponseHead, ReadsResponse, status_code};
+ghost use Rattle.httparse.specs.Grammar.{Field, LineEnd, ReadsSection, ChunkLine, ReadsChunkLine, chunk_size, ResponseHead, ReadsResponse};
+ghost use Rattle.httparse.specs.Grammar.{status_code};
 ghost use Rattle.fed_head.specs.Chunk.{size_line};
 ghost use Rattle.fed_head.specs.Head.{HeadParts, head_of, IsHeadOf};
 ghost use Rattle.fed_head.specs.Section.{FieldPair, section_of, field_pair};

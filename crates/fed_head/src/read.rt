@@ -70,8 +70,10 @@ fn response_at(raw: &[u8], spans: &mut [HeaderSpan]) -> Option<HeadSpans>
 }
 
 fn section_at(raw: &[u8], spans: &mut [HeaderSpan]) -> bool
-    ensures some { OnTrue result ((fields : List Field) × (last : LineEnd) × (rest : List ℕ) × ReadsSection raw.now fields last rest × (length fields ≤ length spans.old)) }
-    ensures none { OnFalse result ((fields : List Field) (last : LineEnd) (rest : List ℕ) → ReadsSection raw.now fields last rest → ¬ (length fields ≤ length spans.old)) }
+    ensures some { OnTrue result ((fields : List Field) × (last : LineEnd) × (rest : List ℕ) × ReadsSection raw.now fields last rest
+        × (length fields ≤ length spans.old)) }
+    ensures none { OnFalse result ((fields : List Field) (last : LineEnd) (rest : List ℕ) → ReadsSection raw.now fields last rest
+        → ¬ (length fields ≤ length spans.old)) }
 {
     match parse_headers(raw, spans) {
         Ok(Status::Complete(_)) => true,

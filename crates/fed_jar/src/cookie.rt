@@ -28,7 +28,17 @@ impl Model for Cookie {
 
     ghost Value = { StoredCookie };
 
-    ghost view = { λ c. record { name = c.name; value = c.value; domain = c.domain; host_only = c.host_only; path = c.path; expiry = c.expiry; secure = c.secure; same_site = c.same_site } };
+    ghost view = { λ c. record {
+      name = c.name;
+      value = c.value;
+      domain = c.domain;
+      host_only = c.host_only;
+      path = c.path;
+      expiry = c.expiry;
+      secure =
+          c.secure;
+      same_site = c.same_site;
+    } };
 
     ghost invariant = { λ c. HasNoLineEnd c.name × HasNoLineEnd c.value };
 }

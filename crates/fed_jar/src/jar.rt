@@ -68,7 +68,8 @@ impl Jar {
         ensures err { OnErr result (self.new ≡ self.old) }
 
         // The cookies of every other party are as they were, in their order.
-        ensures others { (name : List ℕ) → name ≢ party rules.now (host_of url.now) → filter (is_of_party rules.now name) self.new ≡ filter (is_of_party rules.now name) self.old }
+        ensures others { (name : List ℕ) → name ≢ party rules.now (host_of url.now)
+            → filter (is_of_party rules.now name) self.new ≡ filter (is_of_party rules.now name) self.old }
     {
         self.write(rules, url, now, raw)
     }

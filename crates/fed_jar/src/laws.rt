@@ -1,5 +1,6 @@
 //! What is true of the definitions: each function's contract is a law, and its body is empty.
-ghost use Rattle.fed_jar.specs.Laws.{JarIsStanding, TextIsOfWrites, TextIsOfParty, OtherPartsStay, OwnPartIsWritten, PartIsOfWrites, TextIsOfPartyWrites};
+ghost use Rattle.fed_jar.specs.Laws.{JarIsStanding, TextIsOfWrites, TextIsOfParty, OtherPartsStay, OwnPartIsWritten, PartIsOfWrites};
+ghost use Rattle.fed_jar.specs.Laws.{TextIsOfPartyWrites};
 
 /// The cookies of a jar are the writes that no later one replaces, in the order of the first write
 /// of their name, domain and path.

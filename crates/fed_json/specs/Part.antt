@@ -1,8 +1,9 @@
 -- What the values of a text are, by the tokens of its tape.
 use Rattle.std.specs.Prelude.{ℕ, zero, suc, List, [], ◌∷◌, length, Option, Some, None, option_and_then, is_some, cond, false}
+use Rattle.std.specs.Prelude.{bytes_eq, if◌then◌else◌}
 use Rattle.json.specs.Token.{Token}
 use Rattle.json.specs.Json as json
-use Rattle.json.specs.Find.{InItems}
+use Rattle.json.specs.Find.{InItems, InMembers}
 use Rattle.serde_json.specs.Data.{Num, Data, null, boolean, number, string, array, object, Items, no_items, item, Members, no_members, put}
 use Rattle.serde_json.specs.Read.{number_of}
 
@@ -53,6 +54,32 @@ with_first (Some ts) more = item (data_at ts) more
 -- the tokens begin with the items of an array that are left, and its end
 abbrev pub HasItems : List Token → Type 0
 HasItems ts = (js : json.Items) × InItems ts js
+
+abbrev pub or_no_members : Option (json.Members × List Token) → json.Members
+or_no_members None = json.no_members
+or_no_members (Some p) = p.0
+
+-- the members of an object that are left here, before its end, by their names
+unfoldable pub members_at : List Token → Members
+members_at ts = members_after (or_no_members (json.members (json.value (length ts)) (length ts) ts)) no_members
+
+-- the data there, or else the other
+abbrev pub data_or : Option Data → Option Data → Option Data
+data_or None other = other
+data_or (Some d) other = Some d
+
+-- the data of a member, where it has that name
+abbrev pub if_named : List ℕ → List ℕ × List Token → Option Data
+if_named name member = if bytes_eq member.0 name then Some (data_at member.1) else None
+
+-- what counts under a name, of the member that was taken, if there was one, and of those that are left: the last
+abbrev pub last_named : List ℕ → Option (List ℕ × List Token) → Option Data → Option Data
+last_named name None left = None
+last_named name (Some member) left = data_or left (if_named name member)
+
+-- the tokens begin with the members of an object that are left, and its end
+abbrev pub HasMembers : List Token → Type 0
+HasMembers ts = (ms : json.Members) × InMembers ts ms
 
 -- ---- what serde_json reads of what json reads
 

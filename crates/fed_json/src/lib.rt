@@ -2,11 +2,13 @@
 #![tactic(auto)]
 
 mod entries;
+mod members;
 mod number;
 mod part;
 mod range;
 mod tape;
 
 pub use entries::Entries;
+pub use members::Members;
 pub use part::Part;
 pub use tape::tape_of;

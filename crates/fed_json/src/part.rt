@@ -2,10 +2,10 @@
 ghost use Rattle.std.specs.Prelude.{◌≡◌, is_some, option_map, option_and_then};
 ghost use Rattle.json.specs.Find.{HasValue};
 ghost use Rattle.serde_json.specs.Find.{get, at, as_null, as_number, as_array, as_object, as_str, as_u64};
-ghost use Rattle.fed_json.specs.Part.{data_at, items_at};
+ghost use Rattle.fed_json.specs.Part.{data_at, items_at, members_at};
 
-use crate::Entries;
 use crate::number::whole_of;
+use crate::{Entries, Members};
 use json::{Element, Tape};
 use std::marker::Model;
 
@@ -75,6 +75,16 @@ impl<'t, 'a> Part<'t, 'a> {
     {
         match self.element.items() {
             Some(items) => Some(Entries::new(items)),
+            None => None,
+        }
+    }
+
+    /// The members, where this is an object. One pass over them finds what several names have, where `get` walks all for each.
+    pub fn members(&self) -> Option<Members<'t, 'a>>
+        ensures { option_map members_at result ≡ as_object (data_at self.now) }
+    {
+        match self.element.members() {
+            Some(members) => Some(Members::new(members)),
             None => None,
         }
     }

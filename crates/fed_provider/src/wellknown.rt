@@ -1,5 +1,5 @@
 //! The well-known file of a site.
-ghost use Rattle.std.specs.Prelude.{◌≡◌, Some, IfOk, IsAscii, option_map};
+ghost use Rattle.std.specs.Prelude.{◌≡◌, Some, IfOk, IsAscii, option_map, string_bytes};
 ghost use Rattle.fed_json.specs.Part.{data_at, items_at};
 ghost use Rattle.fed_io.specs.Fault.{Answers};
 ghost use Rattle.fed_origin.specs.WebUrl.{scheme_of};
@@ -7,13 +7,19 @@ ghost use Rattle.fed_reply.specs.Members.{member_map};
 ghost use Rattle.fed_provider.specs.WellKnown as spec;
 
 use crate::ProviderStep;
-use fed_io::{Fault, NoRoom, Text};
+use fed_io::{Fault, NoRoom};
 use fed_json::{Entries, Part};
 use fed_origin::{Scheme, WebUrl};
 use fed_reply::{JsonBuffer, Member, list_member, read_json};
 use fed_suffix::Suffixes;
 use std::alloc::Global;
 use std::str;
+
+// What stands before the site in its well-known URL.
+const FRONT: &str = "https://";
+
+// What stands after it.
+const PATH: &str = "/.well-known/web-identity";
 
 /// The well-known URL for a configuration URL (FedCM, "The Well-Known File"; its form is this
 /// profile's own): `https`, the registrable domain of the host, and `/.well-known/web-identity`.
@@ -58,13 +64,21 @@ fn url_of_site(alloc: Global, site: &str) -> Result<WebUrl, Fault<ProviderStep>>
     }
 }
 
-// The text of a site's well-known URL.
-#[tactic(auto, unfolding(crate::specs::WellKnown::wellknown_text))]
-fn wellknown_text(alloc: Global, site: &str) -> Result<Text, NoRoom>
-    ensures { IfOk result (λ text. text ≡ spec.wellknown_text site.now) }
+// The text of a site's well-known URL. It is written once, into room for all of it: `format!` takes memory three times, and a
+// `Text` is a copy more.
+#[tactic(auto, using(std::proofs::Common::append_assoc), unfolding(crate::specs::WellKnown::wellknown_text))]
+fn wellknown_text(alloc: Global, site: &str) -> Result<String, NoRoom>
+    ensures { IfOk result (λ text. string_bytes text ≡ spec.wellknown_text site.now) }
 {
-    let text = format!(in alloc; "https://{site}/.well-known/web-identity")?;
-    Text::of(alloc, text.as_str())
+    let room = FRONT
+        .len()
+        .saturating_add(site.len())
+        .saturating_add(PATH.len());
+    let mut text = String::with_capacity(alloc, room)?;
+    text.push_str(FRONT)?;
+    text.push_str(site)?;
+    text.push_str(PATH)?;
+    Ok(text)
 }
 
 /// Reads the well-known file in a reply of the well-known URL `base`, and tests that it names the

@@ -1,4 +1,5 @@
 -- What a session keeps of pages and calls.
 pub mod Calls
 pub mod Held
-pub mod Pages
+pub mod Loaded
+pub mod Tables

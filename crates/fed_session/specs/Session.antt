@@ -1,9 +1,9 @@
 -- What contracts see of a session, and which traces it stands for.
-use Rattle.std.specs.Prelude.{◌≡◌, ℕ, Bool, true, nat_eq, List, [], length, map, filter, Option, Some, None, option_map}
+use Rattle.std.specs.Prelude.{◌≡◌, ℕ, Bool, true, false, nat_eq, List, [], length, map, filter, Option, Some, None, option_map}
 use Rattle.std.specs.Prelude.{option_and_then, ⊤}
-use Rattle.std.specs.Option.{option_map_or, option_to_list}
-use Rattle.std.specs.List.{filter_map}
-use Rattle.std.specs.Map.{lookup}
+use Rattle.std.specs.Option.{option_to_list}
+use Rattle.std.specs.List.{filter_map, list_any}
+use Rattle.std.specs.Map.{lookup, keys_of}
 use Rattle.fed_origin.specs.declared.origin.Origin.{Origin}
 use Rattle.fed_origin.specs.declared.stage.Stage.{Stage}
 use Rattle.fed_origin.specs.declared.status.Triple.{Triple}
@@ -12,14 +12,26 @@ use Rattle.fed_jar.specs.Cookie.{StoredCookie}
 use Rattle.fed_status.specs.Login.{Logins}
 use Rattle.fed_script.specs.declared.event.Event.{Event}
 use Rattle.fed_script.specs.declared.event.Event.TheVariants.{Get, Disconnect}
-use Rattle.fed_session.specs.declared.page.Page.{Page}
 use Rattle.fed_session.specs.declared.view.View.{View}
+use Rattle.fed_table.specs.Table.{TableParts, page_calls, present_item}
 use Rattle.fed_trace.specs.Begun.{CallKind, is_get}
 use Rattle.fed_trace.specs.Call.{Known, kind_of, page_of}
-use Rattle.fed_trace.specs.Effect.{PendingCall}
+use Rattle.fed_trace.specs.Effect.{Effect, Page, PendingCall}
+use Rattle.fed_trace.specs.Keyed.{Change}
 use Rattle.fed_trace.specs.Known.{known_at}
 use Rattle.fed_trace.specs.Row.{IsRun}
-use Rattle.fed_trace.specs.Trace.{Trace, pages, pending, pending_of, staged, begun, now_at, cookies, logins, kept, flags}
+use Rattle.fed_trace.specs.Trace.{Trace, pages, pending, pending_of, staged, standing, begun, now_at, cookies, logins, kept, flags}
+
+-- the pages that stand, and the calls that were taken
+pub record TabsParts : Type 0 where
+  -- the pages that stand with their origins, in order of entering
+  pub pages : List (ℕ × Origin)
+  -- the pending get of each page that has one; their order says nothing
+  pub gets : List (ℕ × ℕ)
+  -- the numbers of all calls that were taken, in order of beginning
+  pub taken : List ℕ
+  -- the pages that were ever loaded, in order of first loading, each with its pending calls, and what is known of each pending call
+  pub table : TableParts (Option Known)
 
 pub record State : Type 0 where
   -- no step found no memory
@@ -37,22 +49,17 @@ pub record State : Type 0 where
   -- the kept permissions, and the origins whose prevent-silent flag is set
   pub kept : List Triple
   pub flags : List Origin
-  -- the pages that stand, in order of entering
-  pub pages : List (ℕ × Page)
-  -- all calls that were taken, in order of beginning, and what is kept of those that are pending
-  pub calls : List (ℕ × Option Known)
+  -- the pages that stand, and the calls that were taken
+  pub tabs : TabsParts
 
--- the pages with their origins
-abbrev pub origins_of : List (ℕ × Page) → List (ℕ × Origin)
-origins_of pages = map (λ p. (p.0, p.1.origin)) pages
+-- the page was loaded
+abbrev pub load_change : Effect → Option (Change ℕ ⊤)
+load_change (Page page origin) = Some (page, Some tt)
+load_change _ = None
 
--- the pending get of a page that is found, if it has one
-abbrev pub get_of : Option Page → Option ℕ
-get_of page = option_and_then (λ p. p.get) page
-
--- the pending calls of a page that is found, in order of beginning
-abbrev pub held_by : Option Page → List ℕ
-held_by page = option_map_or (λ p. p.calls) page []
+-- the pages that were ever loaded, in order of first loading
+abbrev pub loaded : Trace → List ℕ
+loaded T = keys_of (standing nat_eq load_change T.rows)
 
 -- the numbers of calls with their kinds, and of the gets among them
 abbrev pub numbers_in : List (ℕ × CallKind) → List ℕ
@@ -64,31 +71,21 @@ is_get_in call = is_get call.1
 abbrev pub gets_in : List (ℕ × CallKind) → List ℕ
 gets_in calls = numbers_in (filter is_get_in calls)
 
--- what a page that is found keeps of its pending calls
-pub record Holds (page : Option Page) (calls : List (ℕ × CallKind)) : Type 0 where
-  pub listed : held_by page ≡ numbers_in calls
-  -- at most one of them is a get
-  pub get : option_to_list (get_of page) ≡ gets_in calls
-
--- the numbers of calls
-abbrev pub numbers_of : List (ℕ × Option Known) → List ℕ
-numbers_of calls = map (λ c. c.0) calls
+-- what is known of a call, where it is pending
+abbrev pub item_known : List (ℕ × Option (Option Known)) → ℕ → Option Known
+item_known items call = option_and_then (λ known. known) (present_item items call)
 
 -- of a pending call its page and its kind
 abbrev pub pending_as : Known → PendingCall
 pending_as known = record { page = page_of known; kind = kind_of known }
 
--- a call, where it is pending
-abbrev pub pending_call : ℕ × Option Known → Option (ℕ × PendingCall)
-pending_call c = option_map (λ known. (c.0, pending_as known)) c.1
+-- a call, where it is pending, by what is known of it
+abbrev pub pending_call : ℕ → Option Known → Option (ℕ × PendingCall)
+pending_call call known = option_map (λ k. (call, pending_as k)) known
 
--- those of the calls that are pending
-abbrev pub pending_calls : List (ℕ × Option Known) → List (ℕ × PendingCall)
-pending_calls calls = filter_map pending_call calls
-
--- what is kept of a call, where it is pending
-abbrev pub kept_at : ℕ → List (ℕ × Option Known) → Option Known
-kept_at call calls = option_and_then (λ kept. kept) (lookup (nat_eq call) calls)
+-- those of the calls that are pending, by what is known of each
+abbrev pub pending_calls : (ℕ → Option Known) → List ℕ → List (ℕ × PendingCall)
+pending_calls known calls = filter_map (λ call. pending_call call (known call)) calls
 
 -- the session stands for what happened
 pub record Stands (s : State) (T : Trace) : Type 0 where
@@ -101,16 +98,21 @@ pub record Stands (s : State) (T : Trace) : Type 0 where
   pub login : s.login ≡ logins T
   pub kept : s.kept ≡ kept T
   pub flags : s.flags ≡ flags T
-  pub pages : origins_of s.pages ≡ pages T
-  pub held : (page : ℕ) → Holds (lookup (nat_eq page) s.pages) (pending_of T page)
-  pub taken : numbers_of s.calls ≡ begun T.rows
-  pub pending : pending_calls s.calls ≡ pending T
-  pub known : (call : ℕ) → kept_at call s.calls ≡ known_at T call
+  pub pages : s.tabs.pages ≡ pages T
+  pub loaded : keys_of s.tabs.table.pages ≡ loaded T
+  -- each page has its pending calls, and at most one of them is a get
+  pub held : (page : ℕ) → page_calls s.tabs.table.pages page ≡ numbers_in (pending_of T page)
+  pub gets : (page : ℕ) → option_to_list (lookup (nat_eq page) s.tabs.gets) ≡ gets_in (pending_of T page)
+  -- no call waits for a provider
+  pub waits : s.tabs.table.waits ≡ []
+  pub taken : s.tabs.taken ≡ begun T.rows
+  pub pending : pending_calls (item_known s.tabs.table.items) s.tabs.taken ≡ pending T
+  pub known : (call : ℕ) → item_known s.tabs.table.items call ≡ known_at T call
 
 -- no earlier event of the session took the call
 abbrev pub IsFresh : State → Event → Type 0
-IsFresh s (Get page call options) = lookup (nat_eq call) s.calls ≡ None
-IsFresh s (Disconnect page call config client hint) = lookup (nat_eq call) s.calls ≡ None
+IsFresh s (Get page call options) = list_any (nat_eq call) s.tabs.taken ≡ false
+IsFresh s (Disconnect page call config client hint) = list_any (nat_eq call) s.tabs.taken ≡ false
 IsFresh s _ = ⊤
 
 -- a call with its page and its stage, which it has

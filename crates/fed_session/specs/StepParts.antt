@@ -1,11 +1,7 @@
 -- What the private clauses of a step speak of: what each part of a session is after an event.
-use Rattle.std.specs.Prelude.{ℕ, ◌+◌, Bool, true, false, not, nat_eq, List, [], ◌∷◌, ◌++◌, filter, Option, Some, None}
-use Rattle.std.specs.Prelude.{is_some, option_map}
-use Rattle.std.specs.Prelude.{option_and_then, if◌then◌else◌, ⊤}
-use Rattle.std.specs.Option.{option_map_or}
+use Rattle.std.specs.Prelude.{ℕ, ◌+◌, Bool, true, false, nat_eq, List, [], ◌∷◌, Option, Some, None, option_map}
+use Rattle.std.specs.Prelude.{if◌then◌else◌, ⊤}
 use Rattle.std.specs.List.{filter_map, AllByRecursion}
-use Rattle.std.specs.Map.{lookup, set_value}
-use Rattle.indexmap.specs.IndexMap.{insert_entry}
 use Rattle.fed_origin.specs.declared.origin.Origin.{Origin}
 use Rattle.fed_origin.specs.declared.stage.Stage.{Stage}
 use Rattle.fed_origin.specs.declared.stage.Stage.TheVariants.{Ended}
@@ -24,22 +20,20 @@ use Rattle.fed_consent.specs.Outcomes.{Outcome, ignored}
 use Rattle.fed_status.specs.Flags.{with_flag, without_flag}
 use Rattle.fed_status.specs.Kept.{with_triple, without_triple, without_pair}
 use Rattle.fed_origin.specs.declared.status.Triple.{Triple}
-use Rattle.fed_trace.specs.Begun.{CallKind, GetCall, DisconnectCall, CallOptions, Begun}
+use Rattle.fed_trace.specs.Begun.{GetCall, CallOptions, Begun}
 use Rattle.fed_call.specs.State.{facts_of}
 use Rattle.fed_disconnect.specs.State.{disconnect_facts_of}
 use Rattle.fed_session.specs.declared.calls.Pending.{Pending}
 use Rattle.fed_session.specs.declared.calls.Pending.TheVariants.{Get, Disconnect}
-use Rattle.fed_trace.specs.Call.{Known, OfGet, OfDisconnect, kind_of, page_of, stage_of, first_row, started, input_row, known_after}
+use Rattle.fed_trace.specs.Call.{Known, OfGet, OfDisconnect, page_of, stage_of, first_row, started, input_row, known_after}
 use Rattle.fed_script.specs.declared.event.Have.{Have}
 use Rattle.fed_script.specs.declared.event.Have.TheVariants as haves
 use Rattle.fed_script.specs.Used.{IsKnown}
 use Rattle.fed_trace.specs.declared.out.Out.{Out}
-use Rattle.fed_session.specs.declared.page.Page.{Page}
 use Rattle.fed_session.specs.declared.sight.Sight.{Sight}
-use Rattle.fed_trace.specs.Effect.{Effect, Sent, Shown, Window, Result, Ignored}
+use Rattle.fed_trace.specs.Effect.{Sent, Shown, Window, Result, Ignored}
 use Rattle.fed_trace.specs.Records.{record_of, records_of}
-use Rattle.fed_trace.specs.Row.{begin_effects, input_effects, page_says}
-use Rattle.fed_session.specs.Session.{State, get_of, held_by, kept_at}
+use Rattle.fed_session.specs.Session.{State}
 
 -- the session as it was before a step began, and as it is after the step is counted
 abbrev pub revived : State → State
@@ -123,11 +117,6 @@ call_record line cookies call page _ = None
 abbrev pub call_records : ℕ → (Ask → List ℕ) → ℕ → ℕ → List CallEffect → List Out
 call_records line cookies call page effects = filter_map (call_record line cookies call page) effects
 
--- the effects of a call that begins, by what is kept of its page
-abbrev pub begin_at : World → (Ask → List ℕ) → Option Page → ℕ → ℕ → CallOptions → List Effect
-begin_at world cookies found page call options =
-    begin_effects world cookies (option_map (λ p. p.origin) found) (is_some (get_of found)) page call options
-
 -- what is kept of a call that is taken, by whether its page has a pending get
 abbrev pub begun_as : World → Bool → Begun → Option Known
 begun_as world busy b = started b (first_row world busy b.origin b.options)
@@ -137,57 +126,17 @@ abbrev pub standing_kept : World → Bool → Bool → Begun → Option (Option 
 standing_kept world false busy b = None
 standing_kept world true busy b = Some (begun_as world busy b)
 
-abbrev pub begin_kept : World → Option Page → ℕ → ℕ → CallOptions → Option (Option Known)
-begin_kept world None page call options = None
-begin_kept world (Some p) page call options =
-    standing_kept world (is_trustworthy p.origin) (is_some p.get) (record
-    { call = call; page = page; origin = p.origin; options = options })
-
--- the calls after one more
-abbrev pub with_new : ℕ → Option (Option Known) → List (ℕ × Option Known) → List (ℕ × Option Known)
-with_new call None calls = calls
-with_new call (Some kept) calls = insert_entry nat_eq calls call kept
-
--- the page's pending get, after a call of this kind
-abbrev pub get_with : CallKind → ℕ → Option ℕ → Option ℕ
-get_with GetCall call get = Some call
-get_with DisconnectCall call get = get
-
--- the page with one pending call more
-abbrev pub page_with : CallKind → ℕ → Page → Page
-page_with kind call p = record p { calls = p.calls ++ call ∷ []; get = get_with kind call p.get }
-
--- the pages with this call as one more of its page
-abbrev pub with_call : CallKind → ℕ → ℕ → List (ℕ × Page) → List (ℕ × Page)
-with_call kind page call pages =
-    option_map_or (λ p. set_value (nat_eq page) pages (page_with kind call p)) (lookup (nat_eq page) pages) pages
-
--- the pages after a call began
-abbrev pub holding : ℕ → ℕ → Option (Option Known) → List (ℕ × Page) → List (ℕ × Page)
-holding page call (Some (Some known)) pages = with_call (kind_of known) page call pages
-holding page call (Some None) pages = pages
-holding page call None pages = pages
+abbrev pub begin_kept : World → Option Origin → Bool → ℕ → ℕ → CallOptions → Option (Option Known)
+begin_kept world None busy page call options = None
+begin_kept world (Some origin) busy page call options =
+    standing_kept world (is_trustworthy origin) busy (record { call = call; page = page; origin = origin; options = options })
 
 -- the page's pending get, unless it is this call
 abbrev pub get_but : ℕ → Option ℕ → Option ℕ
 get_but call None = None
 get_but call (Some get) = if nat_eq call get then None else Some get
 
--- the page without this one among its pending calls
-abbrev pub page_without : ℕ → Page → Page
-page_without call p = record p { calls = filter (λ c. not (nat_eq call c)) p.calls; get = get_but call p.get }
-
--- the pages with this call no longer among those of its page
-abbrev pub without_call : ℕ → ℕ → List (ℕ × Page) → List (ℕ × Page)
-without_call page call pages =
-    option_map_or (λ p. set_value (nat_eq page) pages (page_without call p)) (lookup (nat_eq page) pages) pages
-
--- the kind of a call in this state
-abbrev pub kind_in : Pending → CallKind
-kind_in (Get state) = GetCall
-kind_in (Disconnect state) = DisconnectCall
-
--- what is known of it
+-- what is known of a call in this state
 abbrev pub known_of : Pending → Option Known
 known_of (Get state) = option_map OfGet (facts_of state.value)
 known_of (Disconnect state) = option_map OfDisconnect (disconnect_facts_of state.value)
@@ -197,14 +146,10 @@ abbrev pub stage_in : Option Known → Stage
 stage_in None = Ended
 stage_in (Some known) = stage_of known
 
--- the records of a page that closes, by what is kept of it
-abbrev pub close_records : ℕ → Option Page → List Out
+-- the records of a page that closes, by its origin, if it stands
+abbrev pub close_records : ℕ → Option Origin → List Out
 close_records line None = records_of line (Ignored NoPage ∷ [])
-close_records line (Some p) = []
-
--- the effects of what a page says of its origin, by what is kept of it
-abbrev pub says_at : Option Page → (Origin → Effect) → List Effect
-says_at found says = page_says (option_map (λ p. p.origin) found) says
+close_records line (Some origin) = []
 
 -- the flags after a page of this origin set its own, by whether it is trustworthy
 abbrev pub standing_flags : Bool → Origin → List Origin → List Origin
@@ -216,55 +161,16 @@ abbrev pub flags_set : Option Origin → List Origin → List Origin
 flags_set None flags = flags
 flags_set (Some origin) flags = standing_flags (is_trustworthy origin) origin flags
 
--- the calls after this one, if it was taken, is kept so
-abbrev pub with_kept : ℕ → Option Known → List (ℕ × Option Known) → List (ℕ × Option Known)
-with_kept call kept calls = option_map_or (λ old. set_value (nat_eq call) calls kept) (lookup (nat_eq call) calls) calls
-
--- the calls after this one, if it was taken, has ended
-abbrev pub with_ended : ℕ → List (ℕ × Option Known) → List (ℕ × Option Known)
-with_ended call calls = with_kept call None calls
-
--- the calls after these have ended, one after the other
-abbrev pub with_all_ended : List ℕ → List (ℕ × Option Known) → List (ℕ × Option Known)
-with_all_ended [] calls = calls
-with_all_ended (call ∷ more) calls = with_all_ended more (with_ended call calls)
-
--- the calls after the pending ones of a page have ended
-abbrev pub without_held : Option Page → List (ℕ × Option Known) → List (ℕ × Option Known)
-without_held page calls = with_all_ended (held_by page) calls
-
--- the effects of an input, by what is kept of its call
-abbrev pub input_at : World → (Ask → List ℕ) → Option (Option Known) → ℕ → Input → List Effect
-input_at world cookies found call input =
-    input_effects world cookies (is_some found) call (option_and_then (λ kept. kept) found) input
-
 -- what is kept of a call after an input
 abbrev pub kept_next : World → Option Known → Input → Option Known
 kept_next world None input = None
 kept_next world (Some known) input = known_after world known input (input_row world known input)
 
--- what an input does, by what is kept of its call
-abbrev pub outcome_at : World → Option (Option Known) → Input → Outcome
-outcome_at world None input = ignored NoCall
-outcome_at world (Some None) input = ignored CallEnded
-outcome_at world (Some (Some known)) input = input_row world known input
-
--- the calls after an input of one of them
-abbrev pub input_kept : World → ℕ → Input → List (ℕ × Option Known) → List (ℕ × Option Known)
-input_kept world call input calls = with_kept call (kept_next world (kept_at call calls) input) calls
-
--- the pages after an input of a call: where it ended, its page has it no longer
-abbrev pub freed_at : ℕ → ℕ → Option Known → List (ℕ × Page) → List (ℕ × Page)
-freed_at page call None pages = without_call page call pages
-freed_at page call (Some after) pages = pages
-
-abbrev pub freed : ℕ → Option Known → Option Known → List (ℕ × Page) → List (ℕ × Page)
-freed call (Some known) after pages = freed_at (page_of known) call after pages
-freed call None after pages = pages
-
-abbrev pub freed_by : World → ℕ → Option (Option Known) → Input → List (ℕ × Page) → List (ℕ × Page)
-freed_by world call found input pages =
-    freed call (option_and_then (λ kept. kept) found) (kept_next world (option_and_then (λ kept. kept) found) input) pages
+-- what an input does, by whether its call was taken and by what is known of it where it is pending
+abbrev pub outcome_at : World → Bool → Option Known → Input → Outcome
+outcome_at world false known input = ignored NoCall
+outcome_at world true None input = ignored CallEnded
+outcome_at world true (Some known) input = input_row world known input
 
 -- statuses that Set-Login values say
 abbrev pub logins_in : List (List ℕ) → List LoginStatus
@@ -290,6 +196,10 @@ abbrev pub have_flags : Have → List Origin → List Origin
 have_flags (haves.Silent origin) flags = with_flag flags origin
 have_flags _ flags = flags
 
--- a call by what is kept of it, where it is pending
-abbrev pub shown_call : ℕ × Option Known → Option (ℕ × ℕ × Stage)
-shown_call c = option_map (λ known. (c.0, page_of known, stage_of known)) c.1
+-- a call with its page and its stage, where it is pending, by what is known of it
+abbrev pub shown_call : ℕ → Option Known → Option (ℕ × ℕ × Stage)
+shown_call call known = option_map (λ k. (call, page_of k, stage_of k)) known
+
+-- those of the calls that are pending, by what is known of each
+abbrev pub shown_calls : (ℕ → Option Known) → List ℕ → List (ℕ × ℕ × Stage)
+shown_calls known calls = filter_map (λ call. shown_call call (known call)) calls

@@ -1,7 +1,6 @@
 //! What a call does: statuses, permissions and flags that it sets, and records.
-ghost use Rattle.std.specs.Prelude.{◌≡◌, ◌++◌, [], ◌∷◌, IfOk, OnOk, Some};
+ghost use Rattle.std.specs.Prelude.{◌≡◌, [], ◌∷◌, IfOk, OnOk, Some};
 ghost use Rattle.std.specs.Option.{option_to_list};
-ghost use Rattle.std.specs.List.{filter_map};
 ghost use Rattle.fed_trace.specs.Begun.{GetCall};
 ghost use Rattle.fed_trace.specs.Effect.{Sent, Ignored};
 ghost use Rattle.fed_trace.specs.Records.{records_of, record_of};

@@ -1,11 +1,11 @@
-//! The calls that were taken.
-ghost use Rattle.std.specs.Prelude.{◌≡◌, nat_eq, IfOk, Some, None, option_map, option_and_then};
-ghost use Rattle.std.specs.Map.{lookup};
+//! What is kept of calls.
+ghost use Rattle.std.specs.Prelude.{◌≡◌, true, IfOk, Some, None, option_map, option_and_then};
 ghost use Rattle.fed_call.specs.State.{facts_of};
 ghost use Rattle.fed_disconnect.specs.State.{disconnect_facts_of};
 ghost use Rattle.fed_status.specs.Shared.{world_of};
-ghost use Rattle.fed_trace.specs.Call.{OfGet, OfDisconnect, page_of};
-ghost use Rattle.fed_session.specs.StepParts.{known_of, stage_in, outcome_at, kept_next, with_ended, with_kept};
+ghost use Rattle.fed_trace.specs.Begun.{is_get};
+ghost use Rattle.fed_trace.specs.Call.{Known, OfGet, OfDisconnect, kind_of, page_of};
+ghost use Rattle.fed_session.specs.StepParts.{known_of, stage_in, outcome_at, kept_next};
 
 use fed_call::CallState;
 use fed_consent::{Effect, Input};
@@ -13,10 +13,8 @@ use fed_disconnect::DState;
 use fed_io::{Items, NoRoom};
 use fed_origin::Stage;
 use fed_status::Shared;
-use indexmap::IndexMap;
 use std::alloc::Global;
 use std::marker::Model;
-use std::mem;
 
 /// The state of a call that is pending, by its kind, in a place of its own.
 #[derive(Drop)]
@@ -49,7 +47,7 @@ impl Pending {
         input: &Input,
         shared: &Shared<'_>,
     ) -> Result<(Kept, Items<Effect>), NoRoom>
-        ensures effects { IfOk result (λ r. r.1 ≡ (outcome_at (world_of shared.now) (Some (known_of self)) input.now).effects) }
+        ensures effects { IfOk result (λ r. r.1 ≡ (outcome_at (world_of shared.now) true (known_of self) input.now).effects) }
         ensures kept { IfOk result (λ r. r.0 ≡ kept_next (world_of shared.now) (known_of self) input.now) }
     {
         match self {
@@ -127,40 +125,20 @@ impl Kept {
         }
     }
 
+    /// Whether the call, which is pending, is a get. It takes no memory.
+    pub(crate) fn is_get(&self) -> bool
+        ensures { (known : Known) → self.now ≡ Some known → result ≡ is_get (kind_of known) }
+    {
+        match &self.state {
+            Some(Pending::Get(_)) => true,
+            Some(Pending::Disconnect(_)) | None => false,
+        }
+    }
+
     /// What is kept of a call that is over.
     pub(crate) fn over() -> Kept
         ensures { result ≡ None }
     {
         Kept { state: None }
-    }
-}
-
-/// Each call that was taken, in order of beginning.
-pub(crate) type Calls = IndexMap<u32, Kept>;
-
-/// The call is over.
-pub(crate) fn end(calls: &mut Calls, call: u32)
-    ensures { calls.new.entries ≡ with_ended call calls.old.entries }
-{
-    give_back(calls, call, Kept::over());
-}
-
-/// What is kept of a call that was taken, which leaves its place as that of a call that is over.
-pub(crate) fn lend(calls: &mut Calls, call: u32) -> Option<Kept>
-    ensures state { result ≡ lookup (nat_eq call) calls.old.entries }
-    ensures calls { calls.new.entries ≡ with_ended call calls.old.entries }
-{
-    match calls.get_mut(&call) {
-        Some(kept) => Some(mem::replace(kept, Kept::over())),
-        None => None,
-    }
-}
-
-/// What is kept of a call that was taken goes to its place.
-pub(crate) fn give_back(calls: &mut Calls, call: u32, kept: Kept)
-    ensures { calls.new.entries ≡ with_kept call kept calls.old.entries }
-{
-    if let Some(place) = calls.get_mut(&call) {
-        *place = kept;
     }
 }

@@ -1,52 +1,55 @@
 //! Calls of `IdentityCredential.disconnect`.
-ghost use Rattle.std.specs.Prelude.{◌≡◌, nat_eq, false, IfOk, OnOk};
+ghost use Rattle.std.specs.Prelude.{◌≡◌, nat_eq, is_some, false, IfOk, OnOk};
+ghost use Rattle.std.specs.List.{list_any};
 ghost use Rattle.std.specs.Map.{lookup};
 ghost use Rattle.fed_disconnect.specs.Facts.{disconnect_options};
 ghost use Rattle.fed_status.specs.Shared.{world_of};
 ghost use Rattle.fed_trace.specs.Begun.{ToDisconnect};
 ghost use Rattle.fed_trace.specs.Call.{first_row};
+ghost use Rattle.fed_trace.specs.Row.{begin_effects};
 ghost use Rattle.fed_trace.specs.Records.{records_of};
-ghost use Rattle.fed_session.specs.StepParts.{cookies_of, world_in, begin_at, begin_kept, with_new, holding, begun_as};
+ghost use Rattle.fed_session.specs.StepParts.{cookies_of, world_in, begin_kept, begun_as};
+ghost use Rattle.fed_session.specs.Tabs.{BeginsIf};
 
 use crate::apply::{answered, ignored};
-use crate::calls::{Calls, Kept};
-use crate::page::{Page, hold};
+use crate::calls::Kept;
 use crate::sight::Sight;
+use crate::tabs::Tabs;
 use fed_consent::{Effect, Why};
 use fed_disconnect::DState;
-use fed_io::{Items, NoRoom, Text};
+use fed_io::{Items, NoRoom, Steps, Text};
 use fed_origin::{Origin, WebUrl};
 use fed_status::Shared;
 use fed_trace::Out;
-use indexmap::IndexMap;
 use std::alloc::Global;
+use std::sync::ledger::Ledger;
 
-/// A disconnect call, which sets nothing: its records, and the pages and the calls after it.
-pub(crate) fn disconnect(
+/// A disconnect call, which sets nothing: its records, and the pages and calls after it.
+pub(crate) fn disconnect<L: Ledger>(
     alloc: Global,
     line: u32,
     sight: &Sight,
-    pages: &mut IndexMap<u32, Page>,
-    calls: &mut Calls,
+    tabs: &mut Tabs,
     page: u32,
     call: u32,
     config: &WebUrl,
     client: &Text,
     hint: &Text,
+    steps: &mut Steps<L>,
 ) -> Result<Items<Out>, NoRoom>
-    ensures outs { IfOk result (λ outs. outs ≡ records_of line (begin_at (world_in sight.now) (cookies_of sight.now)
-        (lookup (nat_eq page) pages.old.entries) page call (ToDisconnect (disconnect_options config.now client.now hint.now)))) }
-    ensures pages { OnOk result (pages.new.entries
-        ≡ holding page call (begin_kept (world_in sight.now) (lookup (nat_eq page) pages.old.entries) page
-        call (ToDisconnect (disconnect_options config.now client.now hint.now))) pages.old.entries) }
-    ensures calls { OnOk result (calls.new.entries
-        ≡ with_new call (begin_kept (world_in sight.now) (lookup (nat_eq page) pages.old.entries) page call
-        (ToDisconnect (disconnect_options config.now client.now hint.now))) calls.old.entries) }
+    requires { list_any (nat_eq call) tabs.old.taken ≡ false }
+    ensures outs { IfOk result (λ outs. outs ≡ records_of line (begin_effects (world_in sight.now) (cookies_of sight.now)
+        (lookup (nat_eq page) tabs.old.pages) (is_some (lookup (nat_eq page) tabs.old.gets)) page call
+        (ToDisconnect (disconnect_options config.now client.now hint.now)))) }
+    ensures tabs { OnOk result (BeginsIf page call (begin_kept (world_in sight.now) (lookup (nat_eq page) tabs.old.pages)
+        (is_some (lookup (nat_eq page) tabs.old.gets)) page call
+        (ToDisconnect (disconnect_options config.now client.now hint.now))) tabs.old tabs.new) }
+    ensures unticked { steps.new ≡ steps.old }
 {
-    let Some(found) = pages.get(&page) else {
+    let Some(origin) = tabs.origin(page) else {
         return ignored(alloc, line, Why::NoPage);
     };
-    if !found.origin.is_trustworthy() {
+    if !origin.is_trustworthy() {
         return ignored(alloc, line, Why::PageInsecure);
     }
     let (kept, effects) = begin(
@@ -54,13 +57,12 @@ pub(crate) fn disconnect(
         &sight.lent(),
         page,
         call,
-        &found.origin,
+        origin,
         config,
         client,
         hint,
     )?;
-    hold(pages, page, call, &kept)?;
-    calls.insert(call, kept)?;
+    tabs.begin(page, call, kept, steps)?;
     let outs = answered(alloc, line, sight, call, page, effects)?;
     Ok(outs)
 }

@@ -1,5 +1,6 @@
 //! Calls of `navigator.credentials.get`.
-ghost use Rattle.std.specs.Prelude.{◌≡◌, length, nat_eq, IfOk, OnOk};
+ghost use Rattle.std.specs.Prelude.{◌≡◌, length, nat_eq, is_some, false, IfOk, OnOk};
+ghost use Rattle.std.specs.List.{list_any};
 ghost use Rattle.std.specs.Map.{lookup};
 ghost use Rattle.fed_consent.specs.Outcomes.{fails};
 ghost use Rattle.fed_consent.specs.Failures.{plain};
@@ -7,59 +8,58 @@ ghost use Rattle.fed_status.specs.Shared.{world_of};
 ghost use Rattle.fed_trace.specs.Records.{records_of};
 ghost use Rattle.fed_trace.specs.Begun.{ToGet};
 ghost use Rattle.fed_trace.specs.Call.{first_row};
-ghost use Rattle.fed_session.specs.StepParts.{cookies_of, world_in, begin_at, begin_kept, with_new, holding, begun_as};
+ghost use Rattle.fed_trace.specs.Row.{begin_effects};
+ghost use Rattle.fed_session.specs.StepParts.{cookies_of, world_in, begin_kept, begun_as};
+ghost use Rattle.fed_session.specs.Tabs.{BeginsIf};
 
 use crate::apply::{answered, ignored};
-use crate::calls::{Calls, Kept};
-use crate::page::{Page, hold};
+use crate::calls::Kept;
 use crate::sight::Sight;
+use crate::tabs::Tabs;
 use fed_call::CallState;
 use fed_consent::{Effect, FailStep, Failure, Finish, Why};
-use fed_io::{Items, NoRoom};
+use fed_io::{Items, NoRoom, Steps};
 use fed_origin::{GetOptions, Origin};
 use fed_status::Shared;
 use fed_trace::Out;
-use indexmap::IndexMap;
 use std::alloc::Global;
+use std::sync::ledger::Ledger;
 
-/// A get, which sets no status: its records, and the pages and the calls after it.
-pub(crate) fn get(
+/// A get, which sets no status: its records, and the pages and calls after it.
+pub(crate) fn get<L: Ledger>(
     alloc: Global,
     line: u32,
     sight: &Sight,
-    pages: &mut IndexMap<u32, Page>,
-    calls: &mut Calls,
+    tabs: &mut Tabs,
     page: u32,
     call: u32,
     options: &GetOptions,
+    steps: &mut Steps<L>,
 ) -> Result<Items<Out>, NoRoom>
-    requires { length options.now.providers ≡ 1 }
-    ensures outs { IfOk result (λ outs. outs ≡ records_of line (begin_at (world_in sight.now) (cookies_of sight.now)
-        (lookup (nat_eq page) pages.old.entries) page call (ToGet options.now))) }
-    ensures pages { OnOk result (pages.new.entries
-        ≡ holding page call (begin_kept (world_in sight.now) (lookup (nat_eq page) pages.old.entries) page
-        call (ToGet options.now)) pages.old.entries) }
-    ensures calls { OnOk result (calls.new.entries
-        ≡ with_new call (begin_kept (world_in sight.now) (lookup (nat_eq page) pages.old.entries) page call
-        (ToGet options.now)) calls.old.entries) }
+    requires one { length options.now.providers ≡ 1 }
+    requires fresh { list_any (nat_eq call) tabs.old.taken ≡ false }
+    ensures outs { IfOk result (λ outs. outs ≡ records_of line (begin_effects (world_in sight.now) (cookies_of sight.now)
+        (lookup (nat_eq page) tabs.old.pages) (is_some (lookup (nat_eq page) tabs.old.gets)) page call (ToGet options.now))) }
+    ensures tabs { OnOk result (BeginsIf page call (begin_kept (world_in sight.now) (lookup (nat_eq page) tabs.old.pages)
+        (is_some (lookup (nat_eq page) tabs.old.gets)) page call (ToGet options.now)) tabs.old tabs.new) }
+    ensures unticked { steps.new ≡ steps.old }
 {
-    let Some(found) = pages.get(&page) else {
+    let Some(origin) = tabs.origin(page) else {
         return ignored(alloc, line, Why::NoPage);
     };
-    if !found.origin.is_trustworthy() {
+    if !origin.is_trustworthy() {
         return ignored(alloc, line, Why::PageInsecure);
     }
     let (kept, effects) = begin(
         alloc,
         &sight.lent(),
-        found.get.is_some(),
+        tabs.is_busy(page),
         page,
         call,
-        &found.origin,
+        origin,
         options,
     )?;
-    hold(pages, page, call, &kept)?;
-    calls.insert(call, kept)?;
+    tabs.begin(page, call, kept, steps)?;
     let outs = answered(alloc, line, sight, call, page, effects)?;
     Ok(outs)
 }

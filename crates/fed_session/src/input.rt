@@ -1,42 +1,44 @@
 //! Events that name a call.
-ghost use Rattle.std.specs.Prelude.{◌≡◌, nat_eq, IfOk, OnOk};
-ghost use Rattle.std.specs.Map.{lookup};
+ghost use Rattle.std.specs.Prelude.{◌≡◌, nat_eq, if◌then◌else◌, IfOk, OnOk};
+ghost use Rattle.std.specs.List.{list_any};
+ghost use Rattle.fed_consent.specs.declared.table.why.Why.TheVariants.{NoCall, CallEnded};
 ghost use Rattle.fed_trace.specs.Known as spec;
 ghost use Rattle.fed_trace.specs.Records.{records_of};
-ghost use Rattle.fed_session.specs.StepParts.{cookies_of, world_in, sight_after, outcome_at, input_at, input_kept, freed_by};
+ghost use Rattle.fed_trace.specs.Row.{input_effects};
+ghost use Rattle.fed_session.specs.Session.{item_known};
+ghost use Rattle.fed_session.specs.StepParts.{cookies_of, world_in, sight_after, outcome_at, kept_next};
+ghost use Rattle.fed_session.specs.Tabs.{Takes};
 
 use crate::apply::{apply, ignored};
-use crate::calls::{Calls, give_back, lend};
-use crate::page::{Page, free};
 use crate::sight::Sight;
+use crate::tabs::Tabs;
 use fed_consent::{Input, Why};
-use fed_io::{Items, NoRoom};
+use fed_io::{Items, NoRoom, Steps};
 use fed_script::Event;
 use fed_trace::Out;
-use indexmap::IndexMap;
 use std::alloc::Global;
+use std::sync::ledger::Ledger;
 
 /// An input of a call: its records, and what all calls look at, the pages and the calls after it.
-pub(crate) fn take_input(
+pub(crate) fn take_input<L: Ledger>(
     alloc: Global,
     line: u32,
     sight: &mut Sight,
-    pages: &mut IndexMap<u32, Page>,
-    calls: &mut Calls,
+    tabs: &mut Tabs,
     call: u32,
     input: &Input,
+    steps: &mut Steps<L>,
 ) -> Result<Items<Out>, NoRoom>
-    ensures outs { IfOk result (λ outs. outs ≡ records_of line (input_at (world_in sight.old) (cookies_of sight.old)
-        (lookup (nat_eq call) calls.old.entries) call input.now)) }
-    ensures sight { OnOk result (sight.new ≡ sight_after (outcome_at (world_in sight.old) (lookup (nat_eq call) calls.old.entries)
-        input.now).effects
-        sight.old) }
-    ensures pages { OnOk result (pages.new.entries ≡ freed_by (world_in sight.old) call (lookup (nat_eq call)
-        calls.old.entries) input.now pages.old.entries) }
-    ensures calls { OnOk result (calls.new.entries ≡ input_kept (world_in sight.old) call input.now calls.old.entries) }
+    ensures outs { IfOk result (λ outs. outs ≡ records_of line (input_effects (world_in sight.old) (cookies_of sight.old)
+        (list_any (nat_eq call) tabs.old.taken) call (item_known tabs.old.table.items call) input.now)) }
+    ensures sight { OnOk result (sight.new ≡ sight_after (outcome_at (world_in sight.old) (list_any (nat_eq call) tabs.old.taken)
+        (item_known tabs.old.table.items call) input.now).effects sight.old) }
+    ensures tabs { OnOk result (Takes call (item_known tabs.old.table.items call)
+        (kept_next (world_in sight.old) (item_known tabs.old.table.items call) input.now) tabs.old tabs.new) }
+    ensures unticked { steps.new ≡ steps.old }
 {
-    let Some(kept) = lend(calls, call) else {
-        return ignored(alloc, line, Why::NoCall);
+    let Some(kept) = tabs.lend(call) else {
+        return ignored(alloc, line, unpending(tabs, call));
     };
     let Some(state) = kept.into_state() else {
         return ignored(alloc, line, Why::CallEnded);
@@ -46,10 +48,20 @@ pub(crate) fn take_input(
     let Some(page) = page else {
         return ignored(alloc, line, Why::CallEnded);
     };
-    free(alloc, pages, page, call, &kept);
-    give_back(calls, call, kept);
+    tabs.give_back(page, call, kept, steps);
     let outs = apply(alloc, line, sight, call, page, effects)?;
     Ok(outs)
+}
+
+// Why a call that is not pending takes no input: it is over, or never was.
+fn unpending(tabs: &Tabs, call: u32) -> Why
+    ensures { result ≡ if list_any (nat_eq call) tabs.now.taken then CallEnded else NoCall }
+{
+    if tabs.was_taken(call) {
+        Why::CallEnded
+    } else {
+        Why::NoCall
+    }
 }
 
 /// The call that an event names, and the input that it brings to it, if it brings one.

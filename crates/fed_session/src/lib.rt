@@ -10,9 +10,9 @@ mod load;
 mod page;
 mod session;
 mod sight;
+mod tabs;
 mod view;
 
 pub use fed_trace::Out;
-pub use page::Page;
 pub use session::Session;
 pub use view::View;

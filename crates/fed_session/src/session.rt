@@ -1,6 +1,6 @@
 //! One event at a time.
-ghost use Rattle.std.specs.Prelude.{◌≡◌, ◌<◌, ℕ, nat_eq, [], None, length, is_some, true, false, IfOk, OnErr, IsErr};
-ghost use Rattle.std.specs.Map.{lookup};
+ghost use Rattle.std.specs.Prelude.{◌≡◌, ◌<◌, ℕ, nat_eq, [], length, is_some, true, false, IfOk, OnErr, IsErr};
+ghost use Rattle.std.specs.List.{list_any};
 ghost use Rattle.fed_script.specs.declared.event.Event.TheVariants as events;
 ghost use Rattle.fed_script.specs.Used.{HasOneProvider, HasKnownStatus, SaysKnown};
 ghost use Rattle.fed_trace.specs.Known.{input_of};
@@ -10,19 +10,18 @@ ghost use Rattle.fed_session.specs.Session.{Stands, Shows, IsFresh};
 ghost use Rattle.fed_session.specs.StepParts.{revived, stepped};
 ghost use Rattle.fed_trace.specs.Trace.{Trace};
 
-use crate::calls::Calls;
 use crate::disconnect::disconnect;
 use crate::get::get;
 use crate::input::{input_of, take_input};
 use crate::load::{take_have, take_head};
-use crate::page::{Page, close, load, prevent, set_page_status};
+use crate::page::{close, prevent, set_page_status};
 use crate::sight::Sight;
-use crate::view::{View, shown_calls, shown_flags, shown_logins, shown_pages};
+use crate::tabs::Tabs;
+use crate::view::{View, shown_flags, shown_logins};
 use fed_io::{Bytes, Items, NoRoom, Steps, Text};
-use fed_origin::{GetOptions, WebUrl};
+use fed_origin::{GetOptions, Origin, WebUrl};
 use fed_script::{Event, Have, Header};
 use fed_trace::Out;
-use indexmap::IndexMap;
 use std::alloc::Global;
 use std::marker::Model;
 use std::sync::ledger::Ledger;
@@ -34,8 +33,7 @@ pub struct Session {
     alive: bool,
     steps: u32,
     sight: Sight,
-    pages: IndexMap<u32, Page>,
-    calls: Calls,
+    tabs: Tabs,
 }
 
 impl Model for Session {
@@ -58,8 +56,7 @@ impl Model for Session {
           s.sight.login;
       kept = s.sight.kept;
       flags = s.sight.flags;
-      pages = s.pages.entries;
-      calls = s.calls.entries;
+      tabs = s.tabs;
     } };
 }
 
@@ -71,8 +68,7 @@ impl Drop for Session {
             alive: _,
             steps: _,
             sight: _,
-            pages: _,
-            calls: _,
+            tabs: _,
         } = self;
     }
 }
@@ -87,8 +83,7 @@ impl Session {
             alive: true,
             steps: 0,
             sight: Sight::new(alloc, header),
-            pages: IndexMap::new(alloc),
-            calls: IndexMap::new(alloc),
+            tabs: Tabs::new(alloc),
         })
     }
 
@@ -114,14 +109,19 @@ impl Session {
             return Err(NoRoom);
         }
         self.alive = false;
-        let outs = self.take(line, event)?;
+        let outs = self.take(line, event, steps)?;
         self.steps += 1;
         self.alive = true;
         Ok(outs)
     }
 
     // Takes one event, but for the count of steps.
-    fn take(&mut self, line: u32, event: &Event) -> Result<Items<Out>, NoRoom>
+    fn take<L: Ledger>(
+        &mut self,
+        line: u32,
+        event: &Event,
+        steps: &mut Steps<L>,
+    ) -> Result<Items<Out>, NoRoom>
         requires fresh { IsFresh self.old event.now }
         requires providers { HasOneProvider event.now }
         requires status { HasKnownStatus event.now }
@@ -129,6 +129,7 @@ impl Session {
             → IfOk result (λ outs. (outs ≡ records (row_of T line event.now)) × Stands (stepped self.new) (with_event T line event.now)) }
         ensures steps { self.new.steps ≡ self.old.steps }
         ensures alive { self.new.alive ≡ self.old.alive }
+        ensures unticked { steps.new ≡ steps.old }
     {
         match event {
             Event::Have(have) => self.have(have),
@@ -136,38 +137,38 @@ impl Session {
                 self.sight.time = *time;
                 Ok(Items::new(self.alloc))
             }
-            Event::Load { page, url, raw } => self.load(*page, url, raw),
+            Event::Load { page, url, raw } => self.load(*page, url, raw, steps),
             Event::ClosePage { page } => {
-                let outs = close(self.alloc, line, &mut self.pages, &mut self.calls, *page)?;
+                let outs = close(self.alloc, line, &mut self.tabs, *page, steps)?;
                 Ok(outs)
             }
             Event::Prevent { page } => {
-                let (pages, flags) = (&self.pages, &mut self.sight.flags);
-                let outs = prevent(self.alloc, line, pages, flags, *page)?;
+                let (tabs, flags) = (&self.tabs, &mut self.sight.flags);
+                let outs = prevent(self.alloc, line, tabs, flags, *page)?;
                 Ok(outs)
             }
             Event::SetStatus { page, status } => {
-                let (pages, login) = (&self.pages, &mut self.sight.login);
-                let outs = set_page_status(self.alloc, line, pages, login, *page, *status)?;
+                let (tabs, login) = (&self.tabs, &mut self.sight.login);
+                let outs = set_page_status(self.alloc, line, tabs, login, *page, *status)?;
                 Ok(outs)
             }
             Event::Get {
                 page,
                 call,
                 options,
-            } => self.get(line, *page, *call, options),
+            } => self.get(line, *page, *call, options, steps),
             Event::Disconnect {
                 page,
                 call,
                 config,
                 client,
                 hint,
-            } => self.disconnect(line, *page, *call, config, client, hint),
+            } => self.disconnect(line, *page, *call, config, client, hint, steps),
             Event::Abort { .. }
             | Event::GoOn { .. }
             | Event::Cancel { .. }
             | Event::Choose { .. }
-            | Event::Reply { .. } => self.called(line, event),
+            | Event::Reply { .. } => self.called(line, event, steps),
         }
     }
 
@@ -185,49 +186,59 @@ impl Session {
     }
 
     // A page is loaded.
-    fn load(&mut self, page: u32, url: &WebUrl, raw: &Option<Bytes>) -> Result<Items<Out>, NoRoom>
+    fn load<L: Ledger>(
+        &mut self,
+        page: u32,
+        url: &WebUrl,
+        raw: &Option<Bytes>,
+        steps: &mut Steps<L>,
+    ) -> Result<Items<Out>, NoRoom>
         ensures row { (T : Trace) (line : ℕ) → Stands (revived self.old) T
             → IfOk result (λ outs. (outs ≡ records (row_of T line (events.Load page url.now raw.now)))
             × Stands (stepped self.new) (with_event T line (events.Load page url.now raw.now))) }
         ensures steps { self.new.steps ≡ self.old.steps }
         ensures alive { self.new.alive ≡ self.old.alive }
+        ensures unticked { steps.new ≡ steps.old }
     {
-        load(self.alloc, &mut self.pages, &mut self.calls, page, url)?;
+        let origin = Origin::of_url(self.alloc, url)?;
+        self.tabs.load(page, origin, steps)?;
         take_head(self.alloc, &mut self.sight, url, raw)?;
         Ok(Items::new(self.alloc))
     }
 
     // A page calls for a credential.
-    fn get(
+    fn get<L: Ledger>(
         &mut self,
         line: u32,
         page: u32,
         call: u32,
         options: &GetOptions,
+        steps: &mut Steps<L>,
     ) -> Result<Items<Out>, NoRoom>
-        requires fresh { lookup (nat_eq call) self.old.calls ≡ None }
+        requires fresh { list_any (nat_eq call) self.old.tabs.taken ≡ false }
         requires one { length options.now.providers ≡ 1 }
         ensures row { (T : Trace) → Stands (revived self.old) T
             → IfOk result (λ outs. (outs ≡ records (row_of T line (events.Get page call options.now)))
             × Stands (stepped self.new) (with_event T line (events.Get page call options.now))) }
         ensures steps { self.new.steps ≡ self.old.steps }
         ensures alive { self.new.alive ≡ self.old.alive }
+        ensures unticked { steps.new ≡ steps.old }
     {
         let outs = get(
             self.alloc,
             line,
             &self.sight,
-            &mut self.pages,
-            &mut self.calls,
+            &mut self.tabs,
             page,
             call,
             options,
+            steps,
         )?;
         Ok(outs)
     }
 
     // A page calls to be disconnected.
-    fn disconnect(
+    fn disconnect<L: Ledger>(
         &mut self,
         line: u32,
         page: u32,
@@ -235,36 +246,44 @@ impl Session {
         config: &WebUrl,
         client: &Text,
         hint: &Text,
+        steps: &mut Steps<L>,
     ) -> Result<Items<Out>, NoRoom>
-        requires { lookup (nat_eq call) self.old.calls ≡ None }
+        requires { list_any (nat_eq call) self.old.tabs.taken ≡ false }
         ensures row { (T : Trace) → Stands (revived self.old) T
             → IfOk result (λ outs. (outs ≡ records (row_of T line (events.Disconnect page call config.now client.now hint.now)))
             × Stands (stepped self.new) (with_event T line (events.Disconnect page call config.now client.now hint.now))) }
         ensures steps { self.new.steps ≡ self.old.steps }
         ensures alive { self.new.alive ≡ self.old.alive }
+        ensures unticked { steps.new ≡ steps.old }
     {
         let outs = disconnect(
             self.alloc,
             line,
             &self.sight,
-            &mut self.pages,
-            &mut self.calls,
+            &mut self.tabs,
             page,
             call,
             config,
             client,
             hint,
+            steps,
         )?;
         Ok(outs)
     }
 
     // An event that names a call, and brings it an input.
-    fn called(&mut self, line: u32, event: &Event) -> Result<Items<Out>, NoRoom>
+    fn called<L: Ledger>(
+        &mut self,
+        line: u32,
+        event: &Event,
+        steps: &mut Steps<L>,
+    ) -> Result<Items<Out>, NoRoom>
         requires { is_some (input_of event.now) ≡ true }
         ensures row { (T : Trace) → Stands (revived self.old) T
             → IfOk result (λ outs. (outs ≡ records (row_of T line event.now)) × Stands (stepped self.new) (with_event T line event.now)) }
         ensures steps { self.new.steps ≡ self.old.steps }
         ensures alive { self.new.alive ≡ self.old.alive }
+        ensures unticked { steps.new ≡ steps.old }
     {
         let Some((call, input)) = input_of(self.alloc, event)? else {
             unreachable!()
@@ -273,10 +292,10 @@ impl Session {
             self.alloc,
             line,
             &mut self.sight,
-            &mut self.pages,
-            &mut self.calls,
+            &mut self.tabs,
             call,
             &input,
+            steps,
         )?;
         Ok(outs)
     }
@@ -295,8 +314,8 @@ impl Session {
             kept: self.sight.kept.list(self.alloc)?,
             silent: shown_flags(self.alloc, &self.sight.flags)?,
             cookies: Items::from_vec(self.sight.jar.list(self.alloc)?),
-            pages: shown_pages(self.alloc, &self.pages)?,
-            calls: shown_calls(self.alloc, &self.calls)?,
+            pages: self.tabs.shown_pages(self.alloc)?,
+            calls: self.tabs.shown_calls(self.alloc)?,
         })
     }
 }

@@ -1,16 +1,18 @@
 //! What stands in a session.
-ghost use Rattle.std.specs.Prelude.{◌≡◌, IfOk};
-ghost use Rattle.std.specs.List.{filter_map};
-ghost use Rattle.fed_session.specs.Session.{origins_of};
-ghost use Rattle.fed_session.specs.StepParts.{shown_call};
+ghost use Rattle.std.specs.Prelude.{◌≡◌, IfOk, option_map};
+ghost use Rattle.fed_entries.specs.Entries.{entries_in};
+ghost use Rattle.fed_trace.specs.Call.{page_of, stage_of};
+ghost use Rattle.fed_session.specs.Session.{item_known};
+ghost use Rattle.fed_session.specs.StepParts as spec;
 
-use crate::calls::Calls;
-use crate::page::Page;
+use crate::calls::Kept;
+use fed_entries::Slots;
 use fed_io::{Items, NoRoom};
 use fed_jar::Cookie;
 use fed_origin::{LoginStatus, Origin, Stage, Triple};
 use fed_status::{LoginMap, SilentFlags};
-use indexmap::IndexMap;
+use fed_table::Table;
+use indexmap::IndexSet;
 use std::alloc::Global;
 
 /// What stands in a session after the events that it took. Each list is in order of first entering.
@@ -64,28 +66,42 @@ pub(crate) fn shown_flags(alloc: Global, flags: &SilentFlags) -> Result<Items<Or
 /// The pages with their origins.
 pub(crate) fn shown_pages(
     alloc: Global,
-    pages: &IndexMap<u32, Page>,
+    slots: &Slots<u32, Origin>,
 ) -> Result<Items<(u32, Origin)>, NoRoom>
-    ensures { IfOk result (λ shown. shown ≡ origins_of pages.now.entries) }
+    ensures { IfOk result (λ shown. shown ≡ entries_in slots.now.entries) }
 {
     let mut shown = Items::new(alloc);
-    for (number, page) in pages.iter() {
-        shown.push((*number, page.origin.copy(alloc)?))?;
+    for (_, slot) in slots.iter() {
+        if let Some((page, origin)) = slot {
+            shown.push((*page, origin.copy(alloc)?))?;
+        }
     }
     Ok(shown)
 }
 
 /// The calls that are pending.
-pub(crate) fn shown_calls(alloc: Global, calls: &Calls) -> Result<Items<(u32, u32, Stage)>, NoRoom>
-    ensures { IfOk result (λ shown. shown ≡ filter_map shown_call calls.now.entries) }
+pub(crate) fn shown_calls(
+    alloc: Global,
+    taken: &IndexSet<u32>,
+    table: &Table<Kept>,
+) -> Result<Items<(u32, u32, Stage)>, NoRoom>
+    ensures { IfOk result (λ shown. shown ≡ spec.shown_calls (item_known table.now.items) taken.now.keys) }
 {
     let mut shown = Items::new(alloc);
-    for (number, kept) in calls.iter() {
-        if let Some(state) = &kept.state {
-            if let Some(page) = state.page() {
-                shown.push((*number, page, state.stage()))?;
-            }
+    for call in taken.iter() {
+        if let Some((page, stage)) = stage_of(table, *call) {
+            shown.push((*call, page, stage))?;
         }
     }
     Ok(shown)
+}
+
+// The page and the stage of a call, where it is pending.
+fn stage_of(table: &Table<Kept>, call: u32) -> Option<(u32, Stage)>
+    ensures { result ≡ option_map (λ known. (page_of known, stage_of known)) (item_known table.now.items call) }
+{
+    let kept = table.get(call)?;
+    let state = kept.state.as_ref()?;
+    let page = state.page()?;
+    Some((page, state.stage()))
 }

@@ -75,7 +75,8 @@ impl KeptSet {
         ensures value { self.new ≡ without_triple self.old (triple_of page.now provider.now account.now) }
 
         // All other permissions are as they were, in their order.
-        ensures others { but_triple (triple_of page.now provider.now account.now) self.new ≡ but_triple (triple_of page.now provider.now account.now) self.old }
+        ensures others { but_triple (triple_of page.now provider.now account.now) self.new
+            ≡ but_triple (triple_of page.now provider.now account.now) self.old }
     {
         self.table.remove(page, provider, account);
     }

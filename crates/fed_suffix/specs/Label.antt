@@ -1,5 +1,6 @@
 -- The labels of names and of rules.
-use Rattle.std.specs.Prelude.{ℕ, Bool, not, ◌&&◌, ◌==◌, List, [], ◌∷◌, ◌++◌, length, reverse, nat_lt, Option, Some, None, option_map, option_and_then, if◌then◌else◌}
+use Rattle.std.specs.Prelude.{ℕ, Bool, not, ◌&&◌, ◌==◌, List, [], ◌∷◌, ◌++◌, length, reverse, nat_lt, Option, Some, None, option_map}
+use Rattle.std.specs.Prelude.{option_and_then, if◌then◌else◌}
 use Rattle.std.specs.List.{list_any, slice_split, join_with_byte}
 use Rattle.idna.specs.declared.deny_list.TheConstants.AsciiDenyList.{URL}
 use Rattle.idna.specs.Uts46.{domain_to_ascii}

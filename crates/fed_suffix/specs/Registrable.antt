@@ -1,5 +1,6 @@
 -- Registrable domains and parties, over the set of all rules that match a name.
-use Rattle.std.specs.Prelude.{ℕ, zero, suc, ◌+◌, Bool, true, false, not, ◌&&◌, ◌||◌, List, [], ◌∷◌, length, take, filter, max, codes, bytes_eq, nat_lt, Option, Some, None, option_map, unwrap_or, if◌then◌else◌}
+use Rattle.std.specs.Prelude.{ℕ, zero, suc, ◌+◌, Bool, true, false, not, ◌&&◌, ◌||◌, List, [], ◌∷◌, length, take, filter, max, codes}
+use Rattle.std.specs.Prelude.{bytes_eq, nat_lt, Option, Some, None, option_map, unwrap_or, if◌then◌else◌}
 use Rattle.std.specs.List.{list_any}
 use Rattle.std.specs.FinSet as set
 use Rattle.fed_origin.specs.declared.host.HostKind.{HostKind}

@@ -1,5 +1,6 @@
 -- The rule of a line of a suffix list (Public Suffix List, "Format").
-use Rattle.std.specs.Prelude.{ℕ, Bool, true, false, ◌||◌, ◌==◌, List, length, drop, slice_index, codes, nat_eq, nat_le, Option, Some, None, option_map, option_and_then, Result, Ok, Err, if◌then◌else◌}
+use Rattle.std.specs.Prelude.{ℕ, Bool, true, false, ◌||◌, ◌==◌, List, length, drop, slice_index, codes, nat_eq, nat_le, Option, Some, None}
+use Rattle.std.specs.Prelude.{option_map, option_and_then, Result, Ok, Err, if◌then◌else◌}
 use Rattle.std.specs.List.{starts_with, before_first}
 use Rattle.std.specs.FinSet as set
 use Rattle.fed_suffix.specs.Label.{labels_of, ascii_labels}

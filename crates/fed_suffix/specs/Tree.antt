@@ -1,5 +1,6 @@
 -- The tree of rules. Node 0 is its root, and the edge at place i leads to node i + 1.
-use Rattle.std.specs.Prelude.{◌≡◌, ℕ, ◌+◌, Bool, true, false, ◌&&◌, ◌==◌, List, [], ◌∷◌, map, reverse, position, max, nat_le, codes, bytes_eq, is_some, Option, Some, None, option_map, option_and_then, if◌then◌else◌}
+use Rattle.std.specs.Prelude.{◌≡◌, ℕ, ◌+◌, Bool, true, false, ◌&&◌, ◌==◌, List, [], ◌∷◌, map, reverse, position, max, nat_le, codes}
+use Rattle.std.specs.Prelude.{bytes_eq, is_some, Option, Some, None, option_map, option_and_then, if◌then◌else◌}
 use Rattle.std.specs.List.{list_all}
 use Rattle.std.specs.Option.{option_map_or}
 use Rattle.std.specs.Map.{lookup}

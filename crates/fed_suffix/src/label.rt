@@ -2,7 +2,8 @@
 ghost use Rattle.std.specs.Prelude.{◌≡◌, ◌+◌, ◌<◌, ◌∷◌, length, take, IfOk, Some, None, nat_lt, if◌then◌else◌};
 ghost use Rattle.std.specs.List.{list_any};
 ghost use Rattle.std.specs.Option.{option_copied};
-ghost use Rattle.fed_suffix.specs.Label.{labels_of, labels_before, joined, name_of, is_empty, is_label as is_one_label, ascii_label as ascii_label_of, ascii_labels};
+ghost use Rattle.fed_suffix.specs.Label.{labels_of, labels_before, joined, name_of, is_empty, is_label as is_one_label};
+ghost use Rattle.fed_suffix.specs.Label.{ascii_label as ascii_label_of, ascii_labels};
 
 use fed_io::{Bytes, Items, NoRoom};
 use idna::{AsciiDenyList, Errors, domain_to_ascii_cow};
@@ -39,7 +40,8 @@ pub fn has_empty_label(name: &[u8]) -> bool
 
 /// The last `count` labels and one more, or `None` where there are no more.
 pub fn one_label_more(name: &[u8], count: usize) -> Option<&[u8]>
-    ensures { option_copied result ≡ (if nat_lt count (length (labels_of name.now)) then Some (name_of (take (count + 1) (labels_of name.now))) else None) }
+    ensures { option_copied result ≡ (if nat_lt count (length (labels_of name.now)) then Some (name_of (take (count + 1) (labels_of name.now)))
+        else None) }
 {
     let mut rest = name;
     for _ in 0..count {

@@ -6,7 +6,8 @@ ghost use Rattle.indexmap.specs.IndexSet.{index_set_len};
 ghost use Rattle.fed_suffix.specs.Label.{labels_before, labels_of};
 ghost use Rattle.fed_suffix.specs.Registrable.{matching, suffix_len};
 ghost use Rattle.fed_suffix.specs.Tree as spec;
-ghost use Rattle.fed_suffix.specs.Tree.{IsTree, Grows, label_number, node_of, rules_of, ends_at, ending_at, child_by_star, longest_from, longest_by};
+ghost use Rattle.fed_suffix.specs.Tree.{IsTree, Grows, label_number, node_of, rules_of, ends_at, ending_at, child_by_star, longest_from};
+ghost use Rattle.fed_suffix.specs.Tree.{longest_by};
 
 use crate::label::last_label;
 use crate::node::{Edge, End};

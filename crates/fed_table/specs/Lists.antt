@@ -1,5 +1,5 @@
 -- Lists of calls, and lists of calls by key: by page, or by provider origin.
-use Rattle.std.specs.Prelude.{ℕ, Bool, true, false, cond, not, nat_eq, ◌+◌, ◌++◌, List, [], ◌∷◌, Option, None, map}
+use Rattle.std.specs.Prelude.{ℕ, Bool, cond, not, nat_eq, ◌+◌, ◌++◌, List, [], ◌∷◌, Option, None, map}
 use Rattle.std.specs.Prelude.{filter, length, slice_get, is_some, unwrap_or}
 use Rattle.std.specs.List.{list_any}
 use Rattle.std.specs.Map.{lookup, set_value}

@@ -4,7 +4,7 @@ use Rattle.std.specs.List.{IsDistinct}
 use Rattle.std.specs.Map.{lookup, keys_of}
 use Rattle.fed_origin.specs.declared.origin.Origin.{Origin}
 use Rattle.fed_origin.specs.Origin.{same_origin}
-use Rattle.fed_table.specs.Lists.{has, calls_at, stands_in, times_in, total}
+use Rattle.fed_table.specs.Lists.{has, calls_at, times_in, total}
 
 -- the pages in order of first opening, each with its calls; the provider origins in the order in which they were first waited for, each
 -- with the calls that wait for it; and each call's item, none where it is lent out. The order of the items says nothing

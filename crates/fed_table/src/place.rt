@@ -1,5 +1,5 @@
 //! Where calls stand.
-ghost use Rattle.std.specs.Prelude.{◌≡◌, ◌<◌, true, nat_eq, is_some, Some, None, option_and_then, option_copied, option_map};
+ghost use Rattle.std.specs.Prelude.{◌≡◌, ◌<◌, nat_eq, Some, None, option_and_then, option_copied, option_map};
 ghost use Rattle.std.specs.Map.{lookup, set_value};
 ghost use Rattle.std.specs.Option.{option_map_or};
 ghost use Rattle.indexmap.specs.IndexMap.{spare};

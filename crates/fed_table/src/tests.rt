@@ -1,7 +1,6 @@
 //! Each call of the table, with ample memory.
-ghost use Rattle.std.specs.Prelude.{◌≡◌, ◌<◌, IfOk, OnOk, true, false, nat_eq, length, [], ◌∷◌};
-ghost use Rattle.fed_origin.specs.Origin.{same_origin};
-ghost use Rattle.fed_table.specs.Lists.{times_in, total, with_last, stands_in, all_without};
+ghost use Rattle.std.specs.Prelude.{◌≡◌, ◌<◌, OnOk, true, nat_eq, [], ◌∷◌};
+ghost use Rattle.fed_table.specs.Lists.{times_in, total, with_last};
 ghost use Rattle.fed_table.specs.Table.{has_page};
 
 use crate::Table;

@@ -12,44 +12,68 @@ use std::sync::ledger::{Blank, Ledger};
 use std::test::Fail;
 
 // A sign-up, up to the request for the token.
-const SIGN_UP: &str = r#"{"fedcm":1,"now":1700000000,"rules":"example"}
-{"do":"load","page":2,"url":"https://accounts.idp.example/login","text":"HTTP/1.1 200 OK\r\nSet-Cookie: session=a; Path=/; Secure; SameSite=None\r\nSet-Login: logged-in\r\n\r\n"}
+const SIGN_UP: &str = concat!(
+    r#"{"fedcm":1,"now":1700000000,"rules":"example"}
+{"do":"load","page":2,"url":"https://accounts.idp.example/login","text":"HTTP/1.1 200 OK\r\n"#,
+    r#"Set-Cookie: session=a; Path=/; Secure; SameSite=None\r\nSet-Login: logged-in\r\n\r\n"}
 {"do":"load","page":1,"url":"https://shop.example/join"}
 {"do":"at","time":1700000060}
 {"do":"get","page":1,"call":1,"providers":[{"config":"https://accounts.idp.example/fedcm.json","client":"shop"}]}
-{"do":"reply","call":1,"to":"wellknown","text":"HTTP/1.1 200 OK\r\nContent-Type: application/json\r\n\r\n{\"provider_urls\":[\"https://accounts.idp.example/fedcm.json\"]}"}
-{"do":"reply","call":1,"to":"config","text":"HTTP/1.1 200 OK\r\nContent-Type: application/json\r\n\r\n{\"accounts_endpoint\":\"/accounts\",\"id_assertion_endpoint\":\"/assertion\",\"login_url\":\"/login\"}"}
-{"do":"reply","call":1,"to":"accounts","text":"HTTP/1.1 200 OK\r\nContent-Type: application/json\r\n\r\n{\"accounts\":[{\"id\":\"b8\",\"name\":\"Ben\",\"email\":\"ben@uni.example\"}]}"}
+{"do":"reply","call":1,"to":"wellknown","text":"HTTP/1.1 200 OK\r\nContent-Type: application/json\r\n\r\n"#,
+    r#"{\"provider_urls\":[\"https://accounts.idp.example/fedcm.json\"]}"}
+{"do":"reply","call":1,"to":"config","text":"HTTP/1.1 200 OK\r\nContent-Type: application/json\r\n\r\n"#,
+    r#"{\"accounts_endpoint\":\"/accounts\",\"id_assertion_endpoint\":\"/assertion\",\"login_url\":\"/login\"}"}
+{"do":"reply","call":1,"to":"accounts","text":"HTTP/1.1 200 OK\r\nContent-Type: application/json\r\n\r\n"#,
+    r#"{\"accounts\":[{\"id\":\"b8\",\"name\":\"Ben\",\"email\":\"ben@uni.example\"}]}"}
 {"do":"continue","call":1}
-"#;
+"#,
+);
 
 // A cookie that is written again keeps its place.
-const COOKIES: &str = r#"{"fedcm":1,"now":1700000000,"rules":"example"}
+const COOKIES: &str = concat!(
+    r#"{"fedcm":1,"now":1700000000,"rules":"example"}
 {"do":"have","what":"cookie","url":"https://accounts.idp.example/","text":"a=1; Path=/; Secure; SameSite=None"}
 {"do":"have","what":"cookie","url":"https://accounts.idp.example/","text":"b=2; Path=/; Secure; SameSite=None"}
-{"do":"load","page":1,"url":"https://accounts.idp.example/login/start","text":"HTTP/1.1 200 OK\r\nSet-Cookie: c=3; Secure; SameSite=None\r\nSet-Cookie: a=4; Path=/; Secure; SameSite=None\r\n\r\n"}
-"#;
+{"do":"load","page":1,"url":"https://accounts.idp.example/login/start","text":"HTTP/1.1 200 OK\r\n"#,
+    r#"Set-Cookie: c=3; Secure; SameSite=None\r\nSet-Cookie: a=4; Path=/; Secure; SameSite=None\r\n\r\n"}
+"#,
+);
 
 // A cookie that is written again keeps its place, and a path that is missing is that of the page.
-const COOKIES_OF_A_LOAD: &str = r#"{"fedcm":1,"now":1700000000,"rules":"example"}
-{"do":"load","page":1,"url":"https://accounts.idp.example/login/start","text":"HTTP/1.1 200 OK\r\nSet-Cookie: a=1; Path=/; SameSite=None; Secure\r\nSet-Cookie: b=2; Path=/accounts; SameSite=None; Secure\r\nSet-Cookie: c=3; Path=/\r\nSet-Cookie: d=4; Domain=idp.example; Path=/; SameSite=None; Secure\r\nSet-Cookie: e=6; SameSite=None; Secure\r\nSet-Cookie: a=5; Path=/; SameSite=None; Secure\r\n\r\n"}
-"#;
+const COOKIES_OF_A_LOAD: &str = concat!(
+    r#"{"fedcm":1,"now":1700000000,"rules":"example"}
+{"do":"load","page":1,"url":"https://accounts.idp.example/login/start","text":"HTTP/1.1 200 OK\r\n"#,
+    r#"Set-Cookie: a=1; Path=/; SameSite=None; Secure\r\nSet-Cookie: b=2; Path=/accounts; SameSite=None; Secure\r\n"#,
+    r#"Set-Cookie: c=3; Path=/\r\nSet-Cookie: d=4; Domain=idp.example; Path=/; SameSite=None; Secure\r\n"#,
+    r#"Set-Cookie: e=6; SameSite=None; Secure\r\nSet-Cookie: a=5; Path=/; SameSite=None; Secure\r\n\r\n"}
+"#,
+);
 
 // The second field has no name that `http_header` takes, so the head is not read.
-const UNREADABLE: &str = r#"{"fedcm":1,"now":1700000000,"rules":"example"}
-{"do":"load","page":1,"url":"https://accounts.idp.example/login/start","text":"HTTP/1.1 200 OK\r\nSet-Cookie: a=1\r\nSet Cookie: b=2\r\n\r\n"}
-"#;
+const UNREADABLE: &str = concat!(
+    r#"{"fedcm":1,"now":1700000000,"rules":"example"}
+{"do":"load","page":1,"url":"https://accounts.idp.example/login/start","text":"HTTP/1.1 200 OK\r\n"#,
+    r#"Set-Cookie: a=1\r\nSet Cookie: b=2\r\n\r\n"}
+"#,
+);
 
 // Of two hosts below one domain, that of the first load is a public suffix.
-const OTHER_PARTIES: &str = r#"{"fedcm":1,"now":1700000000,"rules":"com\nblog.example.com"}
-{"do":"load","page":1,"url":"https://foo.blog.example.com/","text":"HTTP/1.1 200 OK\r\nSet-Cookie: x=1; Domain=example.com; Path=/; SameSite=None; Secure\r\n\r\n"}
-{"do":"load","page":2,"url":"https://a.example.com/","text":"HTTP/1.1 200 OK\r\nSet-Cookie: y=2; Domain=example.com; Path=/; SameSite=None; Secure\r\n\r\n"}
-"#;
+const OTHER_PARTIES: &str = concat!(
+    r#"{"fedcm":1,"now":1700000000,"rules":"com\nblog.example.com"}
+{"do":"load","page":1,"url":"https://foo.blog.example.com/","text":"HTTP/1.1 200 OK\r\n"#,
+    r#"Set-Cookie: x=1; Domain=example.com; Path=/; SameSite=None; Secure\r\n\r\n"}
+{"do":"load","page":2,"url":"https://a.example.com/","text":"HTTP/1.1 200 OK\r\n"#,
+    r#"Set-Cookie: y=2; Domain=example.com; Path=/; SameSite=None; Secure\r\n\r\n"}
+"#,
+);
 
 // The last status that counts stands.
-const STATUSES: &str = r#"{"fedcm":1,"now":1700000000,"rules":"example"}
-{"do":"load","page":1,"url":"https://accounts.idp.example/","text":"HTTP/1.1 200 OK\r\nSet-Login: logged-in\r\nSet-Login: logged-out; a\r\nSet-Login: LOGGED-IN\r\n\r\n"}
-"#;
+const STATUSES: &str = concat!(
+    r#"{"fedcm":1,"now":1700000000,"rules":"example"}
+{"do":"load","page":1,"url":"https://accounts.idp.example/","text":"HTTP/1.1 200 OK\r\nSet-Login: logged-in\r\n"#,
+    r#"Set-Login: logged-out; a\r\nSet-Login: LOGGED-IN\r\n\r\n"}
+"#,
+);
 
 // What is said twice keeps its place.
 const PERMISSIONS: &str = r#"{"fedcm":1,"now":1700000000,"rules":"example"}
@@ -57,6 +81,20 @@ const PERMISSIONS: &str = r#"{"fedcm":1,"now":1700000000,"rules":"example"}
 {"do":"have","what":"kept","page":"https://b.example/","provider":"https://accounts.idp.example/","account":"u2"}
 {"do":"have","what":"kept","page":"https://a.example/","provider":"https://accounts.idp.example/","account":"u1"}
 {"do":"have","what":"silent","origin":"https://b.example/"}
+"#;
+
+// Page 1 closes and is loaded again, page 2 is loaded while it stands, and the call of page 2 ends with it.
+const PAGES: &str = r#"{"fedcm":1,"now":1700000000,"rules":"example"}
+{"do":"load","page":1,"url":"https://shop.example/"}
+{"do":"load","page":2,"url":"https://news.example/"}
+{"do":"load","page":3,"url":"https://game.example/"}
+{"do":"get","page":2,"call":7,"providers":[{"config":"https://accounts.idp.example/fedcm.json","client":"news"}]}
+{"do":"get","page":3,"call":4,"providers":[{"config":"https://accounts.idp.example/fedcm.json","client":"game"}]}
+{"do":"closepage","page":1}
+{"do":"closepage","page":9}
+{"do":"load","page":2,"url":"https://news.example/more"}
+{"do":"load","page":1,"url":"https://shop.example/"}
+{"do":"abort","call":7}
 "#;
 
 // What stands after the events of a script, which goes to no token.
@@ -122,6 +160,22 @@ fn a_sign_up_waits_for_its_token(rt: HostRuntime) -> Result<(), Fail> {
     assert_eq!(rt; view.kept.len(), 0);
     assert!(rt; has_one_status(&view, LoginStatus::LoggedIn));
     assert!(rt; has_one_call(&view, 1, 1, Stage::Asserting));
+    Ok(())
+}
+
+// The numbers of the pages that stand are these.
+fn has_pages(view: &View, first: u32, second: u32, third: u32) -> bool {
+    match view.pages.as_slice() {
+        [a, b, c] => a.0 == first && b.0 == second && c.0 == third,
+        _ => false,
+    }
+}
+
+#[test]
+fn pages_stand_in_order_of_entering(rt: HostRuntime) -> Result<(), Fail> {
+    let view = view_after(rt.alloc(), PAGES)?;
+    assert!(rt; has_pages(&view, 2, 3, 1));
+    assert!(rt; has_one_call(&view, 4, 3, Stage::Reading));
     Ok(())
 }
 

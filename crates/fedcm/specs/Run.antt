@@ -4,7 +4,6 @@ use Rattle.std.specs.Prelude.{Option, Some, None, Result, Ok, Err}
 use Rattle.std.specs.Prelude.{if◌then◌else◌}
 use Rattle.std.specs.List.{list_any}
 use Rattle.std.specs.Prelude.{nat_eq}
-use Rattle.std.specs.Map.{lookup}
 use Rattle.std.specs.Io.KnownBytes.{Consumes}
 use Rattle.fed_script.specs.declared.cause.LineCause.{LineCause}
 use Rattle.fed_script.specs.declared.event.Event.{Event}
@@ -103,7 +102,7 @@ pub record GoesAs (session : State) (used : UsedState) (written : List ℕ) (fur
 -- a session that has taken no more steps and calls than were read
 pub record Follows (session : State) (used : UsedState) : Type 0 where
   pub steps : session.steps < used.events + 1
-  pub fresh : (call : ℕ) → list_any (nat_eq call) used.calls ≡ false → lookup (nat_eq call) session.calls ≡ None
+  pub fresh : (call : ℕ) → list_any (nat_eq call) used.calls ≡ false → list_any (nat_eq call) session.tabs.taken ≡ false
 
 -- the trace after what line n was read as
 abbrev pub after_read : Trace → ℕ → Result Event LineCause → Trace

@@ -1,6 +1,9 @@
 //! Calls up to their accounts request: whole scripts and their transcripts.
 use crate::Status;
-use crate::tests::{CONFIG, GET, HEADER, LOAD, WELL_KNOWN, gives};
+use crate::test_lines::{
+    CONFIG, CONFIG_ON_LINE_4, CONFIG_REPLY, GET, HEADER, LOAD, WELL_KNOWN, WELL_KNOWN_ON_LINE_4,
+};
+use crate::tests::gives;
 use std::test::Fail;
 
 const SUFFIX_HEADER: &str =
@@ -9,23 +12,24 @@ const SUFFIX_HEADER: &str =
 const EXAMPLE_GET: &str =
     "{\"do\":\"get\",\"page\":1,\"call\":1,\"providers\":[{\"config\":\"https://example.com/fedcm.json\",\"client\":\"c1\"}]}\n";
 
-const EXAMPLE_WELL_KNOWN_REPLY: &str =
-    "{\"do\":\"reply\",\"call\":1,\"to\":\"wellknown\",\"text\":\"HTTP/1.1 200 OK\\r\\nContent-Type: application/json\\r\\n\\r\\n{\\\"provider_urls\\\":[\\\"https://example.com/fedcm.json\\\"]}\"}\n";
+const EXAMPLE_WELL_KNOWN_REPLY: &str = concat!(
+    r#"{"do":"reply","call":1,"to":"wellknown","text":"HTTP/1.1 200 OK\r\nContent-Type: application/json\r\n\r\n"#,
+    r#"{\"provider_urls\":[\"https://example.com/fedcm.json\"]}"}"#,
+    "\n",
+);
 
-const CONFIG_REPLY: &str =
-    "{\"do\":\"reply\",\"call\":1,\"to\":\"config\",\"text\":\"HTTP/1.1 200 OK\\r\\nContent-Type: application/json\\r\\n\\r\\n{\\\"accounts_endpoint\\\":\\\"/accounts\\\",\\\"id_assertion_endpoint\\\":\\\"/assert\\\",\\\"login_url\\\":\\\"/login\\\",\\\"client_metadata_endpoint\\\":\\\"/client\\\",\\\"disconnect_endpoint\\\":\\\"/bye\\\"}\"}\n";
+const EXAMPLE_WELL_KNOWN: &str = concat!(
+    r#"{"call":1,"kind":"wellknown","line":4,"out":"request","provider":0,"#,
+    r#""text":"GET /.well-known/web-identity HTTP/1.1\r\nHost: example.com\r\nAccept: application/json\r\n"#,
+    r#"Sec-Fetch-Dest: webidentity\r\n\r\n"}"#,
+    "\n",
+);
 
-const EXAMPLE_WELL_KNOWN: &str =
-    "{\"call\":1,\"kind\":\"wellknown\",\"line\":4,\"out\":\"request\",\"provider\":0,\"text\":\"GET /.well-known/web-identity HTTP/1.1\\r\\nHost: example.com\\r\\nAccept: application/json\\r\\nSec-Fetch-Dest: webidentity\\r\\n\\r\\n\"}\n";
-
-const EXAMPLE_CONFIG: &str =
-    "{\"call\":1,\"kind\":\"config\",\"line\":4,\"out\":\"request\",\"provider\":0,\"text\":\"GET /fedcm.json HTTP/1.1\\r\\nHost: example.com\\r\\nAccept: application/json\\r\\nSec-Fetch-Dest: webidentity\\r\\n\\r\\n\"}\n";
-
-const WELL_KNOWN_ON_LINE_4: &str =
-    "{\"call\":1,\"kind\":\"wellknown\",\"line\":4,\"out\":\"request\",\"provider\":0,\"text\":\"GET /.well-known/web-identity HTTP/1.1\\r\\nHost: idp.example\\r\\nAccept: application/json\\r\\nSec-Fetch-Dest: webidentity\\r\\n\\r\\n\"}\n";
-
-const CONFIG_ON_LINE_4: &str =
-    "{\"call\":1,\"kind\":\"config\",\"line\":4,\"out\":\"request\",\"provider\":0,\"text\":\"GET /fedcm.json HTTP/1.1\\r\\nHost: accounts.idp.example\\r\\nAccept: application/json\\r\\nSec-Fetch-Dest: webidentity\\r\\n\\r\\n\"}\n";
+const EXAMPLE_CONFIG: &str = concat!(
+    r#"{"call":1,"kind":"config","line":4,"out":"request","provider":0,"text":"GET /fedcm.json HTTP/1.1\r\n"#,
+    r#"Host: example.com\r\nAccept: application/json\r\nSec-Fetch-Dest: webidentity\r\n\r\n"}"#,
+    "\n",
+);
 
 #[test]
 fn a_bad_line_follows_an_ignored_event(rt: HostRuntime) -> Result<(), Fail> {
@@ -44,7 +48,11 @@ fn domain_cookies_stay_in_their_site(rt: HostRuntime) -> Result<(), Fail> {
     let alloc = rt.alloc();
     let script = [
         SUFFIX_HEADER,
-        "{\"do\":\"load\",\"page\":2,\"url\":\"https://foo.blog.example.com/\",\"text\":\"HTTP/1.1 200 OK\\r\\nSet-Cookie: x=1; Domain=example.com; Path=/; SameSite=None; Secure\\r\\n\\r\\n\"}\n",
+        concat!(
+            r#"{"do":"load","page":2,"url":"https://foo.blog.example.com/","text":"HTTP/1.1 200 OK\r\n"#,
+            r#"Set-Cookie: x=1; Domain=example.com; Path=/; SameSite=None; Secure\r\n\r\n"}"#,
+            "\n",
+        ),
         LOAD,
         EXAMPLE_GET,
         EXAMPLE_WELL_KNOWN_REPLY,
@@ -53,13 +61,21 @@ fn domain_cookies_stay_in_their_site(rt: HostRuntime) -> Result<(), Fail> {
     let transcript = [
         EXAMPLE_WELL_KNOWN,
         EXAMPLE_CONFIG,
-        "{\"call\":1,\"kind\":\"accounts\",\"line\":6,\"out\":\"request\",\"provider\":0,\"text\":\"GET /accounts HTTP/1.1\\r\\nHost: example.com\\r\\nAccept: application/json\\r\\nSec-Fetch-Dest: webidentity\\r\\n\\r\\n\"}\n",
+        concat!(
+            r#"{"call":1,"kind":"accounts","line":6,"out":"request","provider":0,"text":"GET /accounts HTTP/1.1\r\n"#,
+            r#"Host: example.com\r\nAccept: application/json\r\nSec-Fetch-Dest: webidentity\r\n\r\n"}"#,
+            "\n",
+        ),
         "{\"events\":5,\"out\":\"end\"}\n",
     ];
     assert!(rt; gives(alloc, &["run"], &script, Status::Done, &transcript)?);
     let script = [
         SUFFIX_HEADER,
-        "{\"do\":\"load\",\"page\":2,\"url\":\"https://a.example.com/\",\"text\":\"HTTP/1.1 200 OK\\r\\nSet-Cookie: x=1; Domain=example.com; Path=/; SameSite=None; Secure\\r\\n\\r\\n\"}\n",
+        concat!(
+            r#"{"do":"load","page":2,"url":"https://a.example.com/","text":"HTTP/1.1 200 OK\r\n"#,
+            r#"Set-Cookie: x=1; Domain=example.com; Path=/; SameSite=None; Secure\r\n\r\n"}"#,
+            "\n",
+        ),
         LOAD,
         EXAMPLE_GET,
         EXAMPLE_WELL_KNOWN_REPLY,
@@ -68,7 +84,11 @@ fn domain_cookies_stay_in_their_site(rt: HostRuntime) -> Result<(), Fail> {
     let transcript = [
         EXAMPLE_WELL_KNOWN,
         EXAMPLE_CONFIG,
-        "{\"call\":1,\"kind\":\"accounts\",\"line\":6,\"out\":\"request\",\"provider\":0,\"text\":\"GET /accounts HTTP/1.1\\r\\nHost: example.com\\r\\nAccept: application/json\\r\\nSec-Fetch-Dest: webidentity\\r\\nCookie: x=1\\r\\n\\r\\n\"}\n",
+        concat!(
+            r#"{"call":1,"kind":"accounts","line":6,"out":"request","provider":0,"text":"GET /accounts HTTP/1.1\r\n"#,
+            r#"Host: example.com\r\nAccept: application/json\r\nSec-Fetch-Dest: webidentity\r\nCookie: x=1\r\n\r\n"}"#,
+            "\n",
+        ),
         "{\"events\":5,\"out\":\"end\"}\n",
     ];
     assert!(rt; gives(alloc, &["run"], &script, Status::Done, &transcript)?);
@@ -80,16 +100,30 @@ fn cookies_go_in_order(rt: HostRuntime) -> Result<(), Fail> {
     let alloc = rt.alloc();
     let script = [
         HEADER,
-        "{\"do\":\"load\",\"page\":2,\"url\":\"https://accounts.idp.example/login/start\",\"text\":\"HTTP/1.1 200 OK\\r\\nSet-Cookie: a=1; Path=/; SameSite=None; Secure\\r\\nSet-Cookie: b=2; Path=/accounts; SameSite=None; Secure\\r\\nSet-Cookie: c=3; Path=/\\r\\nSet-Cookie: d=4; Domain=idp.example; Path=/; SameSite=None; Secure\\r\\nSet-Cookie: e=6; SameSite=None; Secure\\r\\nSet-Cookie: a=5; Path=/; SameSite=None; Secure\\r\\n\\r\\n\"}\n",
+        concat!(
+            r#"{"do":"load","page":2,"url":"https://accounts.idp.example/login/start","text":"HTTP/1.1 200 OK\r\n"#,
+            r#"Set-Cookie: a=1; Path=/; SameSite=None; Secure\r\nSet-Cookie: b=2; Path=/accounts; SameSite=None; Secure\r\n"#,
+            r#"Set-Cookie: c=3; Path=/\r\nSet-Cookie: d=4; Domain=idp.example; Path=/; SameSite=None; Secure\r\n"#,
+            r#"Set-Cookie: e=6; SameSite=None; Secure\r\nSet-Cookie: a=5; Path=/; SameSite=None; Secure\r\n\r\n"}"#,
+            "\n",
+        ),
         LOAD,
         GET,
-        "{\"do\":\"reply\",\"call\":1,\"to\":\"wellknown\",\"text\":\"HTTP/1.1 200 OK\\r\\nContent-Type: application/json\\r\\n\\r\\n{\\\"provider_urls\\\":[\\\"https://accounts.idp.example/fedcm.json\\\"]}\"}\n",
+        concat!(
+            r#"{"do":"reply","call":1,"to":"wellknown","text":"HTTP/1.1 200 OK\r\nContent-Type: application/json\r\n\r\n"#,
+            r#"{\"provider_urls\":[\"https://accounts.idp.example/fedcm.json\"]}"}"#,
+            "\n",
+        ),
         CONFIG_REPLY,
     ];
     let transcript = [
         WELL_KNOWN_ON_LINE_4,
         CONFIG_ON_LINE_4,
-        "{\"call\":1,\"kind\":\"accounts\",\"line\":6,\"out\":\"request\",\"provider\":0,\"text\":\"GET /accounts HTTP/1.1\\r\\nHost: accounts.idp.example\\r\\nAccept: application/json\\r\\nSec-Fetch-Dest: webidentity\\r\\nCookie: b=2; a=5; d=4\\r\\n\\r\\n\"}\n",
+        concat!(
+            r#"{"call":1,"kind":"accounts","line":6,"out":"request","provider":0,"text":"GET /accounts HTTP/1.1\r\n"#,
+            r#"Host: accounts.idp.example\r\nAccept: application/json\r\nSec-Fetch-Dest: webidentity\r\nCookie: b=2; a=5; d=4\r\n\r\n"}"#,
+            "\n",
+        ),
         "{\"events\":5,\"out\":\"end\"}\n",
     ];
     assert!(rt; gives(alloc, &["run"], &script, Status::Done, &transcript)?);
@@ -103,7 +137,11 @@ fn one_configuration_for_each_well_known_file(rt: HostRuntime) -> Result<(), Fai
         HEADER,
         LOAD,
         GET,
-        "{\"do\":\"reply\",\"call\":1,\"to\":\"wellknown\",\"text\":\"HTTP/1.1 200 OK\\r\\nContent-Type: application/json\\r\\n\\r\\n{\\\"provider_urls\\\":[\\\"https://accounts.idp.example/fedcm.json\\\",\\\"https://accounts.idp.example/fedcm.json\\\"]}\"}\n",
+        concat!(
+            r#"{"do":"reply","call":1,"to":"wellknown","text":"HTTP/1.1 200 OK\r\nContent-Type: application/json\r\n\r\n"#,
+            r#"{\"provider_urls\":[\"https://accounts.idp.example/fedcm.json\",\"https://accounts.idp.example/fedcm.json\"]}"}"#,
+            "\n",
+        ),
     ];
     let transcript = [
         WELL_KNOWN,
@@ -116,7 +154,11 @@ fn one_configuration_for_each_well_known_file(rt: HostRuntime) -> Result<(), Fai
         HEADER,
         LOAD,
         GET,
-        "{\"do\":\"reply\",\"call\":1,\"to\":\"wellknown\",\"text\":\"HTTP/1.1 200 OK\\r\\nContent-Type: application/json\\r\\n\\r\\n{\\\"provider_urls\\\":[\\\"https://accounts.idp.example/other.json\\\"]}\"}\n",
+        concat!(
+            r#"{"do":"reply","call":1,"to":"wellknown","text":"HTTP/1.1 200 OK\r\nContent-Type: application/json\r\n\r\n"#,
+            r#"{\"provider_urls\":[\"https://accounts.idp.example/other.json\"]}"}"#,
+            "\n",
+        ),
     ];
     let transcript = [
         WELL_KNOWN,
@@ -129,7 +171,11 @@ fn one_configuration_for_each_well_known_file(rt: HostRuntime) -> Result<(), Fai
         HEADER,
         LOAD,
         GET,
-        "{\"do\":\"reply\",\"call\":1,\"to\":\"wellknown\",\"text\":\"HTTP/1.1 200 OK\\r\\nContent-Type: application/json\\r\\n\\r\\n{\\\"provider_urls\\\":[\\\"//accounts.idp.example/fedcm.json\\\"]}\"}\n",
+        concat!(
+            r#"{"do":"reply","call":1,"to":"wellknown","text":"HTTP/1.1 200 OK\r\nContent-Type: application/json\r\n\r\n"#,
+            r#"{\"provider_urls\":[\"//accounts.idp.example/fedcm.json\"]}"}"#,
+            "\n",
+        ),
     ];
     let transcript = [WELL_KNOWN, CONFIG, "{\"events\":3,\"out\":\"end\"}\n"];
     assert!(rt; gives(alloc, &["run"], &script, Status::Done, &transcript)?);
@@ -144,12 +190,18 @@ fn first_replies_come_in_either_order(rt: HostRuntime) -> Result<(), Fail> {
         LOAD,
         GET,
         CONFIG_REPLY,
-        "{\"do\":\"reply\",\"call\":1,\"to\":\"wellknown\",\"text\":\"HTTP/1.1 404 Not Found\\r\\nContent-Type: application/json\\r\\n\\r\\n{}\"}\n",
+        concat!(
+            r#"{"do":"reply","call":1,"to":"wellknown","text":"HTTP/1.1 404 Not Found\r\nContent-Type: application/json\r\n\r\n{}"}"#,
+            "\n",
+        ),
     ];
     let transcript = [
         WELL_KNOWN,
         CONFIG,
-        "{\"call\":1,\"detail\":\"status\",\"line\":5,\"out\":\"result\",\"page\":1,\"see\":\"NetworkError\",\"step\":\"well-known-reply\"}\n",
+        concat!(
+            r#"{"call":1,"detail":"status","line":5,"out":"result","page":1,"see":"NetworkError","step":"well-known-reply"}"#,
+            "\n",
+        ),
         "{\"events\":4,\"out\":\"end\"}\n",
     ];
     assert!(rt; gives(alloc, &["run"], &script, Status::Done, &transcript)?);

@@ -17,6 +17,8 @@ mod read;
 mod run;
 mod status;
 #[cfg(test)]
+mod test_lines;
+#[cfg(test)]
 mod tests;
 #[cfg(test)]
 mod token_tests;

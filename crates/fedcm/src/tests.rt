@@ -1,24 +1,12 @@
 ghost use Rattle.std.specs.Prelude.{◌≡◌, ◌<◌};
 
+use crate::test_lines::{CONFIG, GET, HEADER, LOAD, WELL_KNOWN};
 use crate::{Status, fedcm};
 use fed_io::{MemSink, MemSource, NoRoom, QuietSink, QuietSource, Steps, Text};
 use std::alloc::Global;
 use std::marker::Brand;
 use std::sync::ledger::{Blank, Ledger};
 use std::test::Fail;
-
-pub const HEADER: &str = "{\"fedcm\":1,\"now\":1700000000,\"rules\":\"\"}\n";
-
-pub const LOAD: &str = "{\"do\":\"load\",\"page\":1,\"url\":\"https://rp.example/\"}\n";
-
-pub const GET: &str =
-    "{\"do\":\"get\",\"page\":1,\"call\":1,\"providers\":[{\"config\":\"https://accounts.idp.example/fedcm.json\",\"client\":\"c1\",\"nonce\":\"n1\"}]}\n";
-
-pub const WELL_KNOWN: &str =
-    "{\"call\":1,\"kind\":\"wellknown\",\"line\":3,\"out\":\"request\",\"provider\":0,\"text\":\"GET /.well-known/web-identity HTTP/1.1\\r\\nHost: idp.example\\r\\nAccept: application/json\\r\\nSec-Fetch-Dest: webidentity\\r\\n\\r\\n\"}\n";
-
-pub const CONFIG: &str =
-    "{\"call\":1,\"kind\":\"config\",\"line\":3,\"out\":\"request\",\"provider\":0,\"text\":\"GET /fedcm.json HTTP/1.1\\r\\nHost: accounts.idp.example\\r\\nAccept: application/json\\r\\nSec-Fetch-Dest: webidentity\\r\\n\\r\\n\"}\n";
 
 // The pieces, joined.
 fn joined(alloc: Global, pieces: &[&str]) -> Result<String, NoRoom> {
@@ -98,12 +86,16 @@ fn a_call_sends_its_first_requests(rt: HostRuntime) -> Result<(), Fail> {
 
 #[test]
 fn a_page_has_one_pending_get(rt: HostRuntime) -> Result<(), Fail> {
-    let second =
-        "{\"do\":\"get\",\"page\":1,\"call\":2,\"providers\":[{\"config\":\"https://accounts.idp.example/fedcm.json\",\"client\":\"c1\"}]}\n";
+    let second = concat!(
+        r#"{"do":"get","page":1,"call":2,"providers":[{"config":"https://accounts.idp.example/fedcm.json","client":"c1"}]}"#,
+        "\n",
+    );
     let third =
         "{\"do\":\"get\",\"page\":1,\"call\":3,\"providers\":[{\"config\":\"https://127.0.0.1/f.json\",\"client\":\"c1\"}]}\n";
-    let elsewhere =
-        "{\"do\":\"get\",\"page\":2,\"call\":4,\"providers\":[{\"config\":\"https://accounts.idp.example/fedcm.json\",\"client\":\"c1\"}]}\n";
+    let elsewhere = concat!(
+        r#"{"do":"get","page":2,"call":4,"providers":[{"config":"https://accounts.idp.example/fedcm.json","client":"c1"}]}"#,
+        "\n",
+    );
     let script = [HEADER, LOAD, GET, second, LOAD, third, elsewhere];
     let pending =
         "{\"call\":2,\"line\":4,\"out\":\"result\",\"page\":1,\"see\":\"NotAllowedError\",\"step\":\"call-pending\"}\n";

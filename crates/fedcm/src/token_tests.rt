@@ -1,39 +1,48 @@
 //! Consent, assertion and token: whole scripts and their transcripts.
 use crate::Status;
-use crate::tests::{CONFIG, GET, HEADER, LOAD, WELL_KNOWN, gives};
+use crate::test_lines::{
+    ACCOUNTS_REQUEST, CONFIG, CONFIG_REPLY, GET, HEADER, LINKS, LOAD, TWO_ACCOUNTS, WELL_KNOWN,
+    WELL_KNOWN_REPLY,
+};
+use crate::tests::gives;
 use fed_io::NoRoom;
 use std::alloc::Global;
 use std::test::Fail;
 
-const WELL_KNOWN_REPLY: &str =
-    "{\"do\":\"reply\",\"call\":1,\"to\":\"wellknown\",\"text\":\"HTTP/1.1 200 OK\\r\\nContent-Type: application/json\\r\\n\\r\\n{\\\"provider_urls\\\":[\\\"https://accounts.idp.example/fedcm.json\\\"]}\"}\n";
+const TOKEN_REPLY: &str = concat!(
+    r#"{"do":"reply","call":1,"to":"assertion","text":"HTTP/1.1 200 OK\r\nContent-Type: application/json\r\n"#,
+    r#"Access-Control-Allow-Origin: https://rp.example\r\nAccess-Control-Allow-Credentials: true\r\n\r\n{\"token\":\"T1\"}"}"#,
+    "\n",
+);
 
-const CONFIG_REPLY: &str =
-    "{\"do\":\"reply\",\"call\":1,\"to\":\"config\",\"text\":\"HTTP/1.1 200 OK\\r\\nContent-Type: application/json\\r\\n\\r\\n{\\\"accounts_endpoint\\\":\\\"/accounts\\\",\\\"id_assertion_endpoint\\\":\\\"/assert\\\",\\\"login_url\\\":\\\"/login\\\",\\\"client_metadata_endpoint\\\":\\\"/client\\\",\\\"disconnect_endpoint\\\":\\\"/bye\\\"}\"}\n";
+const CHOOSER: &str = concat!(
+    r#"{"accounts":[{"connected":false,"email":"ann@idp.example","id":"u1","name":"Ann","provider":0},"#,
+    r#"{"connected":false,"email":"bob@idp.example","id":"u2","name":"Bob","provider":0}],"call":1,"context":"signin","#,
+    r#""dialog":"choose","line":6,"out":"dialog","site":"rp.example"}"#,
+    "\n",
+);
 
-const TWO_ACCOUNTS: &str =
-    "{\"do\":\"reply\",\"call\":1,\"to\":\"accounts\",\"text\":\"HTTP/1.1 200 OK\\r\\nContent-Type: application/json\\r\\n\\r\\n{\\\"accounts\\\":[{\\\"id\\\":\\\"u1\\\",\\\"name\\\":\\\"Ann\\\",\\\"email\\\":\\\"ann@idp.example\\\"},{\\\"id\\\":\\\"u2\\\",\\\"name\\\":\\\"Bob\\\",\\\"email\\\":\\\"bob@idp.example\\\"}]}\"}\n";
+const METADATA_REQUEST: &str = concat!(
+    r#"{"call":1,"kind":"metadata","line":7,"out":"request","provider":0,"text":"GET /client?client_id=c1 HTTP/1.1\r\n"#,
+    r#"Host: accounts.idp.example\r\nAccept: application/json\r\nSec-Fetch-Dest: webidentity\r\n"#,
+    r#"Origin: https://rp.example\r\n\r\n"}"#,
+    "\n",
+);
 
-const LINKS: &str =
-    "{\"do\":\"reply\",\"call\":1,\"to\":\"metadata\",\"text\":\"HTTP/1.1 200 OK\\r\\nContent-Type: application/json\\r\\n\\r\\n{\\\"privacy_policy_url\\\":\\\"https://rp.example/privacy\\\"}\"}\n";
+const PROMPT: &str = concat!(
+    r#"{"account":{"connected":false,"email":"bob@idp.example","id":"u2","name":"Bob","provider":0},"call":1,"#,
+    r#""context":"signin","dialog":"prompt","disclosure":true,"line":8,"out":"dialog","#,
+    r#""privacy":"https://rp.example/privacy","site":"rp.example"}"#,
+    "\n",
+);
 
-const TOKEN_REPLY: &str =
-    "{\"do\":\"reply\",\"call\":1,\"to\":\"assertion\",\"text\":\"HTTP/1.1 200 OK\\r\\nContent-Type: application/json\\r\\nAccess-Control-Allow-Origin: https://rp.example\\r\\nAccess-Control-Allow-Credentials: true\\r\\n\\r\\n{\\\"token\\\":\\\"T1\\\"}\"}\n";
-
-const ACCOUNTS_REQUEST: &str =
-    "{\"call\":1,\"kind\":\"accounts\",\"line\":5,\"out\":\"request\",\"provider\":0,\"text\":\"GET /accounts HTTP/1.1\\r\\nHost: accounts.idp.example\\r\\nAccept: application/json\\r\\nSec-Fetch-Dest: webidentity\\r\\n\\r\\n\"}\n";
-
-const CHOOSER: &str =
-    "{\"accounts\":[{\"connected\":false,\"email\":\"ann@idp.example\",\"id\":\"u1\",\"name\":\"Ann\",\"provider\":0},{\"connected\":false,\"email\":\"bob@idp.example\",\"id\":\"u2\",\"name\":\"Bob\",\"provider\":0}],\"call\":1,\"context\":\"signin\",\"dialog\":\"choose\",\"line\":6,\"out\":\"dialog\",\"site\":\"rp.example\"}\n";
-
-const METADATA_REQUEST: &str =
-    "{\"call\":1,\"kind\":\"metadata\",\"line\":7,\"out\":\"request\",\"provider\":0,\"text\":\"GET /client?client_id=c1 HTTP/1.1\\r\\nHost: accounts.idp.example\\r\\nAccept: application/json\\r\\nSec-Fetch-Dest: webidentity\\r\\nOrigin: https://rp.example\\r\\n\\r\\n\"}\n";
-
-const PROMPT: &str =
-    "{\"account\":{\"connected\":false,\"email\":\"bob@idp.example\",\"id\":\"u2\",\"name\":\"Bob\",\"provider\":0},\"call\":1,\"context\":\"signin\",\"dialog\":\"prompt\",\"disclosure\":true,\"line\":8,\"out\":\"dialog\",\"privacy\":\"https://rp.example/privacy\",\"site\":\"rp.example\"}\n";
-
-const ASSERTION_REQUEST: &str =
-    "{\"call\":1,\"kind\":\"assertion\",\"line\":9,\"out\":\"request\",\"provider\":0,\"text\":\"POST /assert HTTP/1.1\\r\\nHost: accounts.idp.example\\r\\nAccept: application/json\\r\\nSec-Fetch-Dest: webidentity\\r\\nOrigin: https://rp.example\\r\\nContent-Type: application/x-www-form-urlencoded\\r\\nContent-Length: 85\\r\\n\\r\\nclient_id=c1&nonce=n1&account_id=u2&disclosure_text_shown=true&is_auto_selected=false\"}\n";
+const ASSERTION_REQUEST: &str = concat!(
+    r#"{"call":1,"kind":"assertion","line":9,"out":"request","provider":0,"text":"POST /assert HTTP/1.1\r\n"#,
+    r#"Host: accounts.idp.example\r\nAccept: application/json\r\nSec-Fetch-Dest: webidentity\r\n"#,
+    r#"Origin: https://rp.example\r\nContent-Type: application/x-www-form-urlencoded\r\nContent-Length: 85\r\n\r\n"#,
+    r#"client_id=c1&nonce=n1&account_id=u2&disclosure_text_shown=true&is_auto_selected=false"}"#,
+    "\n",
+);
 
 #[test]
 fn a_sign_up_as_users_make_it(rt: HostRuntime) -> Result<(), Fail> {
@@ -74,7 +83,11 @@ fn a_continue_comes_too_early_and_twice(rt: HostRuntime) -> Result<(), Fail> {
         GET,
         WELL_KNOWN_REPLY,
         CONFIG_REPLY,
-        "{\"do\":\"reply\",\"call\":1,\"to\":\"accounts\",\"text\":\"HTTP/1.1 200 OK\\r\\nContent-Type: application/json\\r\\n\\r\\n{\\\"accounts\\\":[{\\\"id\\\":\\\"u1\\\",\\\"name\\\":\\\"Ann\\\",\\\"email\\\":\\\"ann@idp.example\\\"}]}\"}\n",
+        concat!(
+            r#"{"do":"reply","call":1,"to":"accounts","text":"HTTP/1.1 200 OK\r\nContent-Type: application/json\r\n\r\n"#,
+            r#"{\"accounts\":[{\"id\":\"u1\",\"name\":\"Ann\",\"email\":\"ann@idp.example\"}]}"}"#,
+            "\n",
+        ),
         "{\"do\":\"continue\",\"call\":1}\n",
         LINKS,
         "{\"do\":\"continue\",\"call\":1}\n",
@@ -84,10 +97,26 @@ fn a_continue_comes_too_early_and_twice(rt: HostRuntime) -> Result<(), Fail> {
         WELL_KNOWN,
         CONFIG,
         ACCOUNTS_REQUEST,
-        "{\"call\":1,\"kind\":\"metadata\",\"line\":6,\"out\":\"request\",\"provider\":0,\"text\":\"GET /client?client_id=c1 HTTP/1.1\\r\\nHost: accounts.idp.example\\r\\nAccept: application/json\\r\\nSec-Fetch-Dest: webidentity\\r\\nOrigin: https://rp.example\\r\\n\\r\\n\"}\n",
+        concat!(
+            r#"{"call":1,"kind":"metadata","line":6,"out":"request","provider":0,"text":"GET /client?client_id=c1 HTTP/1.1\r\n"#,
+            r#"Host: accounts.idp.example\r\nAccept: application/json\r\nSec-Fetch-Dest: webidentity\r\n"#,
+            r#"Origin: https://rp.example\r\n\r\n"}"#,
+            "\n",
+        ),
         "{\"line\":7,\"out\":\"ignored\",\"why\":\"not-offered\"}\n",
-        "{\"account\":{\"connected\":false,\"email\":\"ann@idp.example\",\"id\":\"u1\",\"name\":\"Ann\",\"provider\":0},\"call\":1,\"context\":\"signin\",\"dialog\":\"prompt\",\"disclosure\":true,\"line\":8,\"out\":\"dialog\",\"privacy\":\"https://rp.example/privacy\",\"site\":\"rp.example\"}\n",
-        "{\"call\":1,\"kind\":\"assertion\",\"line\":9,\"out\":\"request\",\"provider\":0,\"text\":\"POST /assert HTTP/1.1\\r\\nHost: accounts.idp.example\\r\\nAccept: application/json\\r\\nSec-Fetch-Dest: webidentity\\r\\nOrigin: https://rp.example\\r\\nContent-Type: application/x-www-form-urlencoded\\r\\nContent-Length: 85\\r\\n\\r\\nclient_id=c1&nonce=n1&account_id=u1&disclosure_text_shown=true&is_auto_selected=false\"}\n",
+        concat!(
+            r#"{"account":{"connected":false,"email":"ann@idp.example","id":"u1","name":"Ann","provider":0},"call":1,"#,
+            r#""context":"signin","dialog":"prompt","disclosure":true,"line":8,"out":"dialog","#,
+            r#""privacy":"https://rp.example/privacy","site":"rp.example"}"#,
+            "\n",
+        ),
+        concat!(
+            r#"{"call":1,"kind":"assertion","line":9,"out":"request","provider":0,"text":"POST /assert HTTP/1.1\r\n"#,
+            r#"Host: accounts.idp.example\r\nAccept: application/json\r\nSec-Fetch-Dest: webidentity\r\n"#,
+            r#"Origin: https://rp.example\r\nContent-Type: application/x-www-form-urlencoded\r\nContent-Length: 85\r\n\r\n"#,
+            r#"client_id=c1&nonce=n1&account_id=u1&disclosure_text_shown=true&is_auto_selected=false"}"#,
+            "\n",
+        ),
         "{\"line\":10,\"out\":\"ignored\",\"why\":\"not-offered\"}\n",
         "{\"events\":9,\"out\":\"end\"}\n",
     ];
@@ -139,7 +168,11 @@ fn no_token_is_given(rt: HostRuntime) -> Result<(), Fail> {
         goes_on(
             alloc,
             "",
-            "{\"do\":\"reply\",\"call\":1,\"to\":\"assertion\",\"text\":\"HTTP/1.1 200 OK\\r\\nContent-Type: application/json\\r\\nAccess-Control-Allow-Origin: *\\r\\nAccess-Control-Allow-Credentials: true\\r\\n\\r\\n{\\\"token\\\":\\\"T1\\\"}\"}\n",
+            concat!(
+                r#"{"do":"reply","call":1,"to":"assertion","text":"HTTP/1.1 200 OK\r\nContent-Type: application/json\r\n"#,
+                r#"Access-Control-Allow-Origin: *\r\nAccess-Control-Allow-Credentials: true\r\n\r\n{\"token\":\"T1\"}"}"#,
+                "\n",
+            ),
             "{\"call\":1,\"line\":10,\"out\":\"result\",\"page\":1,\"see\":\"NetworkError\",\"step\":\"assertion-cors\"}\n",
             nine
         )?
@@ -148,8 +181,17 @@ fn no_token_is_given(rt: HostRuntime) -> Result<(), Fail> {
         goes_on(
             alloc,
             "",
-            "{\"do\":\"reply\",\"call\":1,\"to\":\"assertion\",\"text\":\"HTTP/1.1 200 OK\\r\\nContent-Type: application/json\\r\\nAccess-Control-Allow-Origin: https://rp.example\\r\\nAccess-Control-Allow-Credentials: true\\r\\n\\r\\n{\\\"error\\\":{\\\"code\\\":\\\"access_denied\\\",\\\"url\\\":\\\"https://idp.example/why\\\"}}\"}\n",
-            "{\"call\":1,\"code\":\"access_denied\",\"line\":10,\"out\":\"result\",\"page\":1,\"see\":\"IdentityCredentialError\",\"step\":\"provider-error\",\"url\":\"https://idp.example/why\"}\n",
+            concat!(
+                r#"{"do":"reply","call":1,"to":"assertion","text":"HTTP/1.1 200 OK\r\nContent-Type: application/json\r\n"#,
+                r#"Access-Control-Allow-Origin: https://rp.example\r\nAccess-Control-Allow-Credentials: true\r\n\r\n"#,
+                r#"{\"error\":{\"code\":\"access_denied\",\"url\":\"https://idp.example/why\"}}"}"#,
+                "\n",
+            ),
+            concat!(
+                r#"{"call":1,"code":"access_denied","line":10,"out":"result","page":1,"see":"IdentityCredentialError","#,
+                r#""step":"provider-error","url":"https://idp.example/why"}"#,
+                "\n",
+            ),
             nine
         )?
     );

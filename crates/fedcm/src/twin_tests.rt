@@ -1,17 +1,12 @@
 //! Two scripts and a dividing line: whether they are twins.
 use crate::Status;
+use crate::test_lines::{GET, HEADER, LINKS, LOAD, WELL_KNOWN_REPLY};
 use crate::tests::gives;
 use fed_io::NoRoom;
 use std::alloc::Global;
 use std::test::Fail;
 
-const HEADER: &str = r#"{"fedcm":1,"now":1700000000,"rules":""}
-"#;
-
 const NEXT: &str = r#"{"next":"script"}
-"#;
-
-const PAGE: &str = r#"{"do":"load","page":1,"url":"https://rp.example/"}
 "#;
 
 const SHOP: &str = r#"{"do":"load","page":2,"url":"https://shop.example/"}
@@ -23,53 +18,59 @@ const OTHER_PAGE: &str = r#"{"do":"load","page":1,"url":"https://a.example/"}
 const OTHER_SHOP: &str = r#"{"do":"load","page":2,"url":"https://b.example/"}
 "#;
 
-const GET: &str =
-    r#"{"do":"get","page":1,"call":1,"providers":[{"config":"https://accounts.idp.example/fedcm.json","client":"c1","nonce":"n1"}]}
-"#;
+const SHOP_GET: &str = concat!(
+    r#"{"do":"get","page":2,"call":2,"providers":[{"config":"https://accounts.idp.example/fedcm.json","client":"c1","nonce":"n1"}]}"#,
+    "\n",
+);
 
-const SHOP_GET: &str =
-    r#"{"do":"get","page":2,"call":2,"providers":[{"config":"https://accounts.idp.example/fedcm.json","client":"c1","nonce":"n1"}]}
-"#;
+const OTHER_GET: &str = concat!(
+    r#"{"do":"get","page":1,"call":1,"context":"use","providers":[{"config":"https://accounts.idp.example/fedcm.json","#,
+    r#""client":"x"}]}"#,
+    "\n",
+);
 
-const OTHER_GET: &str =
-    r#"{"do":"get","page":1,"call":1,"context":"use","providers":[{"config":"https://accounts.idp.example/fedcm.json","client":"x"}]}
-"#;
+const OTHER_SHOP_GET: &str = concat!(
+    r#"{"do":"get","page":2,"call":2,"providers":[{"config":"https://accounts.idp.example/fedcm.json","client":"y","params":"p"}]}"#,
+    "\n",
+);
 
-const OTHER_SHOP_GET: &str =
-    r#"{"do":"get","page":2,"call":2,"providers":[{"config":"https://accounts.idp.example/fedcm.json","client":"y","params":"p"}]}
-"#;
+const CONFIG: &str = concat!(
+    r#"{"do":"reply","call":1,"to":"config","text":"HTTP/1.1 200 OK\r\nContent-Type: application/json\r\n\r\n"#,
+    r#"{\"accounts_endpoint\":\"/accounts\",\"id_assertion_endpoint\":\"/assert\",\"login_url\":\"/login\","#,
+    r#"\"client_metadata_endpoint\":\"/client\"}"}"#,
+    "\n",
+);
 
-const WELL_KNOWN: &str =
-    r#"{"do":"reply","call":1,"to":"wellknown","text":"HTTP/1.1 200 OK\r\nContent-Type: application/json\r\n\r\n{\"provider_urls\":[\"https://accounts.idp.example/fedcm.json\"]}"}
-"#;
+const ACCOUNTS: &str = concat!(
+    r#"{"do":"reply","call":1,"to":"accounts","text":"HTTP/1.1 200 OK\r\nContent-Type: application/json\r\n\r\n"#,
+    r#"{\"accounts\":[{\"id\":\"u1\",\"name\":\"Ann\",\"email\":\"ann@idp.example\"}]}"}"#,
+    "\n",
+);
 
-const CONFIG: &str =
-    r#"{"do":"reply","call":1,"to":"config","text":"HTTP/1.1 200 OK\r\nContent-Type: application/json\r\n\r\n{\"accounts_endpoint\":\"/accounts\",\"id_assertion_endpoint\":\"/assert\",\"login_url\":\"/login\",\"client_metadata_endpoint\":\"/client\"}"}
-"#;
+const SHOP_WELL_KNOWN: &str = concat!(
+    r#"{"do":"reply","call":2,"to":"wellknown","text":"HTTP/1.1 200 OK\r\nContent-Type: application/json\r\n\r\n"#,
+    r#"{\"provider_urls\":[\"https://accounts.idp.example/fedcm.json\"]}"}"#,
+    "\n",
+);
 
-const ACCOUNTS: &str =
-    r#"{"do":"reply","call":1,"to":"accounts","text":"HTTP/1.1 200 OK\r\nContent-Type: application/json\r\n\r\n{\"accounts\":[{\"id\":\"u1\",\"name\":\"Ann\",\"email\":\"ann@idp.example\"}]}"}
-"#;
+const SHOP_CONFIG: &str = concat!(
+    r#"{"do":"reply","call":2,"to":"config","text":"HTTP/1.1 200 OK\r\nContent-Type: application/json\r\n\r\n"#,
+    r#"{\"accounts_endpoint\":\"/accounts\",\"id_assertion_endpoint\":\"/assert\",\"login_url\":\"/login\","#,
+    r#"\"client_metadata_endpoint\":\"/client\"}"}"#,
+    "\n",
+);
 
-const SHOP_WELL_KNOWN: &str =
-    r#"{"do":"reply","call":2,"to":"wellknown","text":"HTTP/1.1 200 OK\r\nContent-Type: application/json\r\n\r\n{\"provider_urls\":[\"https://accounts.idp.example/fedcm.json\"]}"}
-"#;
+const SHOP_ACCOUNTS: &str = concat!(
+    r#"{"do":"reply","call":2,"to":"accounts","text":"HTTP/1.1 200 OK\r\nContent-Type: application/json\r\n\r\n"#,
+    r#"{\"accounts\":[{\"id\":\"u1\",\"name\":\"Ann\",\"email\":\"ann@idp.example\"}]}"}"#,
+    "\n",
+);
 
-const SHOP_CONFIG: &str =
-    r#"{"do":"reply","call":2,"to":"config","text":"HTTP/1.1 200 OK\r\nContent-Type: application/json\r\n\r\n{\"accounts_endpoint\":\"/accounts\",\"id_assertion_endpoint\":\"/assert\",\"login_url\":\"/login\",\"client_metadata_endpoint\":\"/client\"}"}
-"#;
-
-const SHOP_ACCOUNTS: &str =
-    r#"{"do":"reply","call":2,"to":"accounts","text":"HTTP/1.1 200 OK\r\nContent-Type: application/json\r\n\r\n{\"accounts\":[{\"id\":\"u1\",\"name\":\"Ann\",\"email\":\"ann@idp.example\"}]}"}
-"#;
-
-const LINKS: &str =
-    r#"{"do":"reply","call":1,"to":"metadata","text":"HTTP/1.1 200 OK\r\nContent-Type: application/json\r\n\r\n{\"privacy_policy_url\":\"https://rp.example/privacy\"}"}
-"#;
-
-const SHOP_LINKS: &str =
-    r#"{"do":"reply","call":2,"to":"metadata","text":"HTTP/1.1 200 OK\r\nContent-Type: application/json\r\n\r\n{\"privacy_policy_url\":\"https://rp.example/privacy\"}"}
-"#;
+const SHOP_LINKS: &str = concat!(
+    r#"{"do":"reply","call":2,"to":"metadata","text":"HTTP/1.1 200 OK\r\nContent-Type: application/json\r\n\r\n"#,
+    r#"{\"privacy_policy_url\":\"https://rp.example/privacy\"}"}"#,
+    "\n",
+);
 
 const GO_ON: &str = r#"{"do":"continue","call":1}
 "#;
@@ -83,11 +84,11 @@ fn tells(alloc: Global, input: &[&str], status: Status, record: &str) -> Result<
 fn twins_differ_in_relying_parties(rt: HostRuntime) -> Result<(), Fail> {
     let input = [
         HEADER,
-        PAGE,
+        LOAD,
         SHOP,
         GET,
         SHOP_GET,
-        WELL_KNOWN,
+        WELL_KNOWN_REPLY,
         CONFIG,
         SHOP_WELL_KNOWN,
         SHOP_CONFIG,
@@ -101,7 +102,7 @@ fn twins_differ_in_relying_parties(rt: HostRuntime) -> Result<(), Fail> {
         OTHER_SHOP,
         OTHER_GET,
         OTHER_SHOP_GET,
-        WELL_KNOWN,
+        WELL_KNOWN_REPLY,
         CONFIG,
         SHOP_WELL_KNOWN,
         SHOP_CONFIG,
@@ -121,10 +122,10 @@ fn twins_share_origins_in_both_scripts(rt: HostRuntime) -> Result<(), Fail> {
     let record = "{\"clause\":\"origins\",\"event\":2,\"out\":\"not-twins\"}\n";
     let at_one = "{\"do\":\"load\",\"page\":2,\"url\":\"https://a.example/\"}\n";
     let input = [
-        HEADER, PAGE, SHOP, GET, NEXT, HEADER, OTHER_PAGE, at_one, OTHER_GET,
+        HEADER, LOAD, SHOP, GET, NEXT, HEADER, OTHER_PAGE, at_one, OTHER_GET,
     ];
     assert!(rt; tells(rt.alloc(), &input, Status::NotTwins, record)?);
-    let input = [HEADER, OTHER_PAGE, at_one, NEXT, HEADER, PAGE, SHOP];
+    let input = [HEADER, OTHER_PAGE, at_one, NEXT, HEADER, LOAD, SHOP];
     assert!(rt; tells(rt.alloc(), &input, Status::NotTwins, record)?);
     Ok(())
 }
@@ -133,8 +134,22 @@ fn twins_share_origins_in_both_scripts(rt: HostRuntime) -> Result<(), Fail> {
 #[test]
 fn a_prompt_may_wait_in_one_world(rt: HostRuntime) -> Result<(), Fail> {
     let input = [
-        HEADER, PAGE, GET, WELL_KNOWN, CONFIG, ACCOUNTS, LINKS, GO_ON, NEXT, HEADER, OTHER_PAGE,
-        OTHER_GET, WELL_KNOWN, CONFIG, ACCOUNTS, GO_ON,
+        HEADER,
+        LOAD,
+        GET,
+        WELL_KNOWN_REPLY,
+        CONFIG,
+        ACCOUNTS,
+        LINKS,
+        GO_ON,
+        NEXT,
+        HEADER,
+        OTHER_PAGE,
+        OTHER_GET,
+        WELL_KNOWN_REPLY,
+        CONFIG,
+        ACCOUNTS,
+        GO_ON,
     ];
     let record = "{\"compared\":3,\"out\":\"twins\",\"quiet\":5}\n";
     assert!(rt; tells(rt.alloc(), &input, Status::Done, record)?);
@@ -143,14 +158,14 @@ fn a_prompt_may_wait_in_one_world(rt: HostRuntime) -> Result<(), Fail> {
 
 // Whether two scripts of these lines after one header are no twins by this record.
 fn differ(alloc: Global, first: &str, second: &str, record: &str) -> Result<bool, NoRoom> {
-    let input = [HEADER, PAGE, first, NEXT, HEADER, PAGE, second];
+    let input = [HEADER, LOAD, first, NEXT, HEADER, LOAD, second];
     tells(alloc, &input, Status::NotTwins, record)
 }
 
 #[test]
 fn each_clause_names_its_first_event(rt: HostRuntime) -> Result<(), Fail> {
     let later = "{\"fedcm\":1,\"now\":1700000001,\"rules\":\"\"}\n";
-    let input = [HEADER, PAGE, NEXT, later, PAGE];
+    let input = [HEADER, LOAD, NEXT, later, LOAD];
     let record = "{\"clause\":\"header\",\"event\":0,\"out\":\"not-twins\"}\n";
     assert!(rt; tells(rt.alloc(), &input, Status::NotTwins, record)?);
     for (first, second, record) in [
@@ -188,18 +203,20 @@ fn each_clause_names_its_first_event(rt: HostRuntime) -> Result<(), Fail> {
 // A page of the provider's own party has to be the same in both scripts, with all that its reply brings.
 #[test]
 fn a_page_of_the_providers_party_is_seen(rt: HostRuntime) -> Result<(), Fail> {
-    let own =
-        "{\"do\":\"load\",\"page\":2,\"url\":\"https://www.idp.example/\",\"text\":\"HTTP/1.1 200 OK\\r\\nSet-Login: logged-in\\r\\n\\r\\n\"}\n";
+    let own = concat!(
+        r#"{"do":"load","page":2,"url":"https://www.idp.example/","text":"HTTP/1.1 200 OK\r\nSet-Login: logged-in\r\n\r\n"}"#,
+        "\n",
+    );
     let other = "{\"do\":\"load\",\"page\":2,\"url\":\"https://www.idp.example/\"}\n";
     let input = [
-        HEADER, PAGE, own, GET, NEXT, HEADER, OTHER_PAGE, own, OTHER_GET,
+        HEADER, LOAD, own, GET, NEXT, HEADER, OTHER_PAGE, own, OTHER_GET,
     ];
     let record = "{\"compared\":2,\"out\":\"twins\",\"quiet\":3}\n";
     assert!(rt; tells(rt.alloc(), &input, Status::Done, record)?);
     let record = "{\"clause\":\"load\",\"event\":2,\"out\":\"not-twins\"}\n";
     for page in [other, OTHER_SHOP] {
         let input = [
-            HEADER, PAGE, own, GET, NEXT, HEADER, OTHER_PAGE, page, OTHER_GET,
+            HEADER, LOAD, own, GET, NEXT, HEADER, OTHER_PAGE, page, OTHER_GET,
         ];
         assert!(rt; tells(rt.alloc(), &input, Status::NotTwins, record)?);
     }
@@ -213,11 +230,11 @@ fn a_line_divides_two_scripts(rt: HostRuntime) -> Result<(), Fail> {
     assert!(rt; tells(alloc, &[], Status::BadScript, record)?);
     assert!(rt; tells(alloc, &[NEXT, HEADER], Status::BadScript, record)?);
     let record = "{\"cause\":\"no-next\",\"line\":3,\"out\":\"bad\"}\n";
-    assert!(rt; tells(alloc, &[HEADER, PAGE], Status::BadScript, record)?);
+    assert!(rt; tells(alloc, &[HEADER, LOAD], Status::BadScript, record)?);
     let record = "{\"cause\":\"not-json\",\"line\":4,\"out\":\"bad\"}\n";
-    assert!(rt; tells(alloc, &[HEADER, PAGE, NEXT], Status::BadScript, record)?);
+    assert!(rt; tells(alloc, &[HEADER, LOAD, NEXT], Status::BadScript, record)?);
     let record = "{\"cause\":\"no-kind\",\"line\":5,\"out\":\"bad\"}\n";
-    let twice = [HEADER, PAGE, NEXT, HEADER, NEXT];
+    let twice = [HEADER, LOAD, NEXT, HEADER, NEXT];
     assert!(rt; tells(alloc, &twice, Status::BadScript, record)?);
     let record = "{\"cause\":\"member\",\"line\":2,\"member\":\"call\",\"out\":\"bad\"}\n";
     let member = [HEADER, "{\"do\":\"abort\"}\n", NEXT];
@@ -225,13 +242,15 @@ fn a_line_divides_two_scripts(rt: HostRuntime) -> Result<(), Fail> {
     Ok(())
 }
 
-const KEPT: &str =
-    r#"{"do":"have","what":"kept","page":"https://rp.example/","provider":"https://accounts.idp.example/","account":"u1"}
-"#;
+const KEPT: &str = concat!(
+    r#"{"do":"have","what":"kept","page":"https://rp.example/","provider":"https://accounts.idp.example/","account":"u1"}"#,
+    "\n",
+);
 
-const KEPT_OTHER: &str =
-    r#"{"do":"have","what":"kept","page":"https://rp.example/","provider":"https://accounts.idp.example/","account":"u9"}
-"#;
+const KEPT_OTHER: &str = concat!(
+    r#"{"do":"have","what":"kept","page":"https://rp.example/","provider":"https://accounts.idp.example/","account":"u9"}"#,
+    "\n",
+);
 
 const SILENT: &str = r#"{"do":"have","what":"silent","origin":"https://rp.example/"}
 "#;
@@ -242,28 +261,37 @@ const OTHER_SILENT: &str = r#"{"do":"have","what":"silent","origin":"https://a.e
 const SHOP_SILENT: &str = r#"{"do":"have","what":"silent","origin":"https://shop.example/"}
 "#;
 
-const SILENT_GET: &str =
-    r#"{"do":"get","page":1,"call":1,"mediation":"silent","providers":[{"config":"https://accounts.idp.example/fedcm.json","client":"c1"}]}
-"#;
+const SILENT_GET: &str = concat!(
+    r#"{"do":"get","page":1,"call":1,"mediation":"silent","#,
+    r#""providers":[{"config":"https://accounts.idp.example/fedcm.json","client":"c1"}]}"#,
+    "\n",
+);
 
 const PREVENT: &str = r#"{"do":"prevent","page":1}
 "#;
 
-const DISCONNECT: &str =
-    r#"{"do":"disconnect","page":1,"call":3,"config":"https://accounts.idp.example/fedcm.json","client":"c1","hint":"u1"}
-"#;
+const DISCONNECT: &str = concat!(
+    r#"{"do":"disconnect","page":1,"call":3,"config":"https://accounts.idp.example/fedcm.json","client":"c1","hint":"u1"}"#,
+    "\n",
+);
 
-const OTHER_DISCONNECT: &str =
-    r#"{"do":"disconnect","page":1,"call":3,"config":"https://accounts.idp.example/fedcm.json","client":"x","hint":"u1"}
-"#;
+const OTHER_DISCONNECT: &str = concat!(
+    r#"{"do":"disconnect","page":1,"call":3,"config":"https://accounts.idp.example/fedcm.json","client":"x","hint":"u1"}"#,
+    "\n",
+);
 
-const DISCONNECT_WELL_KNOWN: &str =
-    r#"{"do":"reply","call":3,"to":"wellknown","text":"HTTP/1.1 200 OK\r\nContent-Type: application/json\r\n\r\n{\"provider_urls\":[\"https://accounts.idp.example/fedcm.json\"]}"}
-"#;
+const DISCONNECT_WELL_KNOWN: &str = concat!(
+    r#"{"do":"reply","call":3,"to":"wellknown","text":"HTTP/1.1 200 OK\r\nContent-Type: application/json\r\n\r\n"#,
+    r#"{\"provider_urls\":[\"https://accounts.idp.example/fedcm.json\"]}"}"#,
+    "\n",
+);
 
-const DISCONNECT_CONFIG: &str =
-    r#"{"do":"reply","call":3,"to":"config","text":"HTTP/1.1 200 OK\r\nContent-Type: application/json\r\n\r\n{\"accounts_endpoint\":\"/accounts\",\"id_assertion_endpoint\":\"/assert\",\"login_url\":\"/login\",\"disconnect_endpoint\":\"/disconnect\"}"}
-"#;
+const DISCONNECT_CONFIG: &str = concat!(
+    r#"{"do":"reply","call":3,"to":"config","text":"HTTP/1.1 200 OK\r\nContent-Type: application/json\r\n\r\n"#,
+    r#"{\"accounts_endpoint\":\"/accounts\",\"id_assertion_endpoint\":\"/assert\",\"login_url\":\"/login\","#,
+    r#"\"disconnect_endpoint\":\"/disconnect\"}"}"#,
+    "\n",
+);
 
 // A permission that is kept in one script alone is not compared; where an account is reselected by it, a token is asked for.
 #[test]
@@ -276,8 +304,20 @@ fn a_permission_may_be_kept_in_one_world(rt: HostRuntime) -> Result<(), Fail> {
         (KEPT, "{\"compared\":3,\"out\":\"twins\",\"quiet\":4}\n"),
     ] {
         let input = [
-            HEADER, kept, PAGE, GET, WELL_KNOWN, CONFIG, ACCOUNTS, NEXT, HEADER, OTHER_PAGE,
-            OTHER_GET, WELL_KNOWN, CONFIG, ACCOUNTS,
+            HEADER,
+            kept,
+            LOAD,
+            GET,
+            WELL_KNOWN_REPLY,
+            CONFIG,
+            ACCOUNTS,
+            NEXT,
+            HEADER,
+            OTHER_PAGE,
+            OTHER_GET,
+            WELL_KNOWN_REPLY,
+            CONFIG,
+            ACCOUNTS,
         ];
         assert!(rt;
             tells(rt.alloc(), &input, Status::Done, record)?,
@@ -293,7 +333,7 @@ fn flags_follow_origins(rt: HostRuntime) -> Result<(), Fail> {
     let input = [
         HEADER,
         SILENT,
-        PAGE,
+        LOAD,
         SILENT_GET,
         NEXT,
         HEADER,
@@ -306,7 +346,7 @@ fn flags_follow_origins(rt: HostRuntime) -> Result<(), Fail> {
     let input = [
         HEADER,
         SILENT,
-        PAGE,
+        LOAD,
         SILENT_GET,
         NEXT,
         HEADER,
@@ -322,7 +362,7 @@ fn flags_follow_origins(rt: HostRuntime) -> Result<(), Fail> {
     let input = [HEADER, SILENT, NEXT, HEADER, login];
     assert!(rt; tells(rt.alloc(), &input, Status::NotTwins, record)?);
     let input = [
-        HEADER, PAGE, PREVENT, SILENT_GET, NEXT, HEADER, OTHER_PAGE, PREVENT, SILENT_GET,
+        HEADER, LOAD, PREVENT, SILENT_GET, NEXT, HEADER, OTHER_PAGE, PREVENT, SILENT_GET,
     ];
     let record = "{\"compared\":0,\"out\":\"twins\",\"quiet\":3}\n";
     assert!(rt; tells(rt.alloc(), &input, Status::Done, record)?);
@@ -335,7 +375,7 @@ fn a_disconnect_may_begin_in_one_world(rt: HostRuntime) -> Result<(), Fail> {
     let input = [
         HEADER,
         KEPT,
-        PAGE,
+        LOAD,
         DISCONNECT,
         NEXT,
         HEADER,
@@ -347,7 +387,7 @@ fn a_disconnect_may_begin_in_one_world(rt: HostRuntime) -> Result<(), Fail> {
     let input = [
         HEADER,
         KEPT,
-        PAGE,
+        LOAD,
         DISCONNECT,
         DISCONNECT_WELL_KNOWN,
         DISCONNECT_CONFIG,
@@ -360,8 +400,10 @@ fn a_disconnect_may_begin_in_one_world(rt: HostRuntime) -> Result<(), Fail> {
     ];
     let record = "{\"compared\":0,\"out\":\"twins\",\"quiet\":3}\n";
     assert!(rt; tells(rt.alloc(), &input, Status::Done, record)?);
-    let other =
-        "{\"do\":\"disconnect\",\"page\":1,\"call\":3,\"config\":\"https://accounts.idp.example/fedcm.json\",\"client\":\"c1\",\"hint\":\"u2\"}\n";
+    let other = concat!(
+        r#"{"do":"disconnect","page":1,"call":3,"config":"https://accounts.idp.example/fedcm.json","client":"c1","hint":"u2"}"#,
+        "\n",
+    );
     let record = "{\"clause\":\"member\",\"event\":2,\"out\":\"not-twins\"}\n";
     assert!(rt; differ(rt.alloc(), DISCONNECT, other, record)?);
     Ok(())
@@ -372,7 +414,7 @@ fn a_disconnect_may_begin_in_one_world(rt: HostRuntime) -> Result<(), Fail> {
 fn a_page_of_a_disconnects_provider_is_seen(rt: HostRuntime) -> Result<(), Fail> {
     let own = "{\"do\":\"load\",\"page\":2,\"url\":\"https://www.idp.example/\"}\n";
     let input = [
-        HEADER, PAGE, own, DISCONNECT, NEXT, HEADER, OTHER_PAGE, OTHER_SHOP, DISCONNECT,
+        HEADER, LOAD, own, DISCONNECT, NEXT, HEADER, OTHER_PAGE, OTHER_SHOP, DISCONNECT,
     ];
     let record = "{\"clause\":\"load\",\"event\":2,\"out\":\"not-twins\"}\n";
     assert!(rt; tells(rt.alloc(), &input, Status::NotTwins, record)?);

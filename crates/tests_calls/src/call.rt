@@ -1,5 +1,7 @@
 //! Calls from their beginning to their accounts request.
-use crate::call_words::{Browser, CONFIG, PAGE, begin, follow, paged, with_status};
+use crate::browser::{Browser, with_status};
+use crate::call_words::{begin, follow, paged};
+use crate::values::{CONFIG, PAGE};
 use fed_io::NoRoom;
 use fed_origin::{LoginStatus, Mediation, Mode};
 use std::alloc::Global;

@@ -1,5 +1,6 @@
 //! Consents and tokens of calls.
-use crate::call_words::{Browser, follow};
+use crate::browser::Browser;
+use crate::call_words::follow;
 use std::test::Fail;
 
 const CHOSEN: &str = "wellknown linked both u1 | asserts u1 | asserting

@@ -1,5 +1,7 @@
 //! Accounts and dialogs of calls.
-use crate::call_words::{Browser, CONFIG, follow, with_permission, with_status};
+use crate::browser::{Browser, with_permission, with_status};
+use crate::call_words::follow;
+use crate::values::{CONFIG, PAGE};
 use fed_origin::{LoginStatus, Mediation};
 use std::test::Fail;
 
@@ -60,17 +62,17 @@ fn a_prompt_is_shown(rt: HostRuntime) -> Result<(), Fail> {
 
 #[test]
 fn a_kept_permission_connects(rt: HostRuntime) -> Result<(), Fail> {
-    let browser = with_permission(rt.alloc())?.mediated(Mediation::Required);
+    let browser = with_permission(rt.alloc(), PAGE)?.mediated(Mediation::Required);
     follow(&rt, rt.alloc(), &browser, PERMITTED)?;
-    let browser = with_permission(rt.alloc())?.prevented(rt.alloc())?;
+    let browser = with_permission(rt.alloc(), PAGE)?.prevented(rt.alloc())?;
     follow(&rt, rt.alloc(), &browser, PERMITTED)
 }
 
 #[test]
 fn a_kept_permission_reselects(rt: HostRuntime) -> Result<(), Fail> {
-    let browser = with_permission(rt.alloc())?;
+    let browser = with_permission(rt.alloc(), PAGE)?;
     follow(&rt, rt.alloc(), &browser, RESELECTED)?;
-    let browser = with_permission(rt.alloc())?.mediated(Mediation::Silent);
+    let browser = with_permission(rt.alloc(), PAGE)?.mediated(Mediation::Silent);
     follow(&rt, rt.alloc(), &browser, RESELECTED)
 }
 

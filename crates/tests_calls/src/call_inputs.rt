@@ -1,51 +1,26 @@
 //! Inputs of the calls in tests, each named by a word.
+use crate::replies::{DENIED, FILE, LOST, MEMBERS, OK, SHARED, reply};
 use fed_consent::Input;
-use fed_io::{Bytes, Items, NoRoom, Text};
+use fed_io::{Items, NoRoom, Text};
 use fed_origin::ReplyKind;
 use std::alloc::Global;
 
-const OK: &str = "HTTP/1.1 200 OK\r\nContent-Type: application/json\r\n\r\n";
-
-const SHARED: &str =
-    "HTTP/1.1 200 OK\r\nContent-Type: application/json\r\nAccess-Control-Allow-Origin: https://rp.example\r\nAccess-Control-Allow-Credentials: true\r\n\r\n";
-
-const DENIED: &str = "{\"error\":{\"code\":\"access_denied\"}}";
-
-const LOST: &str = "HTTP/1.1 404 Not Found\r\nContent-Type: application/json\r\n\r\n{}";
-
-const FILE: &str = "{\"provider_urls\":[\"https://accounts.idp.example/fedcm.json\"]}";
-
-const MEMBERS: &str =
-    "{\"accounts_endpoint\":\"/accounts\",\"id_assertion_endpoint\":\"/assert\",\"login_url\":\"/login\"}";
-
-const LINKED: &str =
-    "{\"accounts_endpoint\":\"/accounts\",\"id_assertion_endpoint\":\"/assert\",\"login_url\":\"/login\",\"client_metadata_endpoint\":\"/client\"}";
+const LINKED: &str = concat!(
+    "{\"accounts_endpoint\":\"/accounts\",\"id_assertion_endpoint\":\"/assert\",\"login_url\":\"/login\",",
+    "\"client_metadata_endpoint\":\"/client\"}",
+);
 
 const ANN: &str = "{\"accounts\":[{\"id\":\"u1\",\"name\":\"Ann\",\"email\":\"ann@idp.example\"}]}";
 
 const APPROVED: &str =
     "{\"accounts\":[{\"id\":\"u1\",\"name\":\"Ann\",\"email\":\"ann@idp.example\",\"approved_clients\":[\"c1\"]}]}";
 
-const BOTH: &str =
-    "{\"accounts\":[{\"id\":\"u1\",\"name\":\"Ann\",\"email\":\"ann@idp.example\",\"approved_clients\":[\"c1\"]},{\"id\":\"u2\",\"name\":\"Bob\",\"email\":\"bob@idp.example\"}]}";
+const BOTH: &str = concat!(
+    "{\"accounts\":[{\"id\":\"u1\",\"name\":\"Ann\",\"email\":\"ann@idp.example\",\"approved_clients\":[\"c1\"]},",
+    "{\"id\":\"u2\",\"name\":\"Bob\",\"email\":\"bob@idp.example\"}]}",
+);
 
 const LINKS: &str = "{\"privacy_policy_url\":\"https://rp.example/privacy\"}";
-
-fn reply(
-    alloc: Global,
-    provider: u32,
-    kind: ReplyKind,
-    head: &str,
-    body: &str,
-) -> Result<Input, NoRoom> {
-    let text = format!(in alloc; "{head}{body}")?;
-    let raw = Bytes::of(alloc, text.as_bytes())?;
-    Ok(Input::Reply {
-        provider,
-        kind,
-        raw,
-    })
-}
 
 fn choice(alloc: Global, provider: u32, id: &str) -> Result<Input, NoRoom> {
     let account = Text::of(alloc, id)?;

@@ -1,121 +1,16 @@
-//! Calls in tests: what they look at, and what they do, in words.
-ghost use Rattle.std.specs.Prelude.{◌≡◌, true, IfOk, length};
-ghost use Rattle.fed_origin.specs.Status.{is_known};
+//! Calls in tests: what they do, in words.
+ghost use Rattle.std.specs.Prelude.{◌≡◌, IfOk, length};
 
+use crate::browser::Browser;
 use crate::call_inputs::inputs;
+use crate::values::{CONFIG, PAGE, origin_of, provider};
 use fed_call::CallState;
 use fed_consent::{Ask, AssertionAsk, Dialog, Effect, Finish, Input};
-use fed_io::{Items, NoRoom, Text};
-use fed_origin::{
-    Context, GetOptions, LoginStatus, Mediation, Mode, Origin, ProviderOptions, Stage, Triple,
-    WebUrl,
-};
-use fed_status::{KeptSet, LoginMap, Shared, SilentFlags};
-use fed_suffix::Suffixes;
+use fed_io::{Items, NoRoom};
+use fed_origin::{Context, GetOptions, LoginStatus, Mediation, Mode, Stage};
 use std::alloc::Global;
 use std::process::Abort;
 use std::test::Fail;
-
-pub const PAGE: &str = "https://rp.example/";
-
-pub const CONFIG: &str = "https://accounts.idp.example/fedcm.json";
-
-// What the calls of a test look at.
-pub struct Browser {
-    rules: Suffixes,
-    login: LoginMap,
-    kept: KeptSet,
-    flags: SilentFlags,
-    // The mediation of the calls.
-    mediation: Mediation,
-}
-
-impl Drop for Browser {
-    fn drop(self) {
-        let Browser {
-            rules: _,
-            login: _,
-            kept: _,
-            flags: _,
-            mediation: _,
-        } = self;
-    }
-}
-
-impl Browser {
-    pub fn new(alloc: Global) -> Browser {
-        Browser {
-            rules: Suffixes::new(alloc),
-            login: LoginMap::new(alloc),
-            kept: KeptSet::new(alloc),
-            flags: SilentFlags::new(alloc),
-            mediation: Mediation::Optional,
-        }
-    }
-
-    // The same for calls of this mediation.
-    pub fn mediated(self, mediation: Mediation) -> Browser {
-        let mut browser = self;
-        browser.mediation = mediation;
-        browser
-    }
-
-    // The same where the flag of the page's origin is set.
-    pub fn prevented(self, alloc: Global) -> Result<Browser, NoRoom> {
-        let origin = page_origin(alloc, PAGE)?;
-        let mut browser = self;
-        browser.flags.set(&origin)?;
-        Ok(browser)
-    }
-
-    pub fn lent(&self) -> Shared<'_> {
-        Shared {
-            rules: &self.rules,
-            login: &self.login,
-            kept: &self.kept,
-            flags: &self.flags,
-        }
-    }
-}
-
-// What all calls look at where the origin of this URL has this status.
-pub fn with_status(alloc: Global, of: &str, status: LoginStatus) -> Result<Browser, NoRoom>
-    requires { is_known status ≡ true }
-{
-    let origin = page_origin(alloc, of)?;
-    let mut browser = Browser::new(alloc);
-    browser.login.set(&origin, status)?;
-    Ok(browser)
-}
-
-// What calls look at where ann may sign in at the page.
-pub fn with_permission(alloc: Global) -> Result<Browser, NoRoom> {
-    let mut browser = Browser::new(alloc);
-    browser.kept.add(Triple {
-        page: page_origin(alloc, PAGE)?,
-        provider: page_origin(alloc, CONFIG)?,
-        account: Text::of(alloc, "u1")?,
-    })?;
-    Ok(browser)
-}
-
-fn url(alloc: Global, text: &str) -> Result<WebUrl, NoRoom> {
-    match WebUrl::read(alloc, text) {
-        Ok(url) => Ok(url),
-        Err(_) => Err(NoRoom),
-    }
-}
-
-fn provider(alloc: Global, config: &str) -> Result<ProviderOptions, NoRoom> {
-    Ok(ProviderOptions {
-        config: url(alloc, config)?,
-        client: Text::of(alloc, "c1")?,
-        nonce: None,
-        login_hint: None,
-        domain_hint: None,
-        params: None,
-    })
-}
 
 fn options(
     alloc: Global,
@@ -151,13 +46,8 @@ fn with_word(call: (CallState, Items<Effect>)) -> Seen {
     }
 }
 
-fn page_origin(alloc: Global, text: &str) -> Result<Origin, NoRoom> {
-    let url = url(alloc, text)?;
-    Origin::of_url(alloc, &url)
-}
-
 pub fn begin(alloc: Global, config: &str, mode: Mode, browser: &Browser) -> Result<Seen, NoRoom> {
-    let origin = page_origin(alloc, PAGE)?;
+    let origin = origin_of(alloc, PAGE)?;
     let options = options(alloc, config, mode, browser.mediation)?;
     match CallState::start(alloc, 1, 7, origin, options, &browser.lent()) {
         Ok(call) => Ok(with_word(call)),

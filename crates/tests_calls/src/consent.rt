@@ -1,22 +1,16 @@
 //! Requests, words and consents.
 ghost use Rattle.std.specs.Prelude.{◌≡◌, IfOk, length};
 
+use crate::values::{provider_with_nonce, url};
 use fed_accounts::{Accounts, read_accounts, reselect};
 use fed_consent::{
     Ask, Chooser, Consent, Detail, FailStep, Failure, Finish, Picked, Prompt, Reselection, Why,
 };
 use fed_io::{Items, NoRoom, Text};
-use fed_origin::{Endpoint, Mediation, Origin, ProviderOptions, ReplyKind, WebUrl};
+use fed_origin::{Endpoint, Mediation, Origin, ProviderOptions, ReplyKind};
 use fed_reply::ReplyStep;
 use std::alloc::Global;
 use std::test::Fail;
-
-fn url(alloc: Global, text: &str) -> Result<WebUrl, NoRoom> {
-    match WebUrl::read(alloc, text) {
-        Ok(url) => Ok(url),
-        Err(_) => Err(NoRoom),
-    }
-}
 
 fn metadata(alloc: Global) -> Result<Ask, NoRoom> {
     let to = url(alloc, "https://accounts.idp.example/client")?;
@@ -82,17 +76,6 @@ fn accounts(alloc: Global, raw: &[u8]) -> Result<Accounts, NoRoom> {
     }
 }
 
-fn options(alloc: Global) -> Result<ProviderOptions, NoRoom> {
-    Ok(ProviderOptions {
-        config: url(alloc, "https://accounts.idp.example/fedcm.json")?,
-        client: Text::of(alloc, "c1")?,
-        nonce: Some(Text::of(alloc, "n1")?),
-        login_hint: None,
-        domain_hint: None,
-        params: None,
-    })
-}
-
 // Whether this request asks for a token for the first account, and says this of what the user was shown.
 fn is_said(ask: &Ask, disclosure: bool) -> bool {
     match ask {
@@ -156,7 +139,7 @@ fn asks(
 
 // Whether a prompt that waits makes no consent, and, once it is ready, a request that says this.
 fn goes_on(alloc: Global, connected: bool, disclosure: bool) -> Result<bool, NoRoom> {
-    let options = options(alloc)?;
+    let options = provider_with_nonce(alloc)?;
     let origin = Origin::of_url(alloc, &options.config)?;
     match prompt(alloc, connected)? {
         Some(prompt) => match too_early(prompt) {
@@ -261,7 +244,7 @@ fn is_silent(ask: &Ask, id: &str) -> bool {
 
 // Whether a token for this account is asked for without the user.
 fn asks_silently(alloc: Global, kept: &[bool], id: &str) -> Result<bool, NoRoom> {
-    let options = options(alloc)?;
+    let options = provider_with_nonce(alloc)?;
     let origin = Origin::of_url(alloc, &options.config)?;
     match reselection(alloc, kept)? {
         Some(again) => {

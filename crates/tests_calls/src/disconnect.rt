@@ -1,5 +1,7 @@
 //! Disconnect calls by the rows of their table.
-use crate::disconnect_words::{Browser, CONFIG, PAGE, begin, follow, paged, with_permission};
+use crate::browser::{Browser, with_permission};
+use crate::disconnect_words::{begin, follow, paged};
+use crate::values::{CONFIG, PAGE};
 use fed_io::NoRoom;
 use std::alloc::Global;
 use std::test::Fail;

@@ -1,44 +1,19 @@
 //! Inputs of the disconnect calls in tests, each named by a word.
+use crate::replies::{DENIED, FILE, LOST, MEMBERS, OK, SHARED, reply};
 use fed_consent::Input;
-use fed_io::{Bytes, Items, NoRoom};
+use fed_io::{Items, NoRoom};
 use fed_origin::ReplyKind;
 use std::alloc::Global;
 
-const OK: &str = "HTTP/1.1 200 OK\r\nContent-Type: application/json\r\n\r\n";
+const SHARED_LOST: &str = concat!(
+    "HTTP/1.1 404 Not Found\r\nContent-Type: application/json\r\n",
+    "Access-Control-Allow-Origin: https://rp.example\r\nAccess-Control-Allow-Credentials: true\r\n\r\n{}",
+);
 
-const LOST: &str = "HTTP/1.1 404 Not Found\r\nContent-Type: application/json\r\n\r\n{}";
-
-const SHARED: &str =
-    "HTTP/1.1 200 OK\r\nContent-Type: application/json\r\nAccess-Control-Allow-Origin: https://rp.example\r\nAccess-Control-Allow-Credentials: true\r\n\r\n";
-
-const SHARED_LOST: &str =
-    "HTTP/1.1 404 Not Found\r\nContent-Type: application/json\r\nAccess-Control-Allow-Origin: https://rp.example\r\nAccess-Control-Allow-Credentials: true\r\n\r\n{}";
-
-const FILE: &str = "{\"provider_urls\":[\"https://accounts.idp.example/fedcm.json\"]}";
-
-const MEMBERS: &str =
-    "{\"accounts_endpoint\":\"/accounts\",\"id_assertion_endpoint\":\"/assert\",\"login_url\":\"/login\"}";
-
-const WITH_DISCONNECT: &str =
-    "{\"accounts_endpoint\":\"/accounts\",\"id_assertion_endpoint\":\"/assert\",\"login_url\":\"/login\",\"disconnect_endpoint\":\"/disconnect\"}";
-
-const DENIED: &str = "{\"error\":{\"code\":\"access_denied\"}}";
-
-fn reply(
-    alloc: Global,
-    provider: u32,
-    kind: ReplyKind,
-    head: &str,
-    body: &str,
-) -> Result<Input, NoRoom> {
-    let text = format!(in alloc; "{head}{body}")?;
-    let raw = Bytes::of(alloc, text.as_bytes())?;
-    Ok(Input::Reply {
-        provider,
-        kind,
-        raw,
-    })
-}
+const WITH_DISCONNECT: &str = concat!(
+    "{\"accounts_endpoint\":\"/accounts\",\"id_assertion_endpoint\":\"/assert\",\"login_url\":\"/login\",",
+    "\"disconnect_endpoint\":\"/disconnect\"}",
+);
 
 // The kind, the head and the body of the first reply that a word names; any other word is a well-known reply with no file.
 fn first(word: &str) -> (ReplyKind, &'static str, &'static str) {

@@ -1,81 +1,14 @@
-//! Disconnect calls in tests: what they look at, and what they do, in words.
-
+//! Disconnect calls in tests: what they do, in words.
+use crate::browser::Browser;
 use crate::disconnect_inputs::inputs;
+use crate::values::{CONFIG, PAGE, origin_of, url};
 use fed_consent::{Ask, Effect, Failure, Finish, Input};
 use fed_disconnect::DState;
 use fed_io::{Items, NoRoom, Text};
-use fed_origin::{Origin, Stage, Triple, WebUrl};
-use fed_status::{KeptSet, LoginMap, Shared, SilentFlags};
-use fed_suffix::Suffixes;
+use fed_origin::Stage;
 use std::alloc::Global;
 use std::process::Abort;
 use std::test::Fail;
-
-pub const PAGE: &str = "https://rp.example/";
-
-pub const CONFIG: &str = "https://accounts.idp.example/fedcm.json";
-
-// What the calls of a test look at.
-pub struct Browser {
-    rules: Suffixes,
-    login: LoginMap,
-    kept: KeptSet,
-    flags: SilentFlags,
-}
-
-impl Drop for Browser {
-    fn drop(self) {
-        let Browser {
-            rules: _,
-            login: _,
-            kept: _,
-            flags: _,
-        } = self;
-    }
-}
-
-impl Browser {
-    pub fn new(alloc: Global) -> Browser {
-        Browser {
-            rules: Suffixes::new(alloc),
-            login: LoginMap::new(alloc),
-            kept: KeptSet::new(alloc),
-            flags: SilentFlags::new(alloc),
-        }
-    }
-
-    pub fn lent(&self) -> Shared<'_> {
-        Shared {
-            rules: &self.rules,
-            login: &self.login,
-            kept: &self.kept,
-            flags: &self.flags,
-        }
-    }
-}
-
-// What calls look at where the account `u1` of the provider may sign in at pages of this URL's origin.
-pub fn with_permission(alloc: Global, page: &str) -> Result<Browser, NoRoom> {
-    let mut browser = Browser::new(alloc);
-    browser.kept.add(Triple {
-        page: origin_of(alloc, page)?,
-        provider: origin_of(alloc, CONFIG)?,
-        account: Text::of(alloc, "u1")?,
-    })?;
-    Ok(browser)
-}
-
-fn url(alloc: Global, text: &str) -> Result<WebUrl, NoRoom> {
-    match WebUrl::read(alloc, text) {
-        Ok(url) => Ok(url),
-        Err(_) => Err(NoRoom),
-    }
-}
-
-fn origin_of(alloc: Global, text: &str) -> Result<Origin, NoRoom> {
-    let url = url(alloc, text)?;
-    Origin::of_url(alloc, &url)
-}
 
 // What a call did at an event, in words: the permissions that go, what else it did, and what more is known of a failure.
 #[derive(Clone, Copy)]

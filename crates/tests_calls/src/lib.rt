@@ -2,6 +2,8 @@
 #![tactic(auto)]
 
 #[cfg(test)]
+mod browser;
+#[cfg(test)]
 mod call;
 #[cfg(test)]
 mod call_assertions;
@@ -20,4 +22,8 @@ mod disconnect_inputs;
 #[cfg(test)]
 mod disconnect_words;
 #[cfg(test)]
+mod replies;
+#[cfg(test)]
 mod request;
+#[cfg(test)]
+mod values;

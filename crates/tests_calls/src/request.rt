@@ -3,6 +3,7 @@ ghost use Rattle.std.specs.Prelude.{ℕ, List, IfOk, IfSome};
 ghost use Rattle.fed_cookie.specs.SetCookie.{HasNoLineEnd};
 ghost use Rattle.fed_request.specs.Request.{TakesCookies};
 
+use crate::values::{PAGE, origin_of, provider_with_nonce, url};
 use fed_accounts::{Accounts, read_accounts};
 use fed_consent::{Ask, Consent, Prompt};
 use fed_io::{NoRoom, Text};
@@ -40,17 +41,6 @@ const DISCONNECT: &[u8] =
 
 const DISCONNECT_WITH_COOKIES: &[u8] =
     b"POST /bye HTTP/1.1\r\nHost: accounts.idp.example\r\nAccept: application/json\r\nSec-Fetch-Dest: webidentity\r\nOrigin: https://rp.example\r\nContent-Type: application/x-www-form-urlencoded\r\nContent-Length: 28\r\nCookie: a=5\r\n\r\nclient_id=c1&account_hint=u1";
-
-fn url(alloc: Global, text: &str) -> Result<WebUrl, NoRoom> {
-    match WebUrl::read(alloc, text) {
-        Ok(url) => Ok(url),
-        Err(_) => Err(NoRoom),
-    }
-}
-
-fn page(alloc: Global) -> Result<Origin, NoRoom> {
-    Origin::of_url(alloc, &url(alloc, "https://rp.example/")?)
-}
 
 fn has_bytes(alloc: Global, ask: &Ask, cookies: &[u8], expected: &[u8]) -> Result<bool, NoRoom>
     requires line { HasNoLineEnd cookies.now }
@@ -90,7 +80,7 @@ fn metadata_is(
 ) -> Result<bool, NoRoom> {
     let to = url(alloc, endpoint)?;
     let client = Text::of(alloc, client)?;
-    let origin = page(alloc)?;
+    let origin = origin_of(alloc, PAGE)?;
     has_bytes(alloc, &Ask::Metadata { to, client, origin }, b"", expected)
 }
 
@@ -101,7 +91,7 @@ fn disconnect(alloc: Global) -> Result<Ask, NoRoom>
         to: url(alloc, "https://accounts.idp.example/bye")?,
         client: Text::of(alloc, "c1")?,
         hint: Text::of(alloc, "u1")?,
-        origin: page(alloc)?,
+        origin: origin_of(alloc, PAGE)?,
     })
 }
 
@@ -183,17 +173,6 @@ fn only_account(alloc: Global) -> Result<Accounts, NoRoom> {
     }
 }
 
-fn options(alloc: Global) -> Result<ProviderOptions, NoRoom> {
-    Ok(ProviderOptions {
-        config: url(alloc, "https://accounts.idp.example/fedcm.json")?,
-        client: Text::of(alloc, "c1")?,
-        nonce: Some(Text::of(alloc, "n1")?),
-        login_hint: None,
-        domain_hint: None,
-        params: None,
-    })
-}
-
 // The prompt for the only account; none where other accounts were read.
 fn prompt(alloc: Global) -> Result<Option<Prompt>, NoRoom> {
     let accounts = only_account(alloc)?;
@@ -243,8 +222,8 @@ fn assertion(alloc: Global) -> Result<Option<Ask>, NoRoom>
     ensures { IfOk result (λ asked. IfSome asked (λ ask. (cookies : List ℕ) → TakesCookies ask cookies)) }
 {
     let to = url(alloc, "https://accounts.idp.example/assert")?;
-    let origin = page(alloc)?;
-    let options = options(alloc)?;
+    let origin = origin_of(alloc, PAGE)?;
+    let options = provider_with_nonce(alloc)?;
     match prompt(alloc)? {
         Some(prompt) => asked(alloc, prompt, &to, &origin, &options),
         None => Ok(None),

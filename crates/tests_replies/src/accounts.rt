@@ -1,11 +1,11 @@
 //! Lists of accounts as they come, and which accounts a call is about.
+use crate::steps::reply_name;
 use fed_accounts::{
     Account, Accounts, AccountsStep, connected, eligible, keep_hinted, read_accounts, read_hinted,
     reselect,
 };
 use fed_io::{Fault, NoRoom, Text};
 use fed_origin::Mediation;
-use fed_reply::ReplyStep;
 use std::alloc::{AllocError, Global};
 use std::process::Abort;
 use std::test::Fail;
@@ -90,19 +90,6 @@ const CLIENTS: &str = r#"[{"id":"u1","name":"","email":""},
 {"id":"u2","name":"","email":"","approved_clients":["c0","c1"]},
 {"id":"u3","name":"","email":"","approved_clients":["other"]},
 {"id":"u4","name":"","email":"","approved_clients":["c1"]}]"#;
-
-fn reply_name(step: ReplyStep) -> &'static str {
-    match step {
-        ReplyStep::Head => "head",
-        ReplyStep::Coding => "coding",
-        ReplyStep::Length => "length",
-        ReplyStep::Chunk => "chunk",
-        ReplyStep::Short => "short",
-        ReplyStep::Status => "status",
-        ReplyStep::Mime => "mime",
-        ReplyStep::Json => "json",
-    }
-}
 
 fn step_name(step: AccountsStep) -> &'static str {
     match step {

@@ -8,4 +8,6 @@ mod provider;
 #[cfg(test)]
 mod reply;
 #[cfg(test)]
+mod steps;
+#[cfg(test)]
 mod token;

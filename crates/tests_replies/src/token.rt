@@ -1,7 +1,8 @@
 //! Replies of the assertion and the disconnect endpoints, and the step at which they are refused.
+use crate::steps::reply_name;
 use fed_io::{Fault, NoRoom, Text};
 use fed_origin::{Origin, WebUrl};
-use fed_reply::{ReplyStep, read_reply};
+use fed_reply::read_reply;
 use fed_token::{TokenStep, cors_passes, read_assertion, read_disconnect};
 use std::alloc::Global;
 use std::process::Abort;
@@ -73,19 +74,6 @@ status | HTTP/1.1 500 No~Access-Control-Allow-Origin: https://rp.example~Access-
 status | HTTP/1.1 302 No~Access-Control-Allow-Origin: https://rp.example~Access-Control-Allow-Credentials: true~Content-Type: application/json~~{"token":"T1"}
 mime | HTTP/1.1 200 OK~Access-Control-Allow-Origin: https://rp.example~Access-Control-Allow-Credentials: true~Content-Type: text/html~~{
 json | HTTP/1.1 200 OK~Access-Control-Allow-Origin: https://rp.example~Access-Control-Allow-Credentials: true~Content-Type: application/json~~{"#;
-
-fn reply_name(step: ReplyStep) -> &'static str {
-    match step {
-        ReplyStep::Head => "head",
-        ReplyStep::Coding => "coding",
-        ReplyStep::Length => "length",
-        ReplyStep::Chunk => "chunk",
-        ReplyStep::Short => "short",
-        ReplyStep::Status => "status",
-        ReplyStep::Mime => "mime",
-        ReplyStep::Json => "json",
-    }
-}
 
 fn error_line(alloc: Global, code: &Text, url: &Option<Text>) -> Result<String, Fail> {
     let code = code.as_str();

@@ -27,7 +27,17 @@ impl Model for AssertionAsk {
 
     ghost Value = { AssertionFields };
 
-    ghost view = { λ a. record { to = a.to; origin = a.origin; client = a.client; nonce = a.nonce; params = a.params; account = a.account; disclosure = a.disclosure; auto = is_auto a.manner } };
+    ghost view = { λ a. record {
+      to = a.to;
+      origin = a.origin;
+      client = a.client;
+      nonce = a.nonce;
+      params = a.params;
+      account = a.account;
+      disclosure =
+          a.disclosure;
+      auto = is_auto a.manner;
+    } };
 }
 
 impl AssertionAsk {

@@ -33,7 +33,12 @@ impl Prompt {
     ) -> Prompt
         requires { length accounts ≡ 1 }
         ensures waits { result.waits ≡ waits }
-        ensures pick { result.pick ≡ record { call = call; provider = provider; candidate = record { account = result.pick.candidate.account; connected = connected } } }
+        ensures pick { result.pick ≡ record {
+          call = call;
+          provider = provider;
+          candidate =
+              record { account = result.pick.candidate.account; connected = connected };
+        } }
         ensures account { slice_get accounts 0 ≡ Some result.pick.candidate.account }
     {
         Prompt {

@@ -1,5 +1,6 @@
 -- Parts of bytes hold no line end where the whole holds none.
-use Rattle.std.proofs.Common.{◌≡◌, ℕ, ◌+◌, zero, suc, Bool, true, false, ◌||◌, List, [], ◌∷◌, take, drop, Option, Some, None, position, option_map, refl, ap, arith}
+use Rattle.std.proofs.Common.{◌≡◌, ℕ, ◌+◌, zero, suc, Bool, true, false, ◌||◌, List, [], ◌∷◌, take, drop, Option, Some, None, position}
+use Rattle.std.proofs.Common.{option_map, refl, ap, arith}
 use Rattle.std.specs.Prelude.{◌==◌}
 use Rattle.std.specs.List.{list_any}
 use Rattle.std.proofs.lemmas.Bool.Decides.{nat_tests}
@@ -33,7 +34,8 @@ any_trimmed p xs e = any_take p _ _ (any_drop p _ xs e)
 
 -- what is cut off holds none
 cut_clean : (p : ℕ → Bool) (xs : List ℕ) (place : Option ℕ) (a b : List ℕ) → list_any p xs ≡ false
-    → ◌≡◌ {A = Option (List ℕ × List ℕ)} (Some (a, b)) (option_map (λ i. (take i xs, drop (i + 1) xs)) place) → (list_any p a ≡ false) × (list_any p b ≡ false)
+    → ◌≡◌ {A = Option (List ℕ × List ℕ)} (Some (a, b)) (option_map (λ i. (take i xs, drop (i + 1) xs)) place)
+    → (list_any p a ≡ false) × (list_any p b ≡ false)
 cut_clean p xs None a b e h = absurd (cc)
 cut_clean p xs (Some i) a b e h =
     let both : ◌≡◌ {A = List ℕ × List ℕ} (a, b) (take i xs, drop (i + 1) xs) = cc in
@@ -41,12 +43,15 @@ cut_clean p xs (Some i) a b e h =
     let r : b ≡ drop (i + 1) xs = ap (λ (r : List ℕ × List ℕ). r.1) both in
     (rw l (any_take p i xs e), rw r (any_drop p (i + 1) xs e))
 
-pub clean_cut : (p : ℕ → Bool) (byte : ℕ) (xs a b : List ℕ) → list_any p xs ≡ false → ◌≡◌ {A = Option (List ℕ × List ℕ)} (Some (a, b)) (cut_at byte xs)
+pub clean_cut : (p : ℕ → Bool) (byte : ℕ) (xs a b : List ℕ) → list_any p xs ≡ false
+    → ◌≡◌ {A = Option (List ℕ × List ℕ)} (Some (a, b)) (cut_at byte xs)
     → (list_any p a ≡ false) × (list_any p b ≡ false)
 clean_cut p byte xs a b e h = cut_clean p xs (position (λ c. c == byte) xs) a b e h
 
 trimmed_clean : (p : ℕ → Bool) (xs : List ℕ) (place : Option ℕ) (a b : List ℕ) → list_any p xs ≡ false
-    → ◌≡◌ {A = Option (List ℕ × List ℕ)} (Some (a, b)) (option_map (λ r. (trimmed r.0, trimmed r.1)) (option_map {U = List ℕ × List ℕ} (λ i. (take i xs, drop (i + 1) xs)) place))
+    → ◌≡◌ {A =
+    Option (List ℕ × List ℕ)} (Some (a, b)) (option_map (λ r. (trimmed r.0, trimmed r.1))
+    (option_map {U = List ℕ × List ℕ} (λ i. (take i xs, drop (i + 1) xs)) place))
     → (list_any p a ≡ false) × (list_any p b ≡ false)
 trimmed_clean p xs None a b e h = absurd (cc)
 trimmed_clean p xs (Some i) a b e h =
@@ -56,7 +61,8 @@ trimmed_clean p xs (Some i) a b e h =
     (rw l (any_trimmed p _ (any_take p i xs e)), rw r (any_trimmed p _ (any_drop p (i + 1) xs e)))
 
 -- name and value of a part hold none
-pub clean_named : (p : ℕ → Bool) (xs a b : List ℕ) → list_any p xs ≡ false → ◌≡◌ {A = Option (List ℕ × List ℕ)} (Some (a, b)) (named_value xs)
+pub clean_named : (p : ℕ → Bool) (xs a b : List ℕ) → list_any p xs ≡ false
+    → ◌≡◌ {A = Option (List ℕ × List ℕ)} (Some (a, b)) (named_value xs)
     → (list_any p a ≡ false) × (list_any p b ≡ false)
 clean_named p xs a b e h = trimmed_clean p xs (position (λ c. c == 61) xs) a b e h
 

@@ -1,5 +1,6 @@
 -- Lemmas on lists that the readers share.
-use Rattle.std.proofs.Common.{◌≡◌, ℕ, ◌+◌, ◌<◌, ◌≤◌, Bool, cond, List, [], ◌∷◌, length, take, drop, get_or, Some, None, position, sym, ap, ◌∙◌, subst, arith}
+use Rattle.std.proofs.Common.{◌≡◌, ℕ, ◌+◌, ◌<◌, ◌≤◌, Bool, cond, List, [], ◌∷◌, length, take, drop, get_or, Some, None, position, sym, ap}
+use Rattle.std.proofs.Common.{◌∙◌, subst, arith}
 use Rattle.std.specs.Prelude.{nat_lt}
 use Rattle.fed_cookie.specs.Bytes.{number_of}
 use Rattle.std.specs.List.{slice_split, position_or_len}
@@ -9,7 +10,8 @@ use Rattle.std.proofs.lemmas.Bool.Decides.{nat_tests}
 use Rattle.std.proofs.Common.{length-drop, ◌-◌}
 use Rattle.std.proofs.lemmas.List.{take_all}
 
-at_place : (p : ℕ → Bool) (xs : List ℕ) (i : ℕ) → cond (nat_lt (position_or_len p xs) (length xs)) (Some (position_or_len p xs)) None ≡ Some i
+at_place : (p : ℕ → Bool) (xs : List ℕ) (i : ℕ)
+    → cond (nat_lt (position_or_len p xs) (length xs)) (Some (position_or_len p xs)) None ≡ Some i
     → (position_or_len p xs ≡ i) × (i < length xs)
 at_place p xs i e = grind (arith, nat_tests)
 
@@ -44,7 +46,8 @@ four_digits (a ∷ b ∷ []) h short = let p : a < 256 = h 0 (omega arith) in le
 four_digits (a ∷ b ∷ d ∷ []) h short =
     let p : a < 256 = h 0 (omega arith) in let q : b < 256 = h 1 (omega arith) in let r : d < 256 = h 2 (omega arith) in omega arith
 four_digits (a ∷ b ∷ d ∷ e ∷ []) h short =
-    let p : a < 256 = h 0 (omega arith) in let q : b < 256 = h 1 (omega arith) in let r : d < 256 = h 2 (omega arith) in let s : e < 256 = h 3 (omega arith) in omega arith
+    let p : a < 256 = h 0 (omega arith) in let q : b < 256 = h 1 (omega arith) in let r : d < 256 = h 2 (omega arith) in let s : e < 256 =
+    h 3 (omega arith) in omega arith
 four_digits (a ∷ b ∷ d ∷ e ∷ f ∷ more) h short = absurd (omega arith)
 
 -- the same, in the words of `&xs[i + 1..]`
@@ -52,5 +55,6 @@ pub split_at_range : (p : ℕ → Bool) (xs : List ℕ) (i : ℕ) → position p
     → slice_split p xs ≡ take i xs ∷ slice_split p (take (length xs - (i + 1)) (drop (i + 1) xs))
 split_at_range p xs i e =
     let h = place_within p xs i e in
-    let same : take (length xs - (i + 1)) (drop (i + 1) xs) ≡ drop (i + 1) xs = take_all (length xs - (i + 1)) (drop (i + 1) xs) (omega (arith, length-drop (i + 1) xs)) in
+    let same : take (length xs - (i + 1)) (drop (i + 1) xs) ≡ drop (i + 1) xs =
+    take_all (length xs - (i + 1)) (drop (i + 1) xs) (omega (arith, length-drop (i + 1) xs)) in
     split_at p xs i e ∙ ap (λ rest. take i xs ∷ slice_split p rest) (sym same)

@@ -1,9 +1,11 @@
 -- What `httparse` answers, in the words of the functions of the bytes.
-use Rattle.std.proofs.Common.{◌≡◌, ℕ, ◌+◌, ◌<◌, ◌≤◌, Bool, true, false, List, [], ◌∷◌, length, map, drop, All, Option, Some, None, refl, sym, ap, subst, ◌∙◌, rules, arith, length-append}
+use Rattle.std.proofs.Common.{◌≡◌, ℕ, ◌+◌, ◌<◌, ◌≤◌, Bool, true, false, List, [], ◌∷◌, length, map, drop, All, Option, Some, None, refl}
+use Rattle.std.proofs.Common.{sym, ap, subst, ◌∙◌, rules, arith, length-append}
 use Rattle.std.specs.Prelude.{nat_le, IfSome, IfNone}
 use Rattle.std.specs.Bool.{OnTrue, OnFalse}
 use Rattle.std.proofs.lemmas.List.{length-map}
-use Rattle.httparse.specs.Grammar.{ResponseHead, ReadsResponse, status_code, Field, LineEnd, ReadsSection, ChunkLine, HasNoChunkLine, print_chunk_line}
+use Rattle.httparse.specs.Grammar.{ResponseHead, ReadsResponse, status_code, Field, LineEnd, ReadsSection, ChunkLine, HasNoChunkLine}
+use Rattle.httparse.specs.Grammar.{print_chunk_line}
 use Rattle.httparse.specs.Spans.{IsHeaderWithin, name_and_value, IsChunkLineAt}
 use Rattle.httparse.specs.declared.spans.HeaderSpan.{HeaderSpan}
 use Rattle.fed_head.specs.declared.read.HeadSpans.{HeadSpans}
@@ -31,7 +33,8 @@ trimmed_fields (f ∷ fs) = ap (λ t. name_and_value f ∷ t) (trimmed_fields fs
 inside_whole : (len n : ℕ) (spans : List HeaderSpan) → len ≤ n → All (IsHeaderWithin len) spans → All (IsHeaderWithin n) spans
 inside_whole len n spans le all = λ k d lt. let h = all k d lt in ((h.0.0, omega (arith, h.0.1)), (h.1.0, omega (arith, h.1.1)))
 
-head_some : (raw : List ℕ) (spans : List HeaderSpan) (n : ℕ) (found : HeadSpans) (h : ResponseHead) → length h.fields ≤ n → IsResponseFound raw spans found h → FindsHead raw spans (within n (head_of raw)) (Some found)
+head_some : (raw : List ℕ) (spans : List HeaderSpan) (n : ℕ) (found : HeadSpans) (h : ResponseHead) → length h.fields ≤ n
+    → IsResponseFound raw spans found h → FindsHead raw spans (within n (head_of raw)) (Some found)
 head_some raw spans n found h few at =
     let head : HeadParts = record { status = status_code h; fields = map field_pair h.fields; rest = drop found.len raw } in
     let small : length (map field_pair h.fields) ≤ n = rw (length-map h.fields field_pair) few in (
@@ -47,11 +50,13 @@ head_some raw spans n found h few at =
       },
     )
 
-none_by : (raw : List ℕ) (n : ℕ) → ((h : ResponseHead) (rest : List ℕ) → ReadsResponse raw h rest → ¬ (length h.fields ≤ n)) → (o : Option HeadParts) → head_of raw ≡ o → within n o ≡ None
+none_by : (raw : List ℕ) (n : ℕ) → ((h : ResponseHead) (rest : List ℕ) → ReadsResponse raw h rest → ¬ (length h.fields ≤ n))
+    → (o : Option HeadParts) → head_of raw ≡ o → within n o ≡ None
 none_by raw n many None is = refl
 none_by raw n many (Some found) is =
     let at = head_found raw found is in
-    within_none n found (λ small. many at.head found.rest at.reads (subst (λ k. k ≤ n) (ap length at.fields ∙ length-map at.head.fields field_pair) small))
+    within_none n found (λ small. many at.head found.rest at.reads (subst (λ k. k ≤ n)
+    (ap length at.fields ∙ length-map at.head.fields field_pair) small))
 
 pub head_answered : (raw : List ℕ) (spans : List HeaderSpan) (n : ℕ) (r : Option HeadSpans)
     → IfSome r (λ found. (h : ResponseHead) × (length h.fields ≤ n) × IsResponseFound raw spans found h)
@@ -62,15 +67,18 @@ head_answered raw spans n (Some found) some none = head_some raw spans n found s
 
 -- ---- a trailer
 
-no_section : (raw : List ℕ) (n : ℕ) → ((fields : List Field) (last : LineEnd) (rest : List ℕ) → ReadsSection raw fields last rest → ¬ (length fields ≤ n)) → (o : Option (List FieldPair × List ℕ)) → section_of raw ≡ o → false ≡ is_section_within n o
+no_section : (raw : List ℕ) (n : ℕ) → ((fields : List Field) (last : LineEnd) (rest : List ℕ) → ReadsSection raw fields last rest
+    → ¬ (length fields ≤ n)) → (o : Option (List FieldPair × List ℕ)) → section_of raw ≡ o → false ≡ is_section_within n o
 no_section raw n many None is = refl
 no_section raw n many (Some s) is =
     let at = section_found raw s.0 s.1 is in
-    let long : ¬ (length s.0 ≤ n) = λ small. many at.0 at.1 s.1 at.2 (subst (λ k. k ≤ n) (ap length (sym at.3) ∙ length-map at.0 field_pair) small) in
+    let long : ¬ (length s.0 ≤ n) =
+    λ small. many at.0 at.1 s.1 at.2 (subst (λ k. k ≤ n) (ap length (sym at.3) ∙ length-map at.0 field_pair) small) in
     let t : nat_le (length s.0) n ≡ false = grind (rules, arith, long) in
     sym t
 
-pub some_section : (raw : List ℕ) (n : ℕ) (fields : List Field) (last : LineEnd) (rest : List ℕ) → ReadsSection raw fields last rest → length fields ≤ n → true ≡ has_section n raw
+pub some_section : (raw : List ℕ) (n : ℕ) (fields : List Field) (last : LineEnd) (rest : List ℕ) → ReadsSection raw fields last rest
+    → length fields ≤ n → true ≡ has_section n raw
 some_section raw n fields last rest reads few =
     let small : length (map field_pair fields) ≤ n = rw (length-map fields field_pair) few in
     let t : nat_le (length (map field_pair fields)) n ≡ true = search (rules, small) in
@@ -95,9 +103,11 @@ pub line_is_some : (l : ChunkLine) → 0 < length l.digits → 0 < length (print
 unfolding print_chunk_line
 line_is_some l some = simp length-append (omega arith)
 
-size_some : (raw : List ℕ) (found : SizeLine) (l : ChunkLine) → IsChunkLineAt raw found.len found.size l → FindsSize raw (size_line raw) (Some found)
+size_some : (raw : List ℕ) (found : SizeLine) (l : ChunkLine) → IsChunkLineAt raw found.len found.size l
+    → FindsSize raw (size_line raw) (Some found)
 size_some raw found l at =
-    let whole : length raw ≡ length (print_chunk_line l) + length (drop found.len raw) = ap length at.reads.1 ∙ length-append (print_chunk_line l) (drop found.len raw) in
+    let whole : length raw ≡ length (print_chunk_line l) + length (drop found.len raw) =
+    ap length at.reads.1 ∙ length-append (print_chunk_line l) (drop found.len raw) in
     let some = line_is_some l at.reads.0.digits.0 in (
       subst (λ n. size_line raw ≡ Some (n, drop found.len raw)) (sym at.size_is) (size_line_reads raw l (drop found.len raw) at.reads),
       omega (arith, some, at.len_is),

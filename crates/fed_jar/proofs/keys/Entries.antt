@@ -31,7 +31,8 @@ same_keys a b r s e =
 pub cookies-insert_entry : (entries : List (CookieKey × CookieRest)) (key : CookieKey) (rest : CookieRest)
     → entry_cookies (insert_entry eq-value.it entries key rest) ≡ with_cookie (entry_cookies entries) (cookie_at key rest)
 cookies-insert_entry [] key rest = refl
-cookies-insert_entry (e ∷ entries) key rest = pick (same_key (cookie_at key rest) (entry_cookie e)) refl (cookies-insert_entry entries key rest)
+cookies-insert_entry (e ∷ entries) key rest =
+    pick (same_key (cookie_at key rest) (entry_cookie e)) refl (cookies-insert_entry entries key rest)
   where
     pick : (b : Bool) → same_key (cookie_at key rest) (entry_cookie e) ≡ b
         → entry_cookies (insert_entry eq-value.it entries key rest) ≡ with_cookie (entry_cookies entries) (cookie_at key rest)
@@ -41,12 +42,14 @@ cookies-insert_entry (e ∷ entries) key rest = pick (same_key (cookie_at key re
     pick false t h = ap (λ l. entry_cookie e ∷ l) h
 
 apart_cookies : (key : CookieKey) (rest : CookieRest) (entries : List (CookieKey × CookieRest))
-    → AllByRecursion (λ k. eq-value.it key k ≡ false) (keys_of entries) → AllByRecursion (λ c. same_key (cookie_at key rest) c ≡ false) (entry_cookies entries)
+    → AllByRecursion (λ k. eq-value.it key k ≡ false) (keys_of entries)
+    → AllByRecursion (λ c. same_key (cookie_at key rest) c ≡ false) (entry_cookies entries)
 apart_cookies key rest [] all = tt
 apart_cookies key rest (e ∷ entries) all = (all.0, apart_cookies key rest entries all.1)
 
 -- keys of a map are apart, and so are its cookies
-pub distinct_cookies : (entries : List (CookieKey × CookieRest)) → IsDistinct eq-value.it (keys_of entries) → AreDistinct (entry_cookies entries)
+pub distinct_cookies : (entries : List (CookieKey × CookieRest)) → IsDistinct eq-value.it (keys_of entries)
+    → AreDistinct (entry_cookies entries)
 unfolding IsDistinct
 distinct_cookies [] d = tt
 distinct_cookies (e ∷ entries) d = (apart_cookies e.0 e.1 entries d.0, distinct_cookies entries d.1)

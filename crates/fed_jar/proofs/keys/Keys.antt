@@ -11,13 +11,17 @@ pub record SameKey (a b : StoredCookie) : Type 0 where
 
 pub key_is : (a b : StoredCookie) → same_key a b ≡ true → SameKey a b
 key_is a b e =
-    let d = Decides-and _ _ (bytes_eq-Decides a.name b.name) (Decides-and _ _ (bytes_eq-Decides a.domain b.domain) (bytes_eq-Decides a.path b.path)) in
+    let d =
+    Decides-and _ _ (bytes_eq-Decides a.name b.name)
+    (Decides-and _ _ (bytes_eq-Decides a.domain b.domain) (bytes_eq-Decides a.path b.path)) in
     let t = d.0 e in
     record { name = t.0; domain = t.1.0; path = t.1.1 }
 
 pub is_key : (a b : StoredCookie) → SameKey a b → same_key a b ≡ true
 is_key a b h =
-    let d = Decides-and _ _ (bytes_eq-Decides a.name b.name) (Decides-and _ _ (bytes_eq-Decides a.domain b.domain) (bytes_eq-Decides a.path b.path)) in
+    let d =
+    Decides-and _ _ (bytes_eq-Decides a.name b.name)
+    (Decides-and _ _ (bytes_eq-Decides a.domain b.domain) (bytes_eq-Decides a.path b.path)) in
     d.1 (h.name, (h.domain, h.path))
 
 -- a test of one cookie says the same of another with the same key
@@ -34,4 +38,9 @@ pub key_flip : (a b : StoredCookie) → SameKey a b → SameKey b a
 key_flip a b h = record { name = sym h.name; domain = sym h.domain; path = sym h.path }
 
 pub key_comm : (a b : StoredCookie) → same_key a b ≡ same_key b a
-key_comm a b = same_from_decides {P = SameKey a b} (same_key a b) (same_key b a) (key_is a b, is_key a b) (λ e. key_flip b a (key_is b a e), λ h. is_key b a (key_flip a b h))
+key_comm a b =
+    same_from_decides {P =
+    SameKey a b} (same_key a b) (same_key b a) (key_is a b, is_key a b) (
+      λ e. key_flip b a (key_is b a e),
+      λ h. is_key b a (key_flip a b h),
+    )

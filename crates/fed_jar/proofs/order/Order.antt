@@ -1,5 +1,6 @@
 -- A list in order by a number is fixed by the lists of the items that tie.
-use Rattle.std.proofs.Common.{◌≡◌, ℕ, ◌<◌, ◌≤◌, suc, Bool, true, false, cond, not, ◌&&◌, List, [], ◌∷◌, sym, refl, ap, ◌∙◌, ⊎_elim, arith, map}
+use Rattle.std.proofs.Common.{◌≡◌, ℕ, ◌<◌, ◌≤◌, suc, Bool, true, false, cond, not, ◌&&◌, List, [], ◌∷◌, sym, refl, ap, ◌∙◌, ⊎_elim, arith}
+use Rattle.std.proofs.Common.{map}
 use Rattle.std.specs.Bool.{⊤}
 use Rattle.std.specs.Prelude.{nat_lt, nat_le, filter, ◌⊎◌}
 use Rattle.std.specs.List.{AllByRecursion}
@@ -100,7 +101,8 @@ put_below : {X : Type 0} (n : X → ℕ) (m : ℕ) (x : X) (xs : List X) → n x
 put_below n m x [] le all = (le, tt)
 put_below {X} n m x (y ∷ ys) le all = pick (nat_le (n y) (n x)) (put_below n m x ys le all.1)
   where
-    pick : (b : Bool) → AllByRecursion (λ z. n z ≤ m) (put_by n x ys) → AllByRecursion (λ z. n z ≤ m) (cond b (x ∷ y ∷ ys) (y ∷ put_by n x ys))
+    pick : (b : Bool) → AllByRecursion (λ z. n z ≤ m) (put_by n x ys)
+        → AllByRecursion (λ z. n z ≤ m) (cond b (x ∷ y ∷ ys) (y ∷ put_by n x ys))
     pick true rest = (le, all)
     pick false rest = (all.0, rest)
 
@@ -142,7 +144,8 @@ largest_ties n z [] = refl
 largest_ties n z (x ∷ xs) = put_ties n z x (largest_first n xs) ∙ ap (λ l. cond (tie n z x) (x ∷ l) l) (largest_ties n z xs)
 
 -- what a sort says by places, as a recursion
-first_bound : {X : Type 0} (n : X → ℕ) (x : X) (xs : List X) → IsSortedBy (before_by n) (x ∷ xs) → Descends n xs → AllByRecursion (λ y. n y ≤ n x) xs
+first_bound : {X : Type 0} (n : X → ℕ) (x : X) (xs : List X) → IsSortedBy (before_by n) (x ∷ xs) → Descends n xs
+    → AllByRecursion (λ y. n y ≤ n x) xs
 first_bound n x [] s d = tt
 first_bound n x (y ∷ ys) s d =
     let low : n y ≤ n x = not_above (n x) (n y) (s 0 x (omega arith) (omega arith)) in
@@ -154,7 +157,9 @@ first_bound n x (y ∷ ys) s d =
 pub sorted_descends : {X : Type 0} (n : X → ℕ) (xs : List X) → IsSortedBy (before_by n) xs → Descends n xs
 sorted_descends n [] s = tt
 sorted_descends n (x ∷ xs) s =
-    let rest = sorted_descends n xs (λ k d low high. let h = s (suc k) d (omega arith) (omega arith) in simp unary_clauses (simp unary_clauses at h)) in
+    let rest =
+    sorted_descends n xs (λ k d low high. let h = s (suc k) d (omega arith) (omega arith) in
+    simp unary_clauses (simp unary_clauses at h)) in
     (first_bound n x xs s rest, rest)
 
 -- a stable sort by a number is `largest_first`
@@ -185,6 +190,7 @@ put-map {X} {Y} f n x (y ∷ ys) = pick (nat_le (n (f y)) (n (f x))) (put-map f 
     pick true h = refl
     pick false h = ap (λ l. f y ∷ l) h
 
-pub largest-map : {X Y : Type 0} (f : X → Y) (n : Y → ℕ) (xs : List X) → map f (largest_first (λ z. n (f z)) xs) ≡ largest_first n (map f xs)
+pub largest-map : {X Y : Type 0} (f : X → Y) (n : Y → ℕ) (xs : List X)
+    → map f (largest_first (λ z. n (f z)) xs) ≡ largest_first n (map f xs)
 largest-map f n [] = refl
 largest-map f n (x ∷ xs) = put-map f n x _ ∙ ap (put_by n (f x)) (largest-map f n xs)

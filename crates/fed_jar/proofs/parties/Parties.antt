@@ -1,5 +1,6 @@
 -- What parties have to do with storing and sending.
-use Rattle.std.proofs.Common.{◌≡◌, ℕ, Bool, true, false, cond, ◌&&◌, List, [], ◌∷◌, Option, Some, None, unwrap_or, option_map, sym, refl, ap, ◌∙◌, rules}
+use Rattle.std.proofs.Common.{◌≡◌, ℕ, Bool, true, false, cond, ◌&&◌, List, [], ◌∷◌, Option, Some, None, unwrap_or, option_map, sym, refl}
+use Rattle.std.proofs.Common.{ap, ◌∙◌, rules}
 use Rattle.std.specs.Prelude.{bytes_eq, filter, Result, Ok, Err, OnOk, OnErr}
 use Rattle.std.proofs.lemmas.Slice.Eq.{bytes_eq-Decides}
 use Rattle.url.specs.Parts.{Parts}
@@ -45,7 +46,8 @@ scope_party rules host domain false false only w e h = absurd (cc)
 named_party : (rules : RuleSet) (host : List ℕ) (domain : Option (List ℕ)) (only : Bool) → host_only_of rules host domain ≡ Some only
     → party rules (unwrap_or domain host) ≡ party rules host
 named_party rules host None only e = refl
-named_party rules host (Some domain) only e = scope_party rules host domain (is_within rules host domain) (bytes_eq domain host) only refl refl e
+named_party rules host (Some domain) only e =
+    scope_party rules host domain (is_within rules host domain) (bytes_eq domain host) only refl refl e
 
 taken : (b only : Bool) (o : Option Bool) → cond b None o ≡ Some only → o ≡ Some only
 taken true only o e = absurd (cc)
@@ -123,7 +125,8 @@ filter_within p q h (c ∷ cs) = pick (q c) refl (filter_within p q h cs)
     fails false out e = e
     fails true out e = absurd (let r : true ≡ false = sym (h c e) ∙ out in cc)
 
-    pick : (b : Bool) → q c ≡ b → filter p (filter q cs) ≡ filter p cs → filter p (cond b (c ∷ filter q cs) (filter q cs)) ≡ filter p (c ∷ cs)
+    pick : (b : Bool) → q c ≡ b → filter p (filter q cs) ≡ filter p cs
+        → filter p (cond b (c ∷ filter q cs) (filter q cs)) ≡ filter p (c ∷ cs)
     pick true e rest = ap (λ l. cond (p c) (c ∷ l) l) rest
     pick false e rest = rest ∙ sym (ap (λ b. cond b (c ∷ filter p cs) (filter p cs)) (fails (p c) e refl))
 
@@ -145,12 +148,14 @@ own_part_is_written rules name w (c ∷ cs) own = pick (same_key w c) refl (own_
     kept : (b : Bool) → same_key w c ≡ false
         → cond b (c ∷ with_cookie (filter (is_of_party rules name) cs) w) (with_cookie (filter (is_of_party rules name) cs) w)
         ≡ with_cookie (cond b (c ∷ filter (is_of_party rules name) cs) (filter (is_of_party rules name) cs)) w
-    kept true ne = sym (ap (λ t. cond t (w ∷ filter (is_of_party rules name) cs) (c ∷ with_cookie (filter (is_of_party rules name) cs) w)) ne)
+    kept true ne =
+        sym (ap (λ t. cond t (w ∷ filter (is_of_party rules name) cs) (c ∷ with_cookie (filter (is_of_party rules name) cs) w)) ne)
     kept false ne = refl
 
     pick : (b : Bool) → same_key w c ≡ b
         → filter (is_of_party rules name) (with_cookie cs w) ≡ with_cookie (filter (is_of_party rules name) cs) w
-        → filter (is_of_party rules name) (cond b (w ∷ cs) (c ∷ with_cookie cs w)) ≡ with_cookie (filter (is_of_party rules name) (c ∷ cs)) w
+        → filter (is_of_party rules name) (cond b (w ∷ cs) (c ∷ with_cookie cs w))
+        ≡ with_cookie (filter (is_of_party rules name) (c ∷ cs)) w
     pick true is ih =
         let theirs = filter (is_of_party rules name) cs in
         let own_too : is_of_party rules name c ≡ true = sym (of_key rules name w c (key_is w c is)) ∙ own in
@@ -166,7 +171,8 @@ part_is_of_writes rules name cs (w ∷ ws) = part_is_of_writes rules name (with_
   where
     go : (b : Bool) → is_of_party rules name w ≡ b
         → cookies_after (filter (is_of_party rules name) (with_cookie cs w)) (filter (is_of_party rules name) ws)
-        ≡ cookies_after (filter (is_of_party rules name) cs) (cond b (w ∷ filter (is_of_party rules name) ws) (filter (is_of_party rules name) ws))
+        ≡ cookies_after (filter (is_of_party rules name) cs) (cond b (w ∷ filter (is_of_party rules name) ws)
+        (filter (is_of_party rules name) ws))
     go true is = ap (λ l. cookies_after l (filter (is_of_party rules name) ws)) (own_part_is_written rules name w cs is)
     go false is = ap (λ l. cookies_after l (filter (is_of_party rules name) ws)) (other_parts_stay rules name w cs is)
 

@@ -95,7 +95,8 @@ spread F w (c ∷ cs) d = pick (same_key w c) refl (spread F w cs d.1)
   where
     pick : (b : Bool) → same_key w c ≡ b
         → map (λ y. F (renewed w y)) cs ++ fresh F w (list_any (same_key w) cs) ≡ map F (with_cookie cs w)
-        → F (renewed w c) ∷ (map (λ y. F (renewed w y)) cs ++ fresh F w (b || list_any (same_key w) cs)) ≡ map F (cond b (w ∷ cs) (c ∷ with_cookie cs w))
+        → F (renewed w c) ∷ (map (λ y. F (renewed w y)) cs ++ fresh F w (b || list_any (same_key w) cs))
+        ≡ map F (cond b (w ∷ cs) (c ∷ with_cookie cs w))
     pick true e h =
         let head : F (renewed w c) ≡ F w = ap F (renewed_yes w c (key_comm c w ∙ e)) in
         let rest : map (λ y. F (renewed w y)) cs ++ [] ≡ map F cs = append-nil _ ∙ kept F w cs (all_apart w c cs (key_is w c e) d.0) in

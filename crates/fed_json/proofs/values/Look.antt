@@ -7,42 +7,43 @@ use Rattle.std.specs.Prelude.{is_some, MatchOption}
 use Rattle.json.specs.Token.{Token}
 use Rattle.json.specs.Json as json
 use Rattle.json.specs.Find as find
-use Rattle.json.specs.Find.{later_or, BeginsWith, HasValue, InItems, InMembers, NextItem}
+use Rattle.json.specs.Find.{later_or, BeginsWith, HasValue, InItems, InMembers, NextItem, NextMember}
 use Rattle.serde_json.specs.Data.{Num, Data, no_items, item, Members, no_members, put}
 use Rattle.serde_json.specs.Find.{get, get_member, at, get_item, as_null, as_number, as_array, as_object, as_str, as_u64}
 use Rattle.serde_json.specs.Read.{number_of}
 use Rattle.serde_json.proofs.Views.{get_member-put, get_member-put_other}
 use Rattle.fed_json.specs.Part.{number_or_false, data_of, items_of, members_after, data_at, items_at, HasItems}
-use Rattle.fed_json.proofs.values.Range.{data_at-BeginsWith, items_at-InItems}
+use Rattle.fed_json.specs.Part.{members_at, data_or, HasMembers}
+use Rattle.fed_json.proofs.values.Range.{data_at-BeginsWith, items_at-InItems, members_at-InMembers}
 
-abbrev data_or : Option json.Json → Option Data → Option Data
-data_or None earlier = earlier
-data_or (Some j) earlier = Some (data_of j)
+abbrev seen_or : Option json.Json → Option Data → Option Data
+seen_or None earlier = earlier
+seen_or (Some j) earlier = Some (data_of j)
 
 one_member : (name k : List ℕ) (j : json.Json) (found : Members) (b : Bool) → bytes_eq k name ≡ b
-    → get_member name (put k (data_of j) found) ≡ data_or (cond b (Some j) None) (get_member name found)
+    → get_member name (put k (data_of j) found) ≡ seen_or (cond b (Some j) None) (get_member name found)
 one_member name k j found true is =
     let same = (bytes_eq-Decides k name).0 is in
     ap (λ n. get_member n (put k (data_of j) found)) (sym same) ∙ get_member-put k (data_of j) found
 one_member name k j found false is =
     get_member-put_other name k (data_of j) found (λ same. true≢false (sym ((bytes_eq-Decides k name).1 (sym same)) ∙ is))
 
-then_one : (o p : Option json.Json) (before after : Option Data) → after ≡ data_or p before
-    → data_or o after ≡ data_or (later_or o p) before
+then_one : (o p : Option json.Json) (before after : Option Data) → after ≡ seen_or p before
+    → seen_or o after ≡ seen_or (later_or o p) before
 then_one None p before after e = e
 then_one (Some j) p before after e = refl
 
 members_after-get : (name : List ℕ) (ms : json.Members) (found : Members)
-    → get_member name (members_after ms found) ≡ data_or (find.get_member name ms) (get_member name found)
+    → get_member name (members_after ms found) ≡ seen_or (find.get_member name ms) (get_member name found)
 members_after-get name json.no_members found = refl
 members_after-get name (json.member k j ms) found =
     members_after-get name ms (put k (data_of j) found)
     ∙ then_one (find.get_member name ms) (cond (bytes_eq k name) (Some j) None) (get_member name found) _
     (one_member name k j found (bytes_eq k name) refl)
 
-data_or-none : (o : Option json.Json) → data_or o None ≡ option_map data_of o
-data_or-none None = refl
-data_or-none (Some j) = refl
+seen_or-none : (o : Option json.Json) → seen_or o None ≡ option_map data_of o
+seen_or-none None = refl
+seen_or-none (Some j) = refl
 
 get-number : (name : List ℕ) (o : Option Num) → get name (number_or_false o) ≡ None
 get-number name None = refl
@@ -54,7 +55,7 @@ get-data_of name (json.boolean b) = refl
 get-data_of name (json.number s) = get-number name (number_of s)
 get-data_of name (json.string s) = refl
 get-data_of name (json.array js) = refl
-get-data_of name (json.object ms) = members_after-get name ms no_members ∙ data_or-none (find.get_member name ms)
+get-data_of name (json.object ms) = members_after-get name ms no_members ∙ seen_or-none (find.get_member name ms)
 
 at-number : (n : ℕ) (o : Option Num) → at n (number_or_false o) ≡ None
 at-number n None = refl
@@ -207,3 +208,74 @@ next-left old ts new left next = let f = next left.0 left.1 in (f.1, f.4)
 
 pub no-item : (old new : List Token) → HasItems old → NextItem old None new → items_at old ≡ no_items
 no-item old new left next = items_at-InItems old left.0 left.1 ∙ ap items_of (next left.0 left.1)
+
+-- ---- members of objects
+
+object_of-number : (o : Option Num) → as_object (number_or_false o) ≡ None
+object_of-number None = refl
+object_of-number (Some n) = refl
+
+abbrev all_of : json.Members → Members
+all_of ms = members_after ms no_members
+
+as_object-data_of : (j : json.Json) → as_object (data_of j) ≡ option_map all_of (find.as_object j)
+as_object-data_of json.null = refl
+as_object-data_of (json.boolean b) = refl
+as_object-data_of (json.number s) = object_of-number (number_of s)
+as_object-data_of (json.string s) = refl
+as_object-data_of (json.array js) = refl
+as_object-data_of (json.object ms) = refl
+
+-- members that stand here have their data here
+pub found-members : (ts rest : List Token) → HasValue ts
+    → ((j : json.Json) → BeginsWith ts j → (ms : json.Members) × (j ≡ json.object ms) × InMembers rest ms)
+    → Some (members_at rest) ≡ as_object (data_at ts)
+found-members ts rest here h =
+    let f = h here.0 here.1 in
+    sym (ap as_object (data_at-BeginsWith ts here.0 here.1 ∙ ap data_of f.1)
+    ∙ ap (λ ms. Some ms) (sym (members_at-InMembers rest f.0 f.2)))
+
+pub has-members : (ts rest : List Token) → HasValue ts
+    → ((j : json.Json) → BeginsWith ts j → (ms : json.Members) × (j ≡ json.object ms) × InMembers rest ms) → HasMembers rest
+has-members ts rest here h = let f = h here.0 here.1 in (f.0, f.2)
+
+pub no-object : (ts : List Token) → HasValue ts → ((j : json.Json) → BeginsWith ts j → find.as_object j ≡ None)
+    → None ≡ as_object (data_at ts)
+no-object ts here h =
+    sym (ap as_object (data_at-BeginsWith ts here.0 here.1) ∙ as_object-data_of here.0 ∙ ap (option_map all_of) (h here.0 here.1))
+
+-- what the members here have under a name
+left-get : (name : List ℕ) (ts : List Token) (ms : json.Members) → InMembers ts ms
+    → get_member name (members_at ts) ≡ seen_or (find.get_member name ms) None
+left-get name ts ms h = ap (get_member name) (members_at-InMembers ts ms h) ∙ members_after-get name ms no_members
+
+later_then : (o p : Option json.Json) → seen_or (later_or o p) None ≡ data_or (seen_or o None) (seen_or p None)
+later_then None p = refl
+later_then (Some j) p = refl
+
+one_seen : (b : Bool) (j : json.Json) (d : Data) → d ≡ data_of j → seen_or (cond b (Some j) None) None ≡ cond b (Some d) None
+one_seen true j d e = ap (λ x. Some x) (sym e)
+one_seen false j d e = refl
+
+-- the next member, and the members after it
+pub next-member : (name : List ℕ) (old : List Token) (key : List ℕ) (ts new : List Token) → HasMembers old
+    → NextMember old (Some (key, ts)) new
+    → get_member name (members_at old) ≡ data_or (get_member name (members_at new)) (cond (bytes_eq key name) (Some (data_at ts)) None)
+next-member name old key ts new left next =
+    let f = next left.0 left.1 in
+    left-get name old left.0 left.1 ∙ ap (λ ms. seen_or (find.get_member name ms) None) f.2
+    ∙ later_then (find.get_member name f.1) (cond (bytes_eq key name) (Some f.0) None)
+    ∙ ap₂ data_or (sym (left-get name new f.1 f.4)) (one_seen (bytes_eq key name) f.0 (data_at ts) (data_at-BeginsWith ts f.0 f.3))
+
+pub member-value : (old : List Token) (key : List ℕ) (ts new : List Token) → HasMembers old → NextMember old (Some (key, ts)) new
+    → HasValue ts
+member-value old key ts new left next = let f = next left.0 left.1 in (f.0, f.3)
+
+pub members-left : (old : List Token) (key : List ℕ) (ts new : List Token) → HasMembers old → NextMember old (Some (key, ts)) new
+    → HasMembers new
+members-left old key ts new left next = let f = next left.0 left.1 in (f.1, f.4)
+
+pub no-member : (name : List ℕ) (old new : List Token) → HasMembers old → NextMember old None new
+    → get_member name (members_at old) ≡ None
+no-member name old new left next =
+    left-get name old left.0 left.1 ∙ ap (λ ms. seen_or (find.get_member name ms) None) (next left.0 left.1)

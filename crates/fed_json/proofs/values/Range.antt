@@ -7,7 +7,7 @@ use Rattle.json.specs.Token.{Token}
 use Rattle.json.specs.Lex.{tokens}
 use Rattle.json.specs.Json as json
 use Rattle.json.specs.Json.{value, if_last, document}
-use Rattle.json.specs.Find.{BeginsWith, InItems}
+use Rattle.json.specs.Find.{BeginsWith, InItems, InMembers}
 use Rattle.json.specs.Tree.{json_tokens, items_tokens, members_tokens}
 use Rattle.json.specs.Tree as tree
 use Rattle.json.proofs.Found.{one_reading, not_found, Some_inj}
@@ -16,7 +16,8 @@ use Rattle.json.proofs.Printed.Trees.{value-json_tokens}
 use Rattle.serde_json.specs.Data.{Num, Data, number, array, object, item, Members, no_members, put}
 use Rattle.serde_json.specs.Read.{number_of, of_json, of_items, of_members, read}
 use Rattle.fed_json.specs.Part.{number_or_false, data_of, items_of, members_after, or_null, data_at, or_no_items, items_at, room_left}
-use Rattle.fed_json.proofs.values.Split.{value-split, items-split, depth-length, items_depth-length}
+use Rattle.fed_json.specs.Part.{or_no_members, members_at}
+use Rattle.fed_json.proofs.values.Split.{value-split, items-split, members-split, depth-length, items_depth-length, members_depth-length}
 
 -- ---- what a walk over the tokens of a value finds
 
@@ -222,6 +223,31 @@ items_at-InItems ts js h =
     let read = value-json_tokens (json.array js) (suc (length ts)) h.2 enough in
     ap items_of (in_array (json.items (value (length ts)) (length ts) ts) js h.2
     (ap (λ us. value (suc (length ts)) (Token.begin_array ∷ us)) split ∙ read))
+
+abbrev within : json.Json → json.Members
+within json.null = json.no_members
+within (json.boolean b) = json.no_members
+within (json.number s) = json.no_members
+within (json.string s) = json.no_members
+within (json.array js) = json.no_members
+within (json.object ms) = ms
+
+in_object : (o : Option (json.Members × List Token)) (ms : json.Members) (r : List Token)
+    → json.parse_map json.object o ≡ Some (json.object ms, r)
+    → or_no_members o ≡ ms
+in_object None ms r e = not_found (json.object ms, r) e
+in_object (Some p) ms r e = ap (λ x. within (or_null x)) e
+
+-- the members that stand here are those that are read here
+pub members_at-InMembers : (ts : List Token) (ms : json.Members) → InMembers ts ms → members_at ts ≡ members_after ms no_members
+unfolding members_at value
+members_at-InMembers ts ms h =
+    let split = members-split h.0 h.1 ts h.2 ms h.3 in
+    let enough : tree.depth (json.object ms) ≤ suc (length ts) =
+    omega (arith, members_depth-length ms, ap length split, length-append (members_tokens ms) h.2) in
+    let read = value-json_tokens (json.object ms) (suc (length ts)) h.2 enough in
+    ap (λ found. members_after found no_members) (in_object (json.members (value (length ts)) (length ts) ts) ms h.2
+    (ap (λ us. value (suc (length ts)) (Token.begin_object ∷ us)) split ∙ read))
 
 abbrev whole : Option (json.Json × List Token) → Option Data
 whole o = option_and_then of_json (option_and_then (λ p. if_last p.0 p.1) o)

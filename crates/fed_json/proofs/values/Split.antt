@@ -103,6 +103,9 @@ value-split d ts r j e = subst (IsSplit json_tokens ts) e (Splits-value d ts)
 pub items-split : (d n : ℕ) (ts r : List Token) (js : Items) → items (value d) n ts ≡ Some (js, r) → ts ≡ items_tokens js ++ r
 items-split d n ts r js e = subst (IsSplit items_tokens ts) e (Splits-items (value d) (Splits-value d) n ts)
 
+pub members-split : (d n : ℕ) (ts r : List Token) (ms : Members) → members (value d) n ts ≡ Some (ms, r) → ts ≡ members_tokens ms ++ r
+members-split d n ts r ms e = subst (IsSplit members_tokens ts) e (Splits-members (value d) (Splits-value d) n ts)
+
 -- each level has a token of its own
 mutual
   pub depth-length : (j : Json) → depth j ≤ length (json_tokens j)
@@ -117,7 +120,7 @@ mutual
   items_depth-length no_items = omega arith
   items_depth-length (item j js) = omega (arith, depth-length j, items_depth-length js, length-append (json_tokens j) (items_tokens js))
 
-  members_depth-length : (ms : Members) → members_depth ms ≤ length (members_tokens ms)
+  pub members_depth-length : (ms : Members) → members_depth ms ≤ length (members_tokens ms)
   members_depth-length no_members = omega arith
   members_depth-length (member k j ms) =
       omega (arith, depth-length j, members_depth-length ms, length-append (json_tokens j) (members_tokens ms))

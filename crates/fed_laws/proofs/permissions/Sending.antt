@@ -15,7 +15,7 @@ use Rattle.fed_consent.specs.declared.table.finish.Finish.{Finish}
 use Rattle.fed_consent.specs.declared.table.input.Input.{Input}
 use Rattle.fed_consent.specs.declared.table.input.Input.TheVariants as inputs
 use Rattle.fed_consent.specs.Outcomes as outcomes
-use Rattle.fed_consent.specs.Outcomes.{Outcome, only_place}
+use Rattle.fed_consent.specs.Outcomes.{Outcome}
 use Rattle.fed_disconnect.specs.Facts.{DisconnectFacts, DisconnectOptions}
 use Rattle.fed_disconnect.specs.Facts as disconnect
 use Rattle.fed_script.specs.declared.event.Event.{Event}

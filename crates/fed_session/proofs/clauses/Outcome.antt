@@ -1,5 +1,5 @@
 -- What an outcome of a call writes and sets.
-use Rattle.std.proofs.Common.{◌≡◌, ℕ, List, [], ◌∷◌, ◌++◌, Some, None, refl, sym, ap, ◌∙◌, append-nil}
+use Rattle.std.proofs.Common.{true, ◌≡◌, ℕ, List, [], ◌∷◌, ◌++◌, Some, None, refl, sym, ap, ◌∙◌, append-nil}
 use Rattle.std.proofs.lemmas.List.Elements.{filter_map-append}
 use Rattle.std.specs.Prelude.{Option, option_map}
 use Rattle.std.specs.List.{filter_map, flat_map, cons_option}
@@ -121,7 +121,7 @@ outcome_logins world cookies kind call page outcome logins =
 
 -- what a get does is what is done by a call that is known so
 pub get_does : (world : World) (facts : Option Facts) (input : Input)
-    → (call_row world facts input).effects ≡ (outcome_at world (Some (option_map OfGet facts)) input).effects
+    → (call_row world facts input).effects ≡ (outcome_at world true (option_map OfGet facts) input).effects
 get_does world None input = refl
 get_does world (Some facts) input = refl
 

@@ -3,9 +3,9 @@ use Rattle.std.proofs.Common.{◌≡◌, ℕ, Bool, true, false, nat_eq, ◌⊎�
 use Rattle.std.proofs.Common.{length, refl, sym, ap}
 use Rattle.std.proofs.Common.{subst, ◌∙◌, arith, cond}
 use Rattle.std.proofs.lemmas.Bool.Decides.{nat_tests}
-use Rattle.std.specs.Prelude.{Option, slice_get, Ok, Err, Result as Answer, is_some, option_map, option_and_then, unwrap_or}
-use Rattle.std.specs.Option.{option_map_or, option_or}
-use Rattle.std.specs.Map.{lookup, set_value, keys_of}
+use Rattle.std.specs.Prelude.{Option, slice_get, Ok, Err, Result as Answer, is_some, option_map, unwrap_or}
+use Rattle.std.specs.Option.{option_or}
+use Rattle.std.specs.Map.{lookup, keys_of}
 use Rattle.std.specs.List.{filter_map, list_any}
 use Rattle.indexmap.specs.IndexMap.{insert_entry}
 use Rattle.url.specs.Parts.{Parts}
@@ -35,43 +35,42 @@ use Rattle.fed_call.specs.ReadingRows as get
 use Rattle.fed_disconnect.specs.Facts.{provider_origin}
 use Rattle.fed_disconnect.specs.Rows as disconnect
 use Rattle.fed_script.specs.declared.event.Event.{Event}
-use Rattle.fed_trace.specs.Begun.{Begun, CallKind, GetCall, DisconnectCall, CallOptions, ToGet, ToDisconnect, kind_asked}
+use Rattle.fed_trace.specs.Begun.{Begun, CallKind, GetCall, DisconnectCall, CallOptions, ToGet, ToDisconnect, is_get, kind_asked}
 use Rattle.fed_trace.specs.Call.{Known, OfGet, OfDisconnect, kind_of, at_stage, fresh, known_first, first_row, started}
 use Rattle.fed_trace.specs.Effect.{PendingCall, pending_from, Begin, Ignored, last_of, page_change, login_change, kept_change, flag_change}
 use Rattle.fed_trace.specs.Effect.{call_change, stage_change, begun_by, begins, written_by, time_of}
 use Rattle.fed_trace.specs.Keyed.{entries_after, last_said}
-use Rattle.fed_trace.specs.Known.{world_at, known_at}
+use Rattle.fed_trace.specs.Known.{world_at, known_by, known_at}
 use Rattle.fed_trace.specs.Records.{records_of}
 use Rattle.fed_trace.specs.Row.{effects_of, with_event, cookies_with, is_busy, begin_effects, standing_call, outcome_effects, moves}
 use Rattle.fed_trace.specs.Trace as trace
-use Rattle.fed_trace.specs.Trace.{Trace, standing, logins, pages, pending, page_at, begun, calls_of, gets}
-use Rattle.fed_session.specs.Session.{State, Holds, Stands, origins_of, get_of, numbers_of, pending_as, pending_calls, kept_at}
-use Rattle.fed_session.specs.StepParts.{sight_of, world_in, cookies_of, call_records, sight_after, kept_after, flags_after, begin_at}
-use Rattle.fed_session.specs.StepParts.{begin_kept, begun_as, standing_kept, with_new, holding, with_call, page_with}
-use Rattle.fed_session.specs.declared.page.Page as kept
+use Rattle.fed_trace.specs.Trace.{Trace, standing, logins, pages, pending, page_at, stage_at, begun, gets}
+use Rattle.fed_session.specs.Session.{State, TabsParts, Stands, load_change, item_known, pending_as, pending_call, pending_calls}
+use Rattle.fed_session.specs.StepParts.{sight_of, world_in, cookies_of, call_records, sight_after, kept_after, flags_after}
+use Rattle.fed_session.specs.StepParts.{begin_kept, begun_as, standing_kept}
+use Rattle.fed_session.specs.Tabs.{ChangesGet, ChangesKnown, Enters, Begins, BeginsIf}
 use Rattle.fed_session.specs.declared.sight.Sight.{Sight}
-use Rattle.fed_trace.proofs.keyed.Entries.{lookup-set_value}
-use Rattle.fed_trace.proofs.keyed.Keyed.{IsAbsent, lookup-insert_entry, remove-insert_entry}
+use Rattle.fed_trace.proofs.keyed.Keyed.{IsAbsent, remove-insert_entry}
 use Rattle.fed_trace.proofs.effects.Outcome.{option_or-none, outcome_calls, moves_call, moves_no_other}
 use Rattle.fed_trace.proofs.effects.Same.{same_begin}
 use Rattle.fed_trace.proofs.effects.Silent.{AllSilent, entries_silent, said_silent, last_silent, silent_is}
 use Rattle.fed_trace.proofs.known.Facts.{staged}
 use Rattle.fed_trace.proofs.known.Stages.{Goes, goes_or_ends}
 use Rattle.fed_trace.proofs.known.Known.{said_of, known_moved, known_same}
-use Rattle.fed_trace.proofs.calls.Pending.{outcome_silent, outcome_begins_none, calls_of-insert_same, calls_of-insert_other}
+use Rattle.fed_trace.proofs.calls.Pending.{outcome_silent, outcome_begins_none}
 use Rattle.fed_trace.proofs.events.Aside.{aside_ignored}
-use Rattle.fed_trace.proofs.runs.Gets.{gets_are}
+use Rattle.fed_trace.proofs.runs.Gets.{gets_are, unbegun_unknown}
 use Rattle.fed_trace.proofs.happens.First.{HasOne}
-use Rattle.fed_session.proofs.kept.Calls.{absent_pending_calls, numbers_without, numbers-insert, pending-insert, pending-insert_ended}
-use Rattle.fed_session.proofs.kept.Held.{IsFree, holds_with}
-use Rattle.fed_session.proofs.kept.Pages.{origins_of-set_value}
+use Rattle.fed_session.proofs.kept.Calls.{changes, pending_same, absent_pending_calls, pending_new, pending_over}
+use Rattle.fed_session.proofs.kept.Held.{IsFree, Holds, holds_new}
+use Rattle.fed_session.proofs.kept.Loaded.{loads_silent}
 use Rattle.fed_session.proofs.clauses.Outcome.{outcome_logins, outcome_records}
 use Rattle.fed_session.proofs.clauses.Permissions.{outcome_keeps, outcome_flags}
 use Rattle.fed_session.proofs.clauses.Sets.{SetsAll, first_sets}
 use Rattle.fed_session.proofs.clauses.Sight.{sees, cookies_same}
 use Rattle.fed_session.proofs.clauses.Statuses.{is_busy-kept}
 use Rattle.fed_session.proofs.events.Event.{page_kept}
-use Rattle.fed_session.proofs.stands.Stands.{Owes, owes_aside, kept_still, flags_still}
+use Rattle.fed_session.proofs.stands.Stands.{Owes, owes_aside, kept_still, flags_still, stands_held}
 
 -- ---- what all calls look at
 
@@ -90,14 +89,15 @@ pub record BeginsBy (T : Trace) (event : Event) (page call : ℕ) (options : Cal
   pub inputs : (q : ℕ) (k : Known) → said_of T event q k ≡ k
 
 -- its effects by what the session keeps are those by the trace
-pub begin_at-stands : (s : State) (T : Trace) (event : Event) (page call : ℕ) (options : CallOptions) → Stands s T
+pub begins-stands : (s : State) (T : Trace) (event : Event) (page call : ℕ) (options : CallOptions) → Stands s T
     → BeginsBy T event page call options
-    → begin_at (world_at T) (cookies_with T) (lookup (nat_eq page) s.pages) page call options ≡ effects_of T event
-begin_at-stands s T event page call options h by =
-    let found = lookup (nat_eq page) s.pages in
-    ap (λ o. begin_effects (world_at T) (cookies_with T) o (is_some (get_of found)) page call options) (page_kept s T page h)
+    → begin_effects (world_at T) (cookies_with T) (lookup (nat_eq page) s.tabs.pages) (is_some (lookup (nat_eq page) s.tabs.gets)) page
+    call options ≡ effects_of T event
+begins-stands s T event page call options h by =
+    let get = lookup (nat_eq page) s.tabs.gets in
+    ap (λ o. begin_effects (world_at T) (cookies_with T) o (is_some get) page call options) (page_kept s T page h)
     ∙ ap (λ b. begin_effects (world_at T) (cookies_with T) (page_at T page) b page call options)
-    (is_busy-kept page (pending T) (get_of found) (h.held page).get ∙ ap (is_busy page) (gets_are T.header T.rows h.run))
+    (is_busy-kept page (pending T) get (h.gets page) ∙ ap (is_busy page) (gets_are T.header T.rows h.run))
     ∙ sym by.effects
 
 -- ---- a call that is not taken
@@ -105,9 +105,8 @@ begin_at-stands s T event page call options h by =
 owes_ignored : (s s' : State) (T : Trace) (line : ℕ) (event : Event) (why : Why) → Stands s T
     → effects_of T event ≡ Ignored why ∷ []
     → ((q : ℕ) (k : Known) → said_of T event q k ≡ k)
-    → sight_of s' ≡ sight_of s → s'.pages ≡ s.pages → s'.calls ≡ s.calls
-    → Owes s s' T line event
-owes_ignored s s' T line event why h is inputs sight kept_pages kept_calls =
+    → sight_of s' ≡ sight_of s → s'.tabs ≡ s.tabs → Owes s s' T line event
+owes_ignored s s' T line event why h is inputs sight tabs =
     let seen = sees s' _ sight in
     owes_aside s s' T line event h (aside_ignored T line event why is inputs) seen.rules
     (kept_still s s' T event h (subst (AllSilent kept_change) (sym is) (refl, tt)) seen.kept)
@@ -115,7 +114,7 @@ owes_ignored s s' T line event why h is inputs sight kept_pages kept_calls =
     (seen.time ∙ sym (ap (λ xs. unwrap_or (last_of time_of xs) s.time) is))
     (seen.cookies ∙ sym (ap (λ xs. cookies_after s.cookies (filter_map written_by xs)) is))
     (seen.login ∙ sym (ap (λ xs. entries_after same_origin login_change xs s.login) is))
-    kept_pages kept_calls
+    tabs
 
 -- ---- a call that is taken
 
@@ -136,96 +135,102 @@ first_as b = go b.options
     go (ToGet options) = refl
     go (ToDisconnect options) = refl
 
--- what a page keeps, which has one call more
-held_new : (q call : ℕ) (v : PendingCall) (p : kept.Page) (ps : List (ℕ × kept.Page)) (es : List (ℕ × PendingCall))
-    → lookup (nat_eq v.page) ps ≡ Some p → IsFree v.kind p.get → IsAbsent call es
-    → ((q : ℕ) → Holds (lookup (nat_eq q) ps) (calls_of q es))
-    → Holds (lookup (nat_eq q) (set_value (nat_eq v.page) ps (page_with v.kind call p))) (calls_of q (insert_entry nat_eq es call v))
-held_new q call v p ps es found free absent h =
-    subst (λ o. Holds o (calls_of q (insert_entry nat_eq es call v))) (sym (lookup-set_value q v.page (page_with v.kind call p) ps))
-    (go (nat_eq q v.page) refl)
-  where
-    go : (b : Bool) → nat_eq q v.page ≡ b
-        → Holds (cond b (option_map (λ x. page_with v.kind call p) (lookup (nat_eq q) ps)) (lookup (nat_eq q) ps))
-        (calls_of q (insert_entry nat_eq es call v))
-    go true is =
-        let key : q ≡ v.page = grind (arith, nat_tests, is) in
-        let there : lookup (nat_eq q) ps ≡ Some p = ap (λ k. lookup (nat_eq k) ps) key ∙ found in
-        subst (λ o. Holds (option_map (λ x. page_with v.kind call p) o) (calls_of q (insert_entry nat_eq es call v))) (sym there)
-        (subst (Holds (Some (page_with v.kind call p))) (sym
-        (ap (λ k. calls_of k (insert_entry nat_eq es call v)) key ∙ calls_of-insert_same call v es absent))
-        (holds_with v.kind call p (calls_of v.page es) free (subst (λ o. Holds o (calls_of v.page es)) found (h v.page))))
-    go false is =
-        let ne : nat_eq v.page q ≡ false = grind (arith, nat_tests, is) in
-        subst (Holds (lookup (nat_eq q) ps)) (sym (calls_of-insert_other q call v es ne absent)) (h q)
-
 -- the pages and the calls after a call that is taken, by the stage that it comes to
-pub record Enters (call : ℕ) (v : PendingCall) (known : Option Known) (stage : Stage) (ps : List (ℕ × kept.Page)) (cs : List
-    (ℕ × Option Known)) (es : List (ℕ × PendingCall)) : Type 0 where
-  pub pages : origins_of (holding v.page call (Some known) ps) ≡ origins_of ps
-  pub held : (q : ℕ) → Holds (lookup (nat_eq q) (holding v.page call (Some known) ps))
-      (calls_of q (entries_after nat_eq call_change (moves v.kind call (Some stage)) (insert_entry nat_eq es call v)))
-  pub pending : pending_calls (insert_entry nat_eq cs call known)
+pub record Taken (call : ℕ) (v : PendingCall) (stage : Stage) (old new : TabsParts) (es : List (ℕ × PendingCall)) : Type 0 where
+  pub pages : new.pages ≡ old.pages
+  pub loaded : keys_of new.table.pages ≡ keys_of old.table.pages
+  pub held : Holds new.table.pages new.gets
+      (entries_after nat_eq call_change (moves v.kind call (Some stage)) (insert_entry nat_eq es call v))
+  pub waits : new.table.waits ≡ old.table.waits
+  pub taken : new.taken ≡ old.taken ++ call ∷ []
+  pub pending : pending_calls (item_known new.table.items) new.taken
       ≡ entries_after nat_eq call_change (moves v.kind call (Some stage)) (insert_entry nat_eq es call v)
 
-enters : (call : ℕ) (v : PendingCall) (known : Known) (stage : Stage) (p : kept.Page) (ps : List (ℕ × kept.Page)) (cs : List
-    (ℕ × Option Known)) (es : List (ℕ × PendingCall))
-    → pending_as known ≡ v → (stage ≡ Ended) ⊎ IsFree v.kind p.get → lookup (nat_eq v.page) ps ≡ Some p → IsAbsent call cs
-    → IsAbsent call es
-    → ((q : ℕ) → Holds (lookup (nat_eq q) ps) (calls_of q es)) → pending_calls cs ≡ es
-    → Enters call v (at_stage stage known) stage ps cs es
-enters call v known stage p ps cs es same free found absent unbegun held is = go (goes_or_ends stage) free
+-- what is known of each call, after this one began
+begins_known : (page call : ℕ) (known : Option Known) (old new : TabsParts) → item_known old.table.items call ≡ None
+    → Begins page call known old new → ChangesKnown call known old.table.items new.table.items
+begins_known page call None old new none begins = λ other.
+    ap (λ (t : TabsParts). item_known t.table.items other) begins ∙ go other (nat_eq call other) refl
   where
-    over : Enters call v None Ended ps cs es
-    over = record {
-      pages = refl;
-      held = λ q. subst (λ xs. Holds (lookup (nat_eq q) ps) (calls_of q xs)) (sym (remove-insert_entry call v es unbegun)) (held q);
-      pending = pending-insert_ended call cs absent ∙ is ∙ sym (remove-insert_entry call v es unbegun);
-    }
+    go : (other : ℕ) (b : Bool) → nat_eq call other ≡ b
+        → item_known old.table.items other ≡ cond b None (item_known old.table.items other)
+    go other true is =
+        let key : call ≡ other = grind (arith, nat_tests, is) in
+        ap (item_known old.table.items) (sym key) ∙ none
+    go other false is = refl
+begins_known page call (Some known) old new none enters = enters.known
 
-    ended : stage ≡ Ended → Enters call v (at_stage stage known) stage ps cs es
-    ended at =
-        subst (λ st. Enters call v (at_stage st known) st ps cs es) (sym at)
-        (subst (λ k. Enters call v k Ended ps cs es) (sym (over_none known)) over)
-
-    goes : Goes stage → IsFree v.kind p.get → Enters call v (at_stage stage known) stage ps cs es
-    goes going vacant =
-        let k : Known = staged stage known in
-        let kind_is : kind_of k ≡ v.kind = ap (λ (x : PendingCall). x.kind) (staged_as stage known ∙ same) in
-        let holds : with_call (kind_of k) v.page call ps ≡ set_value (nat_eq v.page) ps (page_with v.kind call p) =
-        ap (λ n. with_call n v.page call ps) kind_is ∙ ap (λ o. option_map_or
-        (λ p. set_value (nat_eq v.page) ps (page_with v.kind call p))
-        o ps) found in
-        let stays = going.stays v.kind call (insert_entry nat_eq es call v) in
-        subst (λ after. Enters call v after stage ps cs es) (sym (going.kept known))
-        (record {
-          pages = ap origins_of holds ∙ origins_of-set_value v.page p (page_with v.kind call p) ps refl found;
-          held = λ q. subst (λ xs. Holds (lookup (nat_eq q) (with_call (kind_of k) v.page call ps)) (calls_of q xs)) (sym stays)
-              (subst (λ xs. Holds (lookup (nat_eq q) xs) (calls_of q (insert_entry nat_eq es call v))) (sym holds)
-              (held_new q call v p ps es found vacant unbegun held));
+taken_at : (call : ℕ) (v : PendingCall) (known : Known) (stage : Stage) (old new : TabsParts) (es : List (ℕ × PendingCall))
+    → pending_as known ≡ v → (stage ≡ Ended) ⊎ IsFree v.kind (lookup (nat_eq v.page) old.gets)
+    → list_any (nat_eq call) old.taken ≡ false → IsAbsent call es → item_known old.table.items call ≡ None
+    → Holds old.table.pages old.gets es → pending_calls (item_known old.table.items) old.taken ≡ es
+    → Begins v.page call (at_stage stage known) old new → Taken call v stage old new es
+taken_at call v known stage old new es same free fresh unbegun none held is begins = go (goes_or_ends stage) free
+  where
+    over : new ≡ record old { taken = old.taken ++ call ∷ [] } → Taken call v Ended old new es
+    over begun =
+        let gone = remove-insert_entry call v es unbegun in
+        record {
+          pages = ap (λ (t : TabsParts). t.pages) begun;
+          loaded = ap (λ (t : TabsParts). keys_of t.table.pages) begun;
+          held = subst (Holds new.table.pages new.gets) (sym gone)
+              (subst (λ (t : TabsParts). Holds t.table.pages t.gets es) (sym begun) held);
+          waits = ap (λ (t : TabsParts). t.table.waits) begun;
+          taken = ap (λ (t : TabsParts). t.taken) begun;
           pending =
-              pending-insert call k cs absent ∙ ap (λ xs. insert_entry nat_eq xs call (pending_as k)) is
-              ∙ ap (insert_entry nat_eq es call) (staged_as stage known ∙ same) ∙ sym stays;
-        })
+              ap (λ (t : TabsParts). pending_calls (item_known t.table.items) t.taken) begun
+              ∙ pending_over call (item_known old.table.items) old.taken none ∙ is ∙ sym gone;
+        }
 
-    go : (stage ≡ Ended) ⊎ Goes stage → (stage ≡ Ended) ⊎ IsFree v.kind p.get
-        → Enters call v (at_stage stage known) stage ps cs es
+    enters : (after : Known) → pending_as after ≡ v → IsFree v.kind (lookup (nat_eq v.page) old.gets)
+        → entries_after nat_eq call_change (moves v.kind call (Some stage)) (insert_entry nat_eq es call v) ≡ insert_entry nat_eq es call v
+        → Enters v.page call after old new → Taken call v stage old new es
+    enters after said vacant stays e =
+        let kind_is : kind_of after ≡ v.kind = ap (λ (x : PendingCall). x.kind) said in
+        let before : ℕ → Option Known = item_known old.table.items in
+        record {
+          pages = e.pages;
+          loaded = e.loaded;
+          held = subst (Holds new.table.pages new.gets) (sym stays)
+              (subst (λ lists. Holds lists new.gets (insert_entry nat_eq es call v)) (sym e.listed)
+              (holds_new call v old.table.pages old.gets new.gets es held unbegun vacant
+              (subst (λ kind. ChangesGet v.page (cond (is_get kind) (Some call) (lookup (nat_eq v.page) old.gets)) old.gets new.gets)
+              kind_is
+              e.gets)));
+          waits = e.waits;
+          taken = e.taken;
+          pending =
+              ap (pending_calls (item_known new.table.items)) e.taken
+              ∙ pending_same (item_known new.table.items) (changes call (Some after) before) (λ c. ap (pending_call c) (e.known c))
+              (old.taken ++ call ∷ [])
+              ∙ pending_new call after before old.taken fresh ∙ ap (λ xs. insert_entry nat_eq xs call (pending_as after)) is
+              ∙ ap (insert_entry nat_eq es call) said ∙ sym stays;
+        }
+
+    ended : stage ≡ Ended → Taken call v stage old new es
+    ended at =
+        subst (λ st. Taken call v st old new es) (sym at)
+        (over (subst (λ k. Begins v.page call k old new) (ap (λ st. at_stage st known) at ∙ over_none known) begins))
+
+    go : (stage ≡ Ended) ⊎ Goes stage → (stage ≡ Ended) ⊎ IsFree v.kind (lookup (nat_eq v.page) old.gets)
+        → Taken call v stage old new es
     go (inl at) free = ended at
     go (inr going) (inl at) = ended at
-    go (inr going) (inr vacant) = goes going vacant
+    go (inr going) (inr vacant) =
+        enters (staged stage known) (staged_as stage known ∙ same) vacant (going.stays v.kind call (insert_entry nat_eq es call v))
+        (subst (λ k. Begins v.page call k old new) (going.kept known) begins)
 
-owes_taken : (s s' : State) (T : Trace) (line : ℕ) (event : Event) (b : Begun) (p : kept.Page) (outcome : Outcome) (stage : Stage)
+owes_taken : (s s' : State) (T : Trace) (line : ℕ) (event : Event) (b : Begun) (outcome : Outcome) (stage : Stage)
     → Stands s T
     → effects_of T event ≡ Begin b ∷ outcome_effects (world_at T) (cookies_with T) (kind_asked b.options) b.call b.page outcome
     → ((q : ℕ) (k : Known) → said_of T event q k ≡ k) → outcome.stage ≡ Some stage → SetsAll outcome.effects
-    → (stage ≡ Ended) ⊎ IsFree (kind_asked b.options) p.get
-    → lookup (nat_eq b.page) s.pages ≡ Some p → lookup (nat_eq b.call) s.calls ≡ None
+    → (stage ≡ Ended) ⊎ IsFree (kind_asked b.options) (lookup (nat_eq b.page) s.tabs.gets)
+    → list_any (nat_eq b.call) s.tabs.taken ≡ false
     → sight_after outcome.effects (sight_of s) ≡ sight_of s
     → sight_of s' ≡ sight_of s
-    → s'.pages ≡ holding b.page b.call (Some (at_stage stage (known_first b))) s.pages
-    → s'.calls ≡ insert_entry nat_eq s.calls b.call (at_stage stage (known_first b))
+    → Begins b.page b.call (at_stage stage (known_first b)) s.tabs s'.tabs
     → Owes s s' T line event
-owes_taken s s' T line event b p outcome stage h effects inputs moved sets free found fresh_call still sight kept_pages kept_calls =
+owes_taken s s' T line event b outcome stage h effects inputs moved sets free fresh_call still sight begins_call =
     let seen = sees s' _ sight in
     let stays = sees s (sight_after outcome.effects (sight_of s)) (sym still) in
     let world = world_at T in
@@ -233,9 +238,11 @@ owes_taken s s' T line event b p outcome stage h effects inputs moved sets free 
     let does = outcome_effects world (cookies_with T) kind b.call b.page outcome in
     let es = pending T in
     let v = pending_from b in
-    let known = at_stage stage (known_first b) in
-    let unbegun = subst (IsAbsent b.call) h.pending (absent_pending_calls b.call s.calls fresh_call) in
-    let enter = enters b.call v (known_first b) stage p s.pages s.calls es (first_as b) free found fresh_call unbegun h.held h.pending in
+    let unbegun : IsAbsent b.call es =
+    subst (IsAbsent b.call) h.pending (absent_pending_calls b.call (item_known s.tabs.table.items) s.tabs.taken fresh_call) in
+    let none : item_known s.tabs.table.items b.call ≡ None = h.known b.call ∙ unknown s T b.call h fresh_call in
+    let take = taken_at b.call v (known_first b) stage s.tabs s'.tabs es (first_as b) free fresh_call unbegun none (stands_held s T h)
+    h.pending begins_call in
     let calls_is : entries_after nat_eq call_change (effects_of T event) es
     ≡ entries_after nat_eq call_change (moves kind b.call (Some stage)) (insert_entry nat_eq es b.call v) =
     ap (λ xs. entries_after nat_eq call_change xs es) effects
@@ -247,6 +254,11 @@ owes_taken s s' T line event b p outcome stage h effects inputs moved sets free 
     λ q. ap (last_of (begins q)) effects ∙ ap (λ o. option_or o (cond (nat_eq q b.call) (Some b) None)) (last_silent (begins q) does
     (outcome_silent (begins q) (λ n c p a k. refl) (λ c d. refl) (λ c p u. refl) (λ o s. refl) (λ t k. refl) (λ o k. refl)
     (λ c p f. refl) (λ w. refl) (λ n c s. refl) world (cookies_with T) kind b.call b.page outcome)) in
+    let no_page : AllSilent page_change (effects_of T event) = silent_is page_change (effects_of T event) (Begin b ∷ does) effects (
+      refl,
+      outcome_silent page_change (λ n c p a k. refl) (λ c d. refl) (λ c p u. refl) (λ o s. refl) (λ t k. refl) (λ o k. refl)
+          (λ c p f. refl) (λ w. refl) (λ n c s. refl) world (cookies_with T) kind b.call b.page outcome,
+    ) in
     record {
       rules = seen.rules;
       kept = seen.kept ∙ stays.kept ∙ ap (kept_after outcome.effects) h.kept
@@ -272,42 +284,47 @@ owes_taken s s' T line event b p outcome stage h effects inputs moved sets free 
       login =
           seen.login ∙ stays.login ∙ sym (ap (λ xs. entries_after same_origin login_change xs s.login) effects
           ∙ outcome_logins world (cookies_with T) kind b.call b.page outcome s.login);
-      pages =
-          ap origins_of kept_pages ∙ enter.pages ∙ h.pages
-          ∙ sym (entries_silent nat_eq page_change (effects_of T event) (pages T) (silent_is page_change (effects_of T event)
-          (Begin b ∷ does) effects (
-            refl,
-            outcome_silent page_change (λ n c p a k. refl) (λ c d. refl) (λ c p u. refl) (λ o s. refl) (λ t k. refl) (λ o k. refl)
-                (λ c p f. refl) (λ w. refl) (λ n c s. refl) world (cookies_with T) kind b.call b.page outcome,
-          )));
-      held = λ q. subst (λ xs. Holds (lookup (nat_eq q) s'.pages) (calls_of q xs)) (sym calls_is)
-          (subst (λ ps. Holds (lookup (nat_eq q) ps) (calls_of q
-          (entries_after nat_eq call_change (moves kind b.call (Some stage)) (insert_entry nat_eq es b.call v)))) (sym kept_pages)
-          (enter.held q));
-      taken = ap numbers_of kept_calls ∙ numbers-insert b.call known s.calls fresh_call
-          ∙ ap (λ xs. numbers_of s.calls ++ xs) (sym (ap (filter_map begun_by) effects
+      pages = take.pages ∙ h.pages ∙ sym (entries_silent nat_eq page_change (effects_of T event) (pages T) no_page);
+      loaded =
+          take.loaded ∙ h.loaded ∙ ap keys_of (sym (entries_silent nat_eq load_change (effects_of T event)
+          (standing nat_eq load_change T.rows)
+          (loads_silent (effects_of T event) no_page)));
+      held = subst (Holds s'.tabs.table.pages s'.tabs.gets) (sym calls_is) take.held;
+      waits = take.waits ∙ h.waits;
+      taken = take.taken
+          ∙ ap (λ xs. s.tabs.taken ++ xs) (sym (ap (filter_map begun_by) effects
           ∙ ap (λ xs. b.call ∷ xs) (said_silent begun_by does
           (outcome_begins_none world (cookies_with T) kind b.call b.page outcome))));
-      pending = ap pending_calls kept_calls ∙ enter.pending ∙ sym calls_is;
+      pending = take.pending ∙ sym calls_is;
       known =
-          λ q. ap (kept_at q) kept_calls ∙ ap (option_and_then (λ kept. kept)) (lookup-insert_entry q b.call known s.calls)
-          ∙ known_new s T line event b outcome stage q h inputs moved moved_by begins_of (nat_eq q b.call) refl;
+          λ q. begins_known b.page b.call (at_stage stage (known_first b)) s.tabs s'.tabs none begins_call q
+          ∙ known_new s T line event b outcome stage q h inputs moved moved_by begins_of (nat_eq b.call q) refl;
     }
   where
+    unknown : (s : State) (T : Trace) (call : ℕ) → Stands s T → list_any (nat_eq call) s.tabs.taken ≡ false → known_at T call ≡ None
+    unknown s T call h fresh =
+        ap (known_by (stage_at T call)) (unbegun_unknown T.header T.rows call (sym (ap (list_any (nat_eq call)) h.taken) ∙ fresh))
+        ∙ none_by (stage_at T call)
+      where
+        none_by : (stage : Option Stage) → known_by stage None ≡ None
+        none_by None = refl
+        none_by (Some stage) = refl
+
     known_new : (s : State) (T : Trace) (line : ℕ) (event : Event) (b : Begun) (outcome : Outcome) (stage : Stage) (q : ℕ)
         → Stands s T
         → ((q : ℕ) (k : Known) → said_of T event q k ≡ k) → outcome.stage ≡ Some stage
         → ((q : ℕ) → last_said nat_eq stage_change q (effects_of T event)
         ≡ last_said nat_eq stage_change q (outcome_effects (world_at T) (cookies_with T) (kind_asked b.options) b.call b.page outcome))
         → ((q : ℕ) → last_of (begins q) (effects_of T event) ≡ cond (nat_eq q b.call) (Some b) None)
-        → (t : Bool) → nat_eq q b.call ≡ t
-        → option_and_then (λ kept. kept) (cond t (Some (at_stage stage (known_first b))) (lookup (nat_eq q) s.calls))
-        ≡ known_at (with_event T line event) q
-    known_new s T line event b outcome stage q h inputs moved moved_by begins_of false is =
+        → (t : Bool) → nat_eq b.call q ≡ t
+        → cond t (at_stage stage (known_first b)) (item_known s.tabs.table.items q) ≡ known_at (with_event T line event) q
+    known_new s T line event b outcome stage q h inputs moved moved_by begins_of false at =
+        let is : nat_eq q b.call ≡ false = grind (arith, nat_tests, at) in
         h.known q
         ∙ sym (known_same T line event q (moved_by q ∙ moves_no_other (world_at T) (cookies_with T) (kind_asked
         b.options) b.call b.page outcome q is) (begins_of q ∙ ap (λ t. cond t (Some b) None) is) (inputs q))
-    known_new s T line event b outcome stage q h inputs moved moved_by begins_of true is =
+    known_new s T line event b outcome stage q h inputs moved moved_by begins_of true at =
+        let is : nat_eq q b.call ≡ true = grind (arith, nat_tests, at) in
         sym (known_moved T line event q (Some (Some stage)) (Some b) (moved_by q
         ∙ moves_call (world_at T) (cookies_with T) (kind_asked b.options) b.call b.page outcome q is ∙ ap (option_map Some) moved)
         (begins_of q ∙ ap (λ t. cond t (Some b) None) is))
@@ -370,88 +387,75 @@ started_is b outcome stage is = ap (λ o. at_stage (unwrap_or o Reading) (known_
 
 pub owes_begin : (s s' : State) (T : Trace) (line : ℕ) (event : Event) (page call : ℕ) (options : CallOptions) → Stands s T
     → BeginsBy T event page call options
-    → lookup (nat_eq call) s.calls ≡ None → HasOne options
+    → list_any (nat_eq call) s.tabs.taken ≡ false → HasOne options
     → sight_of s' ≡ sight_of s
-    → s'.pages ≡ holding page call (begin_kept (world_in (sight_of s)) (lookup (nat_eq page) s.pages) page call options) s.pages
-    → s'.calls ≡ with_new call (begin_kept (world_in (sight_of s)) (lookup (nat_eq page) s.pages) page call options) s.calls
+    → BeginsIf page call (begin_kept (world_in (sight_of s)) (lookup (nat_eq page) s.tabs.pages)
+    (is_some (lookup (nat_eq page) s.tabs.gets)) page call options) s.tabs s'.tabs
     → Owes s s' T line event
-owes_begin s s' T line event page call options h by fresh_call one sight kept_pages kept_calls =
-    go (lookup (nat_eq page) s.pages) refl
-    (kept_pages ∙ ap (λ w. holding page call (begin_kept w (lookup (nat_eq page) s.pages) page call options) s.pages) (world_same s T h))
-    (kept_calls ∙ ap (λ w. with_new call (begin_kept w (lookup (nat_eq page) s.pages) page call options) s.calls) (world_same s T h))
+owes_begin s s' T line event page call options h by fresh_call one sight begins_if =
+    go (lookup (nat_eq page) s.tabs.pages) (sym (begins-stands s T event page call options h by))
+    (subst (λ w. BeginsIf page call (begin_kept w (lookup (nat_eq page) s.tabs.pages) (is_some get) page call options) s.tabs s'.tabs)
+    (world_same s T h) begins_if)
   where
-    taken : (p : kept.Page) → lookup (nat_eq page) s.pages ≡ Some p
-        → effects_of T event ≡ standing_call (world_at T) (cookies_with T) true (is_some p.get) (record
-        { call = call; page = page; origin = p.origin; options = options })
-        → s'.pages ≡ holding page call (Some (begun_as (world_at T) (is_some p.get)
-        (record { call = call; page = page; origin = p.origin; options = options }))) s.pages
-        → s'.calls ≡ insert_entry nat_eq s.calls call
-        (begun_as (world_at T) (is_some p.get) (record { call = call; page = page; origin = p.origin; options = options }))
-        → Owes s s' T line event
-    taken p found effects kept_pages kept_calls =
-        let b : Begun = record { call = call; page = page; origin = p.origin; options = options } in
-        let outcome = first_row (world_at T) (is_some p.get) p.origin options in
-        let comes = first_comes (world_at T) p.get p.origin options one in
-        let begun_is = started_is b outcome comes.stage comes.is in
-        owes_taken s s' T line event b p outcome comes.stage h effects by.inputs comes.is
-        (first_sets (world_at T) (is_some p.get) p.origin options) comes.free found fresh_call (comes.still (sight_of s)) sight
-        (kept_pages ∙ ap (λ known. holding page call (Some known) s.pages) begun_is) (kept_calls
-        ∙ ap (insert_entry nat_eq s.calls call) begun_is)
+    get : Option ℕ
+    get = lookup (nat_eq page) s.tabs.gets
 
-    trusted : (p : kept.Page) → lookup (nat_eq page) s.pages ≡ Some p → (t : Bool) → is_trustworthy p.origin ≡ t
-        → effects_of T event ≡ standing_call (world_at T) (cookies_with T) t (is_some p.get) (record
-        { call = call; page = page; origin = p.origin; options = options })
-        → s'.pages ≡ holding page call (standing_kept (world_at T) t (is_some p.get)
-        (record { call = call; page = page; origin = p.origin; options = options })) s.pages
-        → s'.calls ≡ with_new call (standing_kept (world_at T) t (is_some p.get) (record
-        { call = call; page = page; origin = p.origin; options = options })) s.calls
-        → Owes s s' T line event
-    trusted p found false is effects kept_pages kept_calls =
-        owes_ignored s s' T line event PageInsecure h effects by.inputs sight kept_pages kept_calls
-    trusted p found true is effects kept_pages kept_calls = taken p found effects kept_pages kept_calls
+    of : Origin → Begun
+    of origin = record { call = call; page = page; origin = origin; options = options }
 
-    go : (found : Option kept.Page) → lookup (nat_eq page) s.pages ≡ found
-        → s'.pages ≡ holding page call (begin_kept (world_at T) (lookup (nat_eq page) s.pages) page call options) s.pages
-        → s'.calls ≡ with_new call (begin_kept (world_at T) (lookup (nat_eq page) s.pages) page call options) s.calls
+    taken : (origin : Origin)
+        → effects_of T event ≡ standing_call (world_at T) (cookies_with T) true (is_some get) (of origin)
+        → Begins page call (begun_as (world_at T) (is_some get) (of origin)) s.tabs s'.tabs
         → Owes s s' T line event
-    go None is kept_pages kept_calls =
-        owes_ignored s s' T line event NoPage h (sym (begin_at-stands s T event page call options h by)
-        ∙ ap (λ o. begin_at (world_at T) (cookies_with T) o page call options) is) by.inputs sight
-        (kept_pages ∙ ap (λ o. holding page call (begin_kept (world_at T) o page call options) s.pages) is) (kept_calls
-        ∙ ap (λ o. with_new call (begin_kept (world_at T) o page call options) s.calls) is)
-    go (Some p) is kept_pages kept_calls =
-        trusted p is (is_trustworthy p.origin) refl (sym (begin_at-stands s T event page call options h by)
-        ∙ ap (λ o. begin_at (world_at T) (cookies_with T) o page call options) is)
-        (kept_pages ∙ ap (λ o. holding page call (begin_kept (world_at T) o page call options) s.pages) is) (kept_calls
-        ∙ ap (λ o. with_new call (begin_kept (world_at T) o page call options) s.calls) is)
+    taken origin effects begins_call =
+        let outcome = first_row (world_at T) (is_some get) origin options in
+        let comes = first_comes (world_at T) get origin options one in
+        owes_taken s s' T line event (of origin) outcome comes.stage h effects by.inputs comes.is
+        (first_sets (world_at T) (is_some get) origin options) comes.free fresh_call (comes.still (sight_of s)) sight
+        (subst (λ known. Begins page call known s.tabs s'.tabs) (started_is (of origin) outcome comes.stage comes.is) begins_call)
+
+    trusted : (origin : Origin) (t : Bool)
+        → effects_of T event ≡ standing_call (world_at T) (cookies_with T) t (is_some get) (of origin)
+        → BeginsIf page call (standing_kept (world_at T) t (is_some get) (of origin)) s.tabs s'.tabs
+        → Owes s s' T line event
+    trusted origin false effects same = owes_ignored s s' T line event PageInsecure h effects by.inputs sight same
+    trusted origin true effects begins_call = taken origin effects begins_call
+
+    go : (found : Option Origin)
+        → effects_of T event ≡ begin_effects (world_at T) (cookies_with T) found (is_some get) page call options
+        → BeginsIf page call (begin_kept (world_at T) found (is_some get) page call options) s.tabs s'.tabs
+        → Owes s s' T line event
+    go None effects same = owes_ignored s s' T line event NoPage h effects by.inputs sight same
+    go (Some origin) effects begins_call = trusted origin (is_trustworthy origin) effects begins_call
 
 -- ---- records
 
 -- the records of a call of a page that stands and is trustworthy
-pub begin_records : (line : ℕ) (world : World) (cookies : Ask
-    → List ℕ) (found : Option kept.Page) (p : kept.Page) (page call : ℕ) (options : CallOptions) → found ≡ Some p
-    → is_trustworthy p.origin ≡ true
-    → call_records line cookies call page (first_row world (is_some p.get) p.origin options).effects
-    ≡ records_of line (begin_at world cookies found page call options)
-begin_records line world cookies found p page call options is trusted =
-    sym (outcome_records line world cookies (kind_asked options) call page (first_row world (is_some p.get) p.origin options))
-    ∙ ap (λ t. records_of line (standing_call world cookies t (is_some p.get) (record
-    { call = call; page = page; origin = p.origin; options = options }))) (sym trusted)
-    ∙ ap (λ o. records_of line (begin_at world cookies o page call options)) (sym is)
+pub begin_records : (line : ℕ) (world : World) (cookies : Ask → List ℕ) (found : Option Origin) (origin : Origin) (busy : Bool)
+    (page call : ℕ) (options : CallOptions) → found ≡ Some origin → is_trustworthy origin ≡ true
+    → call_records line cookies call page (first_row world busy origin options).effects
+    ≡ records_of line (begin_effects world cookies found busy page call options)
+begin_records line world cookies found origin busy page call options is trusted =
+    sym (outcome_records line world cookies (kind_asked options) call page (first_row world busy origin options))
+    ∙ ap (λ t. records_of line (standing_call world cookies t busy (record
+    { call = call; page = page; origin = origin; options = options }))) (sym trusted)
+    ∙ ap (λ o. records_of line (begin_effects world cookies o busy page call options)) (sym is)
 
 -- by what is seen of a session they are those of the row
 pub begin_records-stand : (s : State) (T : Trace) (line : ℕ) (event : Event) (page call : ℕ) (options : CallOptions) → Stands s T
     → BeginsBy T event page call options
-    → records_of line (begin_at (world_in (sight_of s)) (cookies_of (sight_of s)) (lookup (nat_eq page) s.pages) page call options)
+    → records_of line (begin_effects (world_in (sight_of s)) (cookies_of (sight_of s)) (lookup (nat_eq page) s.tabs.pages)
+    (is_some (lookup (nat_eq page) s.tabs.gets)) page call options)
     ≡ records_of line (effects_of T event)
 begin_records-stand s T line event page call options h by =
-    let found = lookup (nat_eq page) s.pages in
+    let found = lookup (nat_eq page) s.tabs.pages in
+    let busy = is_some (lookup (nat_eq page) s.tabs.gets) in
     ap (records_of line) (same_begin (cookies_of (sight_of s)) (cookies_with T) (λ ask. cookies_same s T ask h) (world_in (sight_of s))
-    (option_map (λ p. p.origin) found) (is_some (get_of found)) page call options)
-    ∙ ap (λ w. records_of line (begin_at w (cookies_with T) found page call options)) (world_same s T h)
-    ∙ ap (records_of line) (begin_at-stands s T event page call options h by)
+    found busy page call options)
+    ∙ ap (λ w. records_of line (begin_effects w (cookies_with T) found busy page call options)) (world_same s T h)
+    ∙ ap (records_of line) (begins-stands s T event page call options h by)
 
 -- a call that the session never took began in no row
-pub is_new : (s : State) (T : Trace) (call : ℕ) → Stands s T → lookup (nat_eq call) s.calls ≡ None
+pub is_new : (s : State) (T : Trace) (call : ℕ) → Stands s T → list_any (nat_eq call) s.tabs.taken ≡ false
     → list_any (nat_eq call) (begun T.rows) ≡ false
-is_new s T call h fresh = sym (ap (list_any (nat_eq call)) h.taken) ∙ numbers_without call s.calls fresh
+is_new s T call h fresh = sym (ap (list_any (nat_eq call)) h.taken) ∙ fresh

@@ -1,161 +1,158 @@
--- The calls that a session keeps.
+-- The calls that are pending, among those that were taken.
 use Rattle.std.proofs.Common.{◌≡◌, ℕ, Bool, true, false, nat_eq, ◌||◌, List, [], ◌∷◌, ◌++◌, Some, None, refl, sym, ap}
-use Rattle.std.proofs.Common.{subst}
 use Rattle.std.proofs.Common.{◌∙◌, arith, cond}
 use Rattle.std.proofs.lemmas.Bool.Decides.{nat_tests}
+use Rattle.std.proofs.lemmas.List.Elements.{filter_map-append}
 use Rattle.std.specs.Prelude.{Option}
-use Rattle.std.specs.Option.{option_map_or}
-use Rattle.std.specs.List.{list_any}
-use Rattle.std.specs.Map.{lookup, set_value}
+use Rattle.std.specs.List.{list_any, cons_option}
+use Rattle.std.specs.Map.{lookup}
 use Rattle.indexmap.specs.IndexMap.{insert_entry, shift_remove_entry}
+use Rattle.fed_table.specs.Lists.{has}
+use Rattle.fed_trace.specs.Begun.{CallKind}
 use Rattle.fed_trace.specs.Call.{Known}
-use Rattle.fed_trace.specs.Effect.{PendingCall}
-use Rattle.fed_session.specs.Session.{numbers_of, pending_as, pending_calls}
-use Rattle.fed_session.specs.StepParts.{with_kept, with_ended, with_all_ended}
-use Rattle.fed_trace.proofs.keyed.Keyed.{IsAbsent, AreDistinct}
-use Rattle.fed_trace.proofs.keyed.Entries.{set_absent, insert_absent, remove_absent}
+use Rattle.fed_trace.specs.Effect.{Effect, PendingCall, call_change}
+use Rattle.fed_trace.specs.Keyed.{entries_after}
+use Rattle.fed_trace.specs.Row.{ends_of}
+use Rattle.fed_session.specs.Session.{numbers_in, pending_as, pending_call, pending_calls}
 use Rattle.fed_trace.proofs.calls.Begins.{AreApart}
+use Rattle.fed_trace.proofs.effects.Silent.{AllSilent, entries_silent}
+use Rattle.fed_trace.proofs.keyed.Keyed.{IsAbsent}
+use Rattle.fed_trace.proofs.keyed.Entries.{insert_absent, remove_absent}
 
--- ---- values under keys
+-- ---- what is known of a call
 
--- the calls after one is kept otherwise
-pub with_kept-is : (k : ℕ) (v : Option Known) (cs : List (ℕ × Option Known)) → with_kept k v cs ≡ set_value (nat_eq k) cs v
-with_kept-is k v cs = go (lookup (nat_eq k) cs) refl
-  where
-    go : (found : Option (Option Known)) → lookup (nat_eq k) cs ≡ found
-        → option_map_or (λ old. set_value (nat_eq k) cs v) found cs ≡ set_value (nat_eq k) cs v
-    go None is = sym (set_absent k v cs is)
-    go (Some kept) is = refl
+abbrev pub KnownBy : Type 0
+KnownBy = ℕ → Option Known
 
--- ---- numbers
+-- of this call this is known, and of the others what was
+abbrev pub changes : ℕ → Option Known → KnownBy → KnownBy
+changes call known before = λ other. cond (nat_eq call other) known (before other)
 
-pub absent_from_numbers : (k : ℕ) (cs : List (ℕ × Option Known)) → list_any (nat_eq k) (numbers_of cs) ≡ false → IsAbsent k cs
-absent_from_numbers k [] h = refl
-absent_from_numbers k (c ∷ cs) h =
-    let here : nat_eq k c.0 ≡ false = grind (arith, h) in
-    let tail : list_any (nat_eq k) (numbers_of cs) ≡ false = grind (arith, h) in
-    ap (λ b. cond b (Some c.1) (lookup (nat_eq k) cs)) here ∙ absent_from_numbers k cs tail
+-- of these calls nothing is known
+abbrev pub loses : List ℕ → KnownBy → KnownBy
+loses gone before = λ other. cond (has other gone) None (before other)
 
-pub numbers_without : (k : ℕ) (cs : List (ℕ × Option Known)) → IsAbsent k cs → list_any (nat_eq k) (numbers_of cs) ≡ false
-numbers_without k [] h = refl
-numbers_without k (c ∷ cs) h =
-    let here : nat_eq k c.0 ≡ false = grind (arith, nat_tests, h) in
-    let tail : IsAbsent k cs = grind (arith, nat_tests, h) in
-    ap (λ b. b || list_any (nat_eq k) (numbers_of cs)) here ∙ numbers_without k cs tail
+-- what is said of each pending call is the same
+pub pending_same : (f g : KnownBy) → ((call : ℕ) → pending_call call (f call) ≡ pending_call call (g call)) → (calls : List ℕ)
+    → pending_calls f calls ≡ pending_calls g calls
+pending_same f g same [] = refl
+pending_same f g same (c ∷ calls) = λ i. cons_option (same c i) (pending_same f g same calls i)
 
-pub numbers-set_value : (k : ℕ) (v : Option Known) (cs : List (ℕ × Option Known))
-    → numbers_of (set_value (nat_eq k) cs v) ≡ numbers_of cs
-numbers-set_value k v [] = refl
-numbers-set_value k v (c ∷ cs) = go (numbers-set_value k v cs) (nat_eq k c.0)
-  where
-    go : numbers_of (set_value (nat_eq k) cs v) ≡ numbers_of cs → (b : Bool)
-        → numbers_of (cond b ((c.0, v) ∷ cs) (c ∷ set_value (nat_eq k) cs v)) ≡ c.0 ∷ numbers_of cs
-    go rest true = refl
-    go rest false = ap (λ xs. c.0 ∷ xs) rest
+-- the same where it is said of the calls among these alone
+pending_within : (call : ℕ) (f g : KnownBy) → ((other : ℕ) → nat_eq call other ≡ false → f other ≡ g other) → (calls : List ℕ)
+    → list_any (nat_eq call) calls ≡ false → pending_calls f calls ≡ pending_calls g calls
+pending_within call f g same [] h = refl
+pending_within call f g same (c ∷ calls) h =
+    let here : nat_eq call c ≡ false = grind (arith, h) in
+    let tail : list_any (nat_eq call) calls ≡ false = grind (arith, h) in
+    let is : f c ≡ g c = same c here in
+    λ i. cons_option (pending_call c (is i)) (pending_within call f g same calls tail i)
 
--- a new call goes last
-numbers_append : (k : ℕ) (v : Option Known) (cs : List (ℕ × Option Known))
-    → numbers_of (cs ++ (k, v) ∷ []) ≡ numbers_of cs ++ k ∷ []
-numbers_append k v [] = refl
-numbers_append k v (c ∷ cs) = ap (λ xs. c.0 ∷ xs) (numbers_append k v cs)
+-- what is known of a call that is none of these
+changes_other : (call : ℕ) (known : Option Known) (before : KnownBy) (other : ℕ) → nat_eq call other ≡ false
+    → changes call known before other ≡ before other
+changes_other call known before other ne = ap (λ b. cond b known (before other)) ne
 
-pub numbers-insert : (k : ℕ) (v : Option Known) (cs : List (ℕ × Option Known)) → IsAbsent k cs
-    → numbers_of (insert_entry nat_eq cs k v) ≡ numbers_of cs ++ k ∷ []
-numbers-insert k v cs h = ap numbers_of (insert_absent k v cs h) ∙ numbers_append k v cs
+-- ---- a call that is none of those that were taken
 
--- ---- pending calls
+absent_first : (k : ℕ) (call : ℕ) (known : Option Known) (rest : List (ℕ × PendingCall)) → nat_eq k call ≡ false → IsAbsent k rest
+    → IsAbsent k (cons_option (pending_call call known) rest)
+absent_first k call None rest ne h = h
+absent_first k call (Some known) rest ne h = ap (λ b. cond b (Some (pending_as known)) (lookup (nat_eq k) rest)) ne ∙ h
 
--- a call more in front
-abbrev onto : Option (ℕ × PendingCall) → List (ℕ × PendingCall) → List (ℕ × PendingCall)
-onto None cs = cs
-onto (Some c) cs = c ∷ cs
+pub absent_pending_calls : (k : ℕ) (f : KnownBy) (calls : List ℕ) → list_any (nat_eq k) calls ≡ false → IsAbsent k (pending_calls f calls)
+absent_pending_calls k f [] h = refl
+absent_pending_calls k f (c ∷ calls) h =
+    let here : nat_eq k c ≡ false = grind (arith, h) in
+    let tail : list_any (nat_eq k) calls ≡ false = grind (arith, h) in
+    absent_first k c (f c) (pending_calls f calls) here (absent_pending_calls k f calls tail)
 
-pub absent_pending_calls : (k : ℕ) (cs : List (ℕ × Option Known)) → IsAbsent k cs → IsAbsent k (pending_calls cs)
-absent_pending_calls k [] h = refl
-absent_pending_calls k ((n, None) ∷ cs) h =
-    let tail : IsAbsent k cs = grind (arith, nat_tests, h) in
-    absent_pending_calls k cs tail
-absent_pending_calls k ((n, Some p) ∷ cs) h =
-    let here : nat_eq k n ≡ false = grind (arith, nat_tests, h) in
-    let tail : IsAbsent k cs = grind (arith, nat_tests, h) in
-    ap (λ b. cond b (Some (pending_as p)) (lookup (nat_eq k) (pending_calls cs))) here ∙ absent_pending_calls k cs tail
+-- one more call
+pending_more : (f : KnownBy) (call : ℕ) (calls : List ℕ)
+    → pending_calls f (calls ++ call ∷ []) ≡ pending_calls f calls ++ pending_calls f (call ∷ [])
+pending_more f call calls = filter_map-append (λ call. pending_call call (f call)) calls (call ∷ [])
+
+append_none : (xs : List (ℕ × PendingCall)) → xs ++ [] ≡ xs
+append_none [] = refl
+append_none (x ∷ xs) = ap (λ ys. x ∷ ys) (append_none xs)
 
 -- a call that begins and ends at once
-pub pending-insert_ended : (k : ℕ) (cs : List (ℕ × Option Known)) → IsAbsent k cs
-    → pending_calls (insert_entry nat_eq cs k None) ≡ pending_calls cs
-pending-insert_ended k cs h = ap pending_calls (insert_absent k None cs h) ∙ go cs
-  where
-    go : (cs : List (ℕ × Option Known)) → pending_calls (cs ++ (k, None) ∷ []) ≡ pending_calls cs
-    go [] = refl
-    go ((n, None) ∷ cs) = go cs
-    go ((n, Some p) ∷ cs) = ap (λ xs. (n, pending_as p) ∷ xs) (go cs)
+pub pending_over : (call : ℕ) (f : KnownBy) (calls : List ℕ) → f call ≡ None → pending_calls f (calls ++ call ∷ []) ≡ pending_calls f calls
+pending_over call f calls none =
+    pending_more f call calls ∙ ap (λ o. pending_calls f calls ++ cons_option (pending_call call o) []) none
+    ∙ append_none (pending_calls f calls)
 
 -- a call that begins and goes on
-pub pending-insert : (k : ℕ) (p : Known) (cs : List (ℕ × Option Known)) → IsAbsent k cs
-    → pending_calls (insert_entry nat_eq cs k (Some p)) ≡ insert_entry nat_eq (pending_calls cs) k (pending_as p)
-pending-insert k p cs h =
-    ap pending_calls (insert_absent k (Some p) cs h) ∙ go cs
-    ∙ sym (insert_absent k (pending_as p) (pending_calls cs) (absent_pending_calls k cs h))
+pub pending_new : (call : ℕ) (known : Known) (f : KnownBy) (calls : List ℕ) → list_any (nat_eq call) calls ≡ false
+    → pending_calls (changes call (Some known) f) (calls ++ call ∷ [])
+    ≡ insert_entry nat_eq (pending_calls f calls) call (pending_as known)
+pending_new call known f calls h =
+    let own : nat_eq call call ≡ true = grind (arith, nat_tests) in
+    pending_more (changes call (Some known) f) call calls
+    ∙ ap (λ xs. xs ++ pending_calls (changes call (Some known) f) (call ∷ []))
+    (pending_within call (changes call (Some known) f) f (changes_other call (Some known) f) calls h)
+    ∙ ap (λ b. pending_calls f calls ++ cons_option (pending_call call (cond b (Some known) (f call))) []) own
+    ∙ sym (insert_absent call (pending_as known) (pending_calls f calls) (absent_pending_calls call f calls h))
+
+-- a call that stays pending
+pub pending_stays : (call : ℕ) (known after : Known) (f : KnownBy) (calls : List ℕ) → f call ≡ Some known
+    → pending_as after ≡ pending_as known → pending_calls (changes call (Some after) f) calls ≡ pending_calls f calls
+pending_stays call known after f calls found same =
+    pending_same (changes call (Some after) f) f (λ other. go other (nat_eq call other) refl) calls
   where
-    go : (cs : List (ℕ × Option Known)) → pending_calls (cs ++ (k, Some p) ∷ []) ≡ pending_calls cs ++ (k, pending_as p) ∷ []
-    go [] = refl
-    go ((n, None) ∷ cs) = go cs
-    go ((n, Some p) ∷ cs) = ap (λ xs. (n, pending_as p) ∷ xs) (go cs)
+    go : (other : ℕ) (b : Bool) → nat_eq call other ≡ b
+        → pending_call other (cond b (Some after) (f other)) ≡ pending_call other (f other)
+    go other true is =
+        let key : call ≡ other = grind (arith, nat_tests, is) in
+        let at : f other ≡ Some known = ap f (sym key) ∙ found in
+        ap (λ x. Some (other, x)) same ∙ sym (ap (pending_call other) at)
+    go other false is = refl
 
 -- a call that ends
-pub pending-set_ended : (k : ℕ) (cs : List (ℕ × Option Known)) → AreDistinct cs
-    → pending_calls (set_value (nat_eq k) cs None) ≡ shift_remove_entry (nat_eq k) (pending_calls cs)
-pending-set_ended k [] h = refl
-pending-set_ended k ((n, v) ∷ cs) h = go (pending-set_ended k cs h.1) (nat_eq k n) refl v
+pub pending_ends : (call : ℕ) (f : KnownBy) (calls : List ℕ) → AreApart calls
+    → pending_calls (changes call None f) calls ≡ shift_remove_entry (nat_eq call) (pending_calls f calls)
+pending_ends call f [] h = refl
+pending_ends call f (c ∷ calls) h = go (nat_eq call c) refl (f c) (pending_ends call f calls h.1)
   where
-    go : pending_calls (set_value (nat_eq k) cs None) ≡ shift_remove_entry (nat_eq k) (pending_calls cs) → (b : Bool)
-        → nat_eq k n ≡ b
-        → (v : Option Known)
-        → pending_calls (cond b ((n, None) ∷ cs) ((n, v) ∷ set_value (nat_eq k) cs None))
-        ≡ shift_remove_entry (nat_eq k) (pending_calls ((n, v) ∷ cs))
-    go rest true is None =
-        let absent : IsAbsent k cs = let key : n ≡ k = grind (arith, nat_tests, is) in subst (λ m. IsAbsent m cs) key h.0 in
-        sym (remove_absent k (pending_calls cs) (absent_pending_calls k cs absent))
-    go rest false is None = rest
-    go rest true is (Some p) =
-        sym (ap (λ b. cond b (pending_calls cs) ((n, pending_as p) ∷ shift_remove_entry (nat_eq k) (pending_calls cs))) is)
-    go rest false is (Some p) =
-        ap (λ xs. (n, pending_as p) ∷ xs) rest ∙ sym (ap
-        (λ b. cond b (pending_calls cs) ((n, pending_as p) ∷ shift_remove_entry (nat_eq k) (pending_calls cs))) is)
+    left : List (ℕ × PendingCall)
+    left = pending_calls f calls
 
--- ---- no call began twice
-
-pub distinct_calls : (cs : List (ℕ × Option Known)) → AreApart (numbers_of cs) → AreDistinct cs
-distinct_calls [] h = tt
-distinct_calls (c ∷ cs) h = (absent_from_numbers c.0 cs h.0, distinct_calls cs h.1)
+    go : (b : Bool) → nat_eq call c ≡ b → (known : Option Known)
+        → pending_calls (changes call None f) calls ≡ shift_remove_entry (nat_eq call) left
+        → cons_option (pending_call c (cond b None known)) (pending_calls (changes call None f) calls)
+        ≡ shift_remove_entry (nat_eq call) (cons_option (pending_call c known) left)
+    go true is None rest = rest
+    go true is (Some known) rest =
+        let key : c ≡ call = grind (arith, nat_tests, is) in
+        let apart : list_any (nat_eq call) calls ≡ false = ap (λ k. list_any (nat_eq k) calls) (sym key) ∙ h.0 in
+        rest ∙ remove_absent call left (absent_pending_calls call f calls apart)
+        ∙ sym (ap (λ b. cond b left ((c, pending_as known) ∷ shift_remove_entry (nat_eq call) left)) is)
+    go false is None rest = rest
+    go false is (Some known) rest =
+        ap (λ xs. (c, pending_as known) ∷ xs) rest
+        ∙ sym (ap (λ b. cond b left ((c, pending_as known) ∷ shift_remove_entry (nat_eq call) left)) is)
 
 -- ---- calls that end together
 
-pub numbers-all_ended : (calls : List ℕ) (cs : List (ℕ × Option Known)) → numbers_of (with_all_ended calls cs) ≡ numbers_of cs
-numbers-all_ended [] cs = refl
-numbers-all_ended (call ∷ calls) cs =
-    numbers-all_ended calls (with_ended call cs) ∙ ap numbers_of (with_kept-is call None cs) ∙ numbers-set_value call None cs
-
-absent_set : (k call : ℕ) (cs : List (ℕ × Option Known)) → IsAbsent k cs → IsAbsent k (set_value (nat_eq call) cs None)
-absent_set k call [] h = refl
-absent_set k call (c ∷ cs) h =
-    let here : nat_eq k c.0 ≡ false = grind (arith, nat_tests, h) in
-    let tail : IsAbsent k cs = grind (arith, nat_tests, h) in
-    go here tail (absent_set k call cs tail) (nat_eq call c.0)
+-- one call after the other
+loses_one : (call : ℕ) (more : List ℕ) (f : KnownBy) (other : ℕ)
+    → loses (call ∷ more) f other ≡ loses more (changes call None f) other
+loses_one call more f other =
+    let flip : nat_eq other call ≡ nat_eq call other = grind (arith, nat_tests) in
+    ap (λ b. cond (b || has other more) None (f other)) flip ∙ go (nat_eq call other) (has other more)
   where
-    go : nat_eq k c.0 ≡ false → IsAbsent k cs → IsAbsent k (set_value (nat_eq call) cs None) → (b : Bool)
-        → IsAbsent k (cond b ((c.0, None) ∷ cs) (c ∷ set_value (nat_eq call) cs None))
-    go here tail rest true = ap (λ t. cond t (Some None) (lookup (nat_eq k) cs)) here ∙ tail
-    go here tail rest false = ap (λ t. cond t (Some c.1) (lookup (nat_eq k) (set_value (nat_eq call) cs None))) here ∙ rest
+    go : (a b : Bool) → cond (a || b) None (f other) ≡ cond b None (cond a None (f other))
+    go true true = refl
+    go true false = refl
+    go false true = refl
+    go false false = refl
 
-distinct_set : (call : ℕ) (cs : List (ℕ × Option Known)) → AreDistinct cs → AreDistinct (set_value (nat_eq call) cs None)
-distinct_set call [] h = tt
-distinct_set call (c ∷ cs) h = go (distinct_set call cs h.1) (nat_eq call c.0)
-  where
-    go : AreDistinct (set_value (nat_eq call) cs None) → (b : Bool)
-        → AreDistinct (cond b ((c.0, None) ∷ cs) (c ∷ set_value (nat_eq call) cs None))
-    go rest true = (h.0, h.1)
-    go rest false = (absent_set c.0 call cs h.0, rest)
-
-pub distinct-all_ended : (call : ℕ) (cs : List (ℕ × Option Known)) → AreDistinct cs → AreDistinct (with_ended call cs)
-distinct-all_ended call cs h = subst AreDistinct (sym (with_kept-is call None cs)) (distinct_set call cs h)
+pub pending_loses : (ended : List (ℕ × CallKind)) (rest : List Effect) (f : KnownBy) (calls : List ℕ) → AreApart calls
+    → AllSilent call_change rest
+    → pending_calls (loses (numbers_in ended) f) calls ≡ entries_after nat_eq call_change (ends_of ended ++ rest) (pending_calls f calls)
+pending_loses [] rest f calls apart silent = sym (entries_silent nat_eq call_change rest (pending_calls f calls) silent)
+pending_loses (c ∷ ended) rest f calls apart silent =
+    pending_same (loses (c.0 ∷ numbers_in ended) f) (loses (numbers_in ended) (changes c.0 None f))
+    (λ other. ap (pending_call other) (loses_one c.0 (numbers_in ended) f other)) calls
+    ∙ pending_loses ended rest (changes c.0 None f) calls apart silent
+    ∙ ap (entries_after nat_eq call_change (ends_of ended ++ rest)) (pending_ends c.0 f calls apart)

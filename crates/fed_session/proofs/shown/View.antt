@@ -1,58 +1,38 @@
 -- What a view shows.
-use Rattle.std.proofs.Common.{◌≡◌, ◌<◌, ◌≤◌, ◌+◌, ◌⊎◌, inl, inr, ℕ, suc, Bool, true, false, nat_eq, List, []}
+use Rattle.std.proofs.Common.{◌≡◌, ◌<◌, ◌≤◌, ◌+◌, ◌⊎◌, inl, inr, ℕ, suc, List, []}
 use Rattle.std.proofs.Common.{◌∷◌, ◌++◌, Some, None, length}
-use Rattle.std.proofs.Common.{take, get_or, map, refl, sym, ap, ◌∙◌, arith, cond}
+use Rattle.std.proofs.Common.{take, get_or, map, refl, sym, ap, ◌∙◌, arith}
 use Rattle.std.proofs.Math.Seq.{take-suc}
-use Rattle.std.proofs.lemmas.Bool.Decides.{nat_tests}
 use Rattle.std.proofs.lemmas.List.{take_all}
 use Rattle.std.proofs.lemmas.Option.{slice_get_within, get_or_from_slice_get, slice_get_cases}
-use Rattle.std.specs.Prelude.{Option, slice_get, option_and_then}
-use Rattle.std.specs.List.{filter_map}
-use Rattle.std.specs.Map.{lookup}
+use Rattle.std.specs.Prelude.{Option, slice_get}
+use Rattle.std.specs.List.{cons_option}
 use Rattle.fed_trace.specs.Call.{Known, page_of}
 use Rattle.fed_trace.specs.Known.{known_in, known_at}
-use Rattle.fed_session.specs.Session.{State, Stands, pending_calls, kept_at, with_stage}
-use Rattle.fed_session.specs.StepParts.{shown_call}
+use Rattle.fed_session.specs.Session.{State, Stands, item_known, pending_call, pending_calls, with_stage}
+use Rattle.fed_session.specs.StepParts.{shown_call, shown_calls}
 use Rattle.fed_trace.specs.Trace.{Trace, staged, staged_by, stage_at}
-use Rattle.fed_session.proofs.events.Event.{calls_distinct}
 use Rattle.fed_trace.proofs.known.Known.{found_by}
-use Rattle.fed_trace.proofs.keyed.Keyed.{IsAbsent, AreDistinct}
 
--- where each call is looked up as itself the pending ones are shown with their stages
-shown_by : (T : Trace) (all : List (ℕ × Option Known)) → ((call : ℕ) → kept_at call all ≡ known_at T call)
-    → (cs : List (ℕ × Option Known)) → ((call : ℕ) (kept : Option Known) → lookup (nat_eq call) cs ≡ Some kept
-    → lookup (nat_eq call) all ≡ Some kept) → AreDistinct cs
-    → map with_stage (filter_map shown_call cs) ≡ map (staged_by (stage_at T)) (pending_calls cs)
-shown_by T all h [] within distinct = refl
-shown_by T all h ((n, kept) ∷ cs) within distinct =
-    let here : lookup (nat_eq n) ((n, kept) ∷ cs) ≡ Some kept = grind (arith, nat_tests) in
-    go kept (ap (option_and_then (λ kept. kept)) (sym (within n kept here)) ∙ h n)
-    (shown_by T all h cs (λ call k found. within call k (there n kept cs call k distinct.0 found)) distinct.1)
+-- the pending ones are shown with their stages
+shown_by : (T : Trace) (known : ℕ → Option Known) → ((call : ℕ) → known call ≡ known_at T call) → (calls : List ℕ)
+    → map with_stage (shown_calls known calls) ≡ map (staged_by (stage_at T)) (pending_calls known calls)
+shown_by T known h [] = refl
+shown_by T known h (n ∷ calls) = go (known n) (h n) (shown_by T known h calls)
   where
-    there : (n : ℕ) (kept : Option Known) (cs : List (ℕ × Option Known)) (call : ℕ) (k : Option Known) → IsAbsent n cs
-        → lookup (nat_eq call) cs ≡ Some k
-        → lookup (nat_eq call) ((n, kept) ∷ cs) ≡ Some k
-    there n kept cs call k absent found = at (nat_eq call n) refl
-      where
-        at : (b : Bool) → nat_eq call n ≡ b → cond b (Some kept) (lookup (nat_eq call) cs) ≡ Some k
-        at true is =
-            let key : n ≡ call = grind (arith, nat_tests, is) in
-            let none : lookup (nat_eq call) cs ≡ None = ap (λ m. lookup (nat_eq m) cs) (sym key) ∙ absent in
-            absurd (cc)
-        at false is = found
-
-    go : (kept : Option Known) → kept ≡ known_at T n
-        → map with_stage (filter_map shown_call cs) ≡ map (staged_by (stage_at T)) (pending_calls cs)
-        → map with_stage (filter_map shown_call ((n, kept) ∷ cs)) ≡ map (staged_by (stage_at T)) (pending_calls ((n, kept) ∷ cs))
+    go : (one : Option Known) → one ≡ known_at T n
+        → map with_stage (shown_calls known calls) ≡ map (staged_by (stage_at T)) (pending_calls known calls)
+        → map with_stage (cons_option (shown_call n one) (shown_calls known calls))
+        ≡ map (staged_by (stage_at T)) (cons_option (pending_call n one) (pending_calls known calls))
     go None is rest = rest
-    go (Some known) is rest =
-        let about = found_by known (stage_at T n) (known_in T.header T.rows n) (sym is) in
-        ap (λ o. (n, page_of known, o) ∷ map with_stage (filter_map shown_call cs)) (sym about.stage_is)
-        ∙ ap (λ xs. (n, page_of known, stage_at T n) ∷ xs) rest
+    go (Some one) is rest =
+        let about = found_by one (stage_at T n) (known_in T.header T.rows n) (sym is) in
+        ap (λ o. (n, page_of one, o) ∷ map with_stage (shown_calls known calls)) (sym about.stage_is)
+        ∙ ap (λ xs. (n, page_of one, stage_at T n) ∷ xs) rest
 
-pub shown : (s : State) (T : Trace) → Stands s T → map with_stage (filter_map shown_call s.calls) ≡ staged T
-shown s T h =
-    shown_by T s.calls h.known s.calls (λ call kept found. found) (calls_distinct s T h) ∙ ap (map (staged_by (stage_at T))) h.pending
+pub shown : (s : State) (T : Trace) → Stands s T
+    → map with_stage (shown_calls (item_known s.tabs.table.items) s.tabs.taken) ≡ staged T
+shown s T h = shown_by T (item_known s.tabs.table.items) h.known s.tabs.taken ∙ ap (map (staged_by (stage_at T))) h.pending
 
 -- ---- statuses one after the other
 

@@ -2,6 +2,7 @@
 use Rattle.std.proofs.Common.{◌≡◌, ℕ, true, nat_eq, ◌+◌, List, [], ◌∷◌, ◌++◌, refl, sym, ap, subst, ◌∙◌, arith}
 use Rattle.std.proofs.Common.{append-nil}
 use Rattle.std.specs.Prelude.{unwrap_or}
+use Rattle.std.specs.Option.{option_to_list}
 use Rattle.std.specs.Map.{lookup, keys_of}
 use Rattle.std.specs.List.{filter_map}
 use Rattle.fed_origin.specs.Origin.{same_origin}
@@ -11,20 +12,23 @@ use Rattle.fed_jar.proofs.writes.Writes.{jar_is_standing}
 use Rattle.fed_script.specs.declared.event.Event.{Event}
 use Rattle.fed_script.specs.declared.event.Header.{Header}
 use Rattle.fed_jar.specs.Writes as jar
+use Rattle.fed_table.specs.Table.{page_calls}
 use Rattle.fed_trace.specs.Effect.{last_of, page_change, login_change, kept_change, flag_change, call_change, stage_change, begun_by}
 use Rattle.fed_trace.specs.Effect.{begins, written_by, time_of}
 use Rattle.fed_trace.specs.Keyed.{entries_after}
 use Rattle.fed_trace.specs.Known.{known_at}
 use Rattle.fed_trace.specs.Row.{effects_of, with_event, IsNew}
-use Rattle.fed_session.specs.Session.{State, Holds, Stands, origins_of, numbers_of, pending_calls, kept_at}
+use Rattle.fed_session.specs.Session.{State, TabsParts, Stands, load_change, item_known, pending_call, pending_calls}
 use Rattle.fed_session.specs.StepParts.{sight_of}
-use Rattle.fed_trace.specs.Trace.{Trace, pages, pending, last_in, calls_of, writes, standing}
+use Rattle.fed_trace.specs.Trace.{Trace, pages, pending, last_in, writes, standing}
 use Rattle.fed_trace.proofs.keyed.Keyed.{unwrap_or-option_or}
 use Rattle.fed_trace.proofs.effects.Silent.{AllSilent, entries_silent, said_silent, last_silent, last_said_silent}
 use Rattle.fed_trace.proofs.known.Known.{known_same}
 use Rattle.fed_trace.proofs.events.Aside.{IsAside}
 use Rattle.fed_session.proofs.clauses.Sight.{sees}
-use Rattle.fed_session.proofs.kept.Held.{holds_none}
+use Rattle.fed_session.proofs.kept.Calls.{pending_same}
+use Rattle.fed_session.proofs.kept.Held.{Holds}
+use Rattle.fed_session.proofs.kept.Loaded.{loads_silent}
 
 -- ---- one event more
 
@@ -46,12 +50,19 @@ pub record Owes (s s' : State) (T : Trace) (line : ℕ) (event : Event) : Type 0
   pub time : s'.time ≡ unwrap_or (last_of time_of (effects_of T event)) s.time
   pub cookies : s'.cookies ≡ cookies_after s.cookies (filter_map written_by (effects_of T event))
   pub login : s'.login ≡ entries_after same_origin login_change (effects_of T event) s.login
-  pub pages : origins_of s'.pages ≡ entries_after nat_eq page_change (effects_of T event) (pages T)
-  pub held : (page : ℕ) → Holds (lookup (nat_eq page) s'.pages)
-      (calls_of page (entries_after nat_eq call_change (effects_of T event) (pending T)))
-  pub taken : numbers_of s'.calls ≡ numbers_of s.calls ++ filter_map begun_by (effects_of T event)
-  pub pending : pending_calls s'.calls ≡ entries_after nat_eq call_change (effects_of T event) (pending T)
-  pub known : (call : ℕ) → kept_at call s'.calls ≡ known_at (with_event T line event) call
+  pub pages : s'.tabs.pages ≡ entries_after nat_eq page_change (effects_of T event) (pages T)
+  pub loaded : keys_of s'.tabs.table.pages
+      ≡ keys_of (entries_after nat_eq load_change (effects_of T event) (standing nat_eq load_change T.rows))
+  pub held : Holds s'.tabs.table.pages s'.tabs.gets (entries_after nat_eq call_change (effects_of T event) (pending T))
+  pub waits : s'.tabs.table.waits ≡ []
+  pub taken : s'.tabs.taken ≡ s.tabs.taken ++ filter_map begun_by (effects_of T event)
+  pub pending : pending_calls (item_known s'.tabs.table.items) s'.tabs.taken
+      ≡ entries_after nat_eq call_change (effects_of T event) (pending T)
+  pub known : (call : ℕ) → item_known s'.tabs.table.items call ≡ known_at (with_event T line event) call
+
+-- what pages keep of the pending calls
+pub stands_held : (s : State) (T : Trace) → Stands s T → Holds s.tabs.table.pages s.tabs.gets (pending T)
+stands_held s T h = record { listed = h.held; gets = h.gets }
 
 pub stands_after : (s s' : State) (T : Trace) (line : ℕ) (event : Event) → Stands s T → IsNew T.rows event
     → s'.alive ≡ true → s'.steps ≡ s.steps + 1 → Owes s s' T line event → Stands s' (with_event T line event)
@@ -72,7 +83,10 @@ stands_after s s' T line event h new alive steps o =
       kept = o.kept;
       flags = o.flags;
       pages = o.pages;
-      held = o.held;
+      loaded = o.loaded;
+      held = o.held.listed;
+      gets = o.held.gets;
+      waits = o.waits;
       taken = o.taken ∙ ap (λ xs. xs ++ filter_map begun_by effects) h.taken;
       pending = o.pending;
       known = o.known;
@@ -80,10 +94,10 @@ stands_after s s' T line event h new alive steps o =
 
 -- before the first event
 pub stands_new : (s : State) (header : Header) → s.alive ≡ true → s.steps ≡ 0
-    → sight_of s ≡ record { time = header.now; rules = header.rules; jar = []; login = []; kept = []; flags = [] } → s.pages ≡ []
-    → s.calls ≡ []
+    → sight_of s ≡ record { time = header.now; rules = header.rules; jar = []; login = []; kept = []; flags = [] }
+    → s.tabs ≡ record { pages = []; gets = []; taken = []; table = record { pages = []; waits = []; items = [] } }
     → Stands s (record { header = header; rows = [] })
-stands_new s header alive steps sight kept_pages calls =
+stands_new s header alive steps sight tabs =
     let seen = sees s _ sight in
     record {
       alive = alive;
@@ -95,11 +109,14 @@ stands_new s header alive steps sight kept_pages calls =
       login = seen.login;
       kept = seen.kept;
       flags = seen.flags;
-      pages = ap origins_of kept_pages;
-      held = λ page. subst (λ ps. Holds (lookup (nat_eq page) ps) []) (sym kept_pages) holds_none;
-      taken = ap numbers_of calls;
-      pending = ap pending_calls calls;
-      known = λ call. ap (kept_at call) calls;
+      pages = ap (λ (t : TabsParts). t.pages) tabs;
+      loaded = ap (λ (t : TabsParts). keys_of t.table.pages) tabs;
+      held = λ page. ap (λ (t : TabsParts). page_calls t.table.pages page) tabs;
+      gets = λ page. ap (λ (t : TabsParts). option_to_list (lookup (nat_eq page) t.gets)) tabs;
+      waits = ap (λ (t : TabsParts). t.table.waits) tabs;
+      taken = ap (λ (t : TabsParts). t.taken) tabs;
+      pending = ap (λ (t : TabsParts). pending_calls (item_known t.table.items) t.taken) tabs;
+      known = λ call. ap (λ (t : TabsParts). item_known t.table.items call) tabs;
     }
 
 -- ---- an event that says nothing of permissions and flags
@@ -122,15 +139,17 @@ flags_still s s' T event h silent same =
 
 -- ---- an event that says nothing of pages and calls
 
-pub owes_aside : (s s' : State) (T : Trace) (line : ℕ) (event : Event) → Stands s T → IsAside T line event
+pub owes_as_known : (s s' : State) (T : Trace) (line : ℕ) (event : Event) → Stands s T → IsAside T line event
     → s'.rules ≡ s.rules
     → s'.kept ≡ keys_of (entries_after same_triple kept_change (effects_of T event) (standing same_triple kept_change T.rows))
     → s'.flags ≡ keys_of (entries_after same_origin flag_change (effects_of T event) (standing same_origin flag_change T.rows))
     → s'.time ≡ unwrap_or (last_of time_of (effects_of T event)) s.time
     → s'.cookies ≡ cookies_after s.cookies (filter_map written_by (effects_of T event))
     → s'.login ≡ entries_after same_origin login_change (effects_of T event) s.login
-    → s'.pages ≡ s.pages → s'.calls ≡ s.calls → Owes s s' T line event
-owes_aside s s' T line event h aside rules kept_now flags_now time written login kept_pages kept_calls =
+    → s'.tabs.pages ≡ s.tabs.pages → s'.tabs.table.pages ≡ s.tabs.table.pages → s'.tabs.gets ≡ s.tabs.gets
+    → s'.tabs.taken ≡ s.tabs.taken → s'.tabs.table.waits ≡ s.tabs.table.waits
+    → ((call : ℕ) → item_known s'.tabs.table.items call ≡ item_known s.tabs.table.items call) → Owes s s' T line event
+owes_as_known s s' T line event h aside rules kept_now flags_now time written login same_pages listed gets taken waits known =
     let effects = effects_of T event in
     let no_call = entries_silent nat_eq call_change effects (pending T) aside.calls in
     record {
@@ -140,14 +159,33 @@ owes_aside s s' T line event h aside rules kept_now flags_now time written login
       time = time;
       cookies = written;
       login = login;
-      pages = ap origins_of kept_pages ∙ h.pages ∙ sym (entries_silent nat_eq page_change effects (pages T) aside.pages);
-      held = λ page. subst (λ es. Holds (lookup (nat_eq page) s'.pages) (calls_of page es)) (sym no_call)
-          (subst (λ ps. Holds (lookup (nat_eq page) ps) (calls_of page (pending T))) (sym kept_pages) (h.held page));
-      taken =
-          ap numbers_of kept_calls ∙ sym (append-nil (numbers_of s.calls))
-          ∙ ap (λ xs. numbers_of s.calls ++ xs) (sym (said_silent begun_by effects aside.begun));
-      pending = ap pending_calls kept_calls ∙ h.pending ∙ sym no_call;
-      known = λ q. ap (kept_at q) kept_calls ∙ h.known q
+      pages = same_pages ∙ h.pages ∙ sym (entries_silent nat_eq page_change effects (pages T) aside.pages);
+      loaded = ap keys_of listed ∙ h.loaded
+          ∙ ap keys_of (sym (entries_silent nat_eq load_change effects (standing nat_eq load_change T.rows)
+          (loads_silent effects aside.pages)));
+      held = subst (Holds s'.tabs.table.pages s'.tabs.gets) (sym no_call)
+          (subst (λ gets. Holds s'.tabs.table.pages gets (pending T)) (sym gets)
+          (subst (λ lists. Holds lists s.tabs.gets (pending T)) (sym listed) (stands_held s T h)));
+      waits = waits ∙ h.waits;
+      taken = taken ∙ sym (append-nil s.tabs.taken) ∙ ap (λ xs. s.tabs.taken ++ xs) (sym (said_silent begun_by effects aside.begun));
+      pending =
+          ap (pending_calls (item_known s'.tabs.table.items)) taken
+          ∙ pending_same (item_known s'.tabs.table.items) (item_known s.tabs.table.items) (λ c. ap (pending_call c) (known c)) s.tabs.taken
+          ∙ h.pending ∙ sym no_call;
+      known = λ q. known q ∙ h.known q
           ∙ sym (known_same T line event q (last_said_silent nat_eq stage_change q effects aside.stages)
           (last_silent (begins q) effects (aside.begins_none q)) (aside.inputs q));
     }
+
+pub owes_aside : (s s' : State) (T : Trace) (line : ℕ) (event : Event) → Stands s T → IsAside T line event
+    → s'.rules ≡ s.rules
+    → s'.kept ≡ keys_of (entries_after same_triple kept_change (effects_of T event) (standing same_triple kept_change T.rows))
+    → s'.flags ≡ keys_of (entries_after same_origin flag_change (effects_of T event) (standing same_origin flag_change T.rows))
+    → s'.time ≡ unwrap_or (last_of time_of (effects_of T event)) s.time
+    → s'.cookies ≡ cookies_after s.cookies (filter_map written_by (effects_of T event))
+    → s'.login ≡ entries_after same_origin login_change (effects_of T event) s.login
+    → s'.tabs ≡ s.tabs → Owes s s' T line event
+owes_aside s s' T line event h aside rules kept_now flags_now time written login tabs =
+    owes_as_known s s' T line event h aside rules kept_now flags_now time written login (ap (λ (t : TabsParts). t.pages) tabs)
+    (ap (λ (t : TabsParts). t.table.pages) tabs) (ap (λ (t : TabsParts). t.gets) tabs) (ap (λ (t : TabsParts). t.taken) tabs)
+    (ap (λ (t : TabsParts). t.table.waits) tabs) (λ q. ap (λ (t : TabsParts). item_known t.table.items q) tabs)

@@ -1,5 +1,7 @@
 -- The labels of a text and of its parts.
-use Rattle.std.proofs.Common.{◌≡◌, ◌≢◌, ℕ, ◌+◌, ◌-◌, ◌<◌, ◌≤◌, Bool, true, false, cond, ◌||◌, List, [], ◌∷◌, ◌++◌, length, get_or, take, drop, reverse, All, Option, Some, None, option_map, option_and_then, refl, sym, ap, ◌∙◌, subst, arith, append_assoc, append-nil, take-append-drop, ne_eqb, length-append, length-drop}
+use Rattle.std.proofs.Common.{◌≡◌, ◌≢◌, ℕ, ◌+◌, ◌-◌, ◌<◌, ◌≤◌, Bool, true, false, cond, ◌||◌, List, [], ◌∷◌, ◌++◌, length, get_or, take}
+use Rattle.std.proofs.Common.{drop, reverse, All, Option, Some, None, option_map, option_and_then, refl, sym, ap, ◌∙◌, subst, arith}
+use Rattle.std.proofs.Common.{append_assoc, append-nil, take-append-drop, ne_eqb, length-append, length-drop}
 use mathlib.Core.List.{reverse_aux}
 use Rattle.std.specs.List.{list_any, slice_split, onto_first, join_with_byte}
 use Rattle.std.proofs.lemmas.List.{reverse-reverse, reverse-append, length-reverse, length-take, drop_more}
@@ -31,10 +33,12 @@ labels_of-append : (xs ys : List ℕ) → All (IsNot 46) ys → labels_of (xs ++
 labels_of-append xs ys none = ap reverse (slice_split-last xs ys none) ∙ reverse-append (slice_split is_dot xs) (ys ∷ [])
 
 -- the last dot stands at i
-pub labels_of-last : (text : List ℕ) (i : ℕ) → i < length text → get_or text i 0 ≡ 46 → ((k : ℕ) → i + 1 ≤ k → k < length text → get_or text k 0 ≢ 46)
+pub labels_of-last : (text : List ℕ) (i : ℕ) → i < length text → get_or text i 0 ≡ 46
+    → ((k : ℕ) → i + 1 ≤ k → k < length text → get_or text k 0 ≢ 46)
     → labels_of text ≡ drop (i + 1) text ∷ labels_of (take i text)
 labels_of-last text i inside here after =
-    ap labels_of (split_around text i 46 inside here) ∙ labels_of-append (take i text) (drop (i + 1) text) (All-drop_from_reads (IsNot 46) text (i + 1) after)
+    ap labels_of (split_around text i 46 inside here)
+    ∙ labels_of-append (take i text) (drop (i + 1) text) (All-drop_from_reads (IsNot 46) text (i + 1) after)
 
 pub joined-last : (text : List ℕ) (i : ℕ) → i < length text → get_or text i 0 ≡ 46 → text ≡ joined (Some (take i text)) (drop (i + 1) text)
 joined-last text i inside here = split_around text i 46 inside here
@@ -61,9 +65,12 @@ list_any-reverse p xs = list_any-aux p xs [] ∙ or_nothing (list_any p xs)
 join-append : (x : List ℕ) (xs : List (List ℕ)) (y : List ℕ) (ys : List (List ℕ))
     → join_with_byte 46 ((x ∷ xs) ++ y ∷ ys) ≡ join_with_byte 46 (x ∷ xs) ++ (46 ∷ join_with_byte 46 (y ∷ ys))
 join-append x [] y ys = refl
-join-append x (z ∷ xs) y ys = ap (λ l. x ++ (46 ∷ l)) (join-append z xs y ys) ∙ sym (append_assoc x (46 ∷ join_with_byte 46 (z ∷ xs)) (46 ∷ join_with_byte 46 (y ∷ ys)))
+join-append x (z ∷ xs) y ys =
+    ap (λ l. x ++ (46 ∷ l)) (join-append z xs y ys)
+    ∙ sym (append_assoc x (46 ∷ join_with_byte 46 (z ∷ xs)) (46 ∷ join_with_byte 46 (y ∷ ys)))
 
-join-both : (xs ys : List (List ℕ)) → 0 < length xs → 0 < length ys → join_with_byte 46 (xs ++ ys) ≡ join_with_byte 46 xs ++ (46 ∷ join_with_byte 46 ys)
+join-both : (xs ys : List (List ℕ)) → 0 < length xs → 0 < length ys
+    → join_with_byte 46 (xs ++ ys) ≡ join_with_byte 46 xs ++ (46 ∷ join_with_byte 46 ys)
 join-both [] ys l m = absurd (omega arith)
 join-both (x ∷ xs) [] l m = absurd (omega arith)
 join-both (x ∷ xs) (y ∷ ys) l m = join-append x xs y ys
@@ -75,7 +82,8 @@ pub labels_of-some : (name : List ℕ) → 0 < length (labels_of name)
 labels_of-some name = omega (arith, length-reverse (slice_split is_dot name), length-slice_split is_dot name)
 
 -- labels, then those of a name before them
-name_of-append : (labels : List (List ℕ)) (before : List ℕ) → 0 < length labels → name_of (labels ++ labels_of before) ≡ before ++ (46 ∷ name_of labels)
+name_of-append : (labels : List (List ℕ)) (before : List ℕ) → 0 < length labels
+    → name_of (labels ++ labels_of before) ≡ before ++ (46 ∷ name_of labels)
 name_of-append labels before l =
     let split = slice_split is_dot before in
     let turned : reverse (labels ++ reverse split) ≡ split ++ reverse labels =
@@ -92,17 +100,20 @@ pub record IsDivided (labels : List (List ℕ)) (count : ℕ) (more : List (List
 same_tail : (x y : List ℕ) (xs ys : List (List ℕ)) → x ∷ xs ≡ y ∷ ys → xs ≡ ys
 same_tail x y xs ys f = cc
 
-drop_inside : (labels : List (List ℕ)) (count : ℕ) (label : List ℕ) (more : List (List ℕ)) → drop count labels ≡ label ∷ more → count < length labels
+drop_inside : (labels : List (List ℕ)) (count : ℕ) (label : List ℕ) (more : List (List ℕ)) → drop count labels ≡ label ∷ more
+    → count < length labels
 drop_inside labels count label more e =
     let lengths : length (drop count labels) ≡ length (label ∷ more) = ap length e in
     omega (arith, lengths, length-drop count labels)
 
 -- the labels before a label are those that are left
-pub drop-next : (labels : List (List ℕ)) (count : ℕ) (label : List ℕ) (more : List (List ℕ)) → drop count labels ≡ label ∷ more → more ≡ drop (count + 1) labels
+pub drop-next : (labels : List (List ℕ)) (count : ℕ) (label : List ℕ) (more : List (List ℕ)) → drop count labels ≡ label ∷ more
+    → more ≡ drop (count + 1) labels
 drop-next labels count label more e =
     same_tail label _ more _ (sym e ∙ drop_more labels count label (drop_inside labels count label more e))
 
-divided : (labels : List (List ℕ)) (count : ℕ) (label : List ℕ) (more : List (List ℕ)) → drop count labels ≡ label ∷ more → IsDivided labels count more
+divided : (labels : List (List ℕ)) (count : ℕ) (label : List ℕ) (more : List (List ℕ)) → drop count labels ≡ label ∷ more
+    → IsDivided labels count more
 divided labels count label more e =
     record {
       enough = drop_inside labels count label more e;
@@ -119,14 +130,20 @@ cut_all : (name label : List ℕ) (count : ℕ) → IsDivided (labels_of name) c
 cut_all name label count d =
     let whole : take (count + 1) (labels_of name) ≡ labels_of name = sym (append-nil _) ∙ d.parts in
     let start : length label - length label ≡ 0 = omega arith in
-    record { enough = d.enough; within = omega arith; text = ap (λ n. drop n name) start ∙ sym (name_of-labels_of name) ∙ ap name_of (sym whole) }
+    record {
+      enough = d.enough;
+      within = omega arith;
+      text =
+          ap (λ n. drop n name) start ∙ sym (name_of-labels_of name) ∙ ap name_of (sym whole);
+    }
 
 cut_behind : (name label before : List ℕ) (count : ℕ) → IsDivided (labels_of name) count (labels_of before)
     → IsCut name count (length (before ++ (46 ∷ label)) - length label)
 cut_behind name label before count d =
     let last = take (count + 1) (labels_of name) in
     let some : 0 < length last = omega (arith, length-take (count + 1) (labels_of name), d.enough) in
-    let text : name ≡ before ++ (46 ∷ name_of last) = sym (name_of-labels_of name) ∙ ap name_of (sym d.parts) ∙ name_of-append last before some in
+    let text : name ≡ before ++ (46 ∷ name_of last) =
+    sym (name_of-labels_of name) ∙ ap name_of (sym d.parts) ∙ name_of-append last before some in
     let start : length (before ++ (46 ∷ label)) - length label ≡ length before + 1 = omega (arith, length-append before (46 ∷ label)) in
     record {
       enough = d.enough;
@@ -138,12 +155,15 @@ pub cut_is : (name rest label : List ℕ) (before : Option (List ℕ)) (count : 
     → labels_of rest ≡ drop count (labels_of name) → labels_of rest ≡ label ∷ labels_before before → rest ≡ joined before label
     → IsCut name count (length rest - length label)
 cut_is name rest label None count e f text =
-    subst (λ (t : List ℕ). IsCut name count (length t - length label)) (sym text) (cut_all name label count (divided _ count label [] (sym e ∙ f)))
+    subst (λ (t : List ℕ). IsCut name count (length t - length label)) (sym text)
+    (cut_all name label count (divided _ count label [] (sym e ∙ f)))
 cut_is name rest label (Some before) count e f text =
-    subst (λ (t : List ℕ). IsCut name count (length t - length label)) (sym text) (cut_behind name label before count (divided _ count label (labels_of before) (sym e ∙ f)))
+    subst (λ (t : List ℕ). IsCut name count (length t - length label)) (sym text)
+    (cut_behind name label before count (divided _ count label (labels_of before) (sym e ∙ f)))
 
 -- there is no label before the last of those that were asked for
-pub short_of : (labels : List (List ℕ)) (passed count : ℕ) (label : List ℕ) → drop passed labels ≡ label ∷ [] → passed < count → length labels ≤ count
+pub short_of : (labels : List (List ℕ)) (passed count : ℕ) (label : List ℕ) → drop passed labels ≡ label ∷ [] → passed < count
+    → length labels ≤ count
 short_of labels passed count label e l =
     let lengths : length (drop passed labels) ≡ length (label ∷ []) = ap length e in
     omega (arith, lengths, length-drop passed labels)
@@ -151,16 +171,21 @@ short_of labels passed count label e l =
 -- ---- ASCII labels
 
 pub ascii_labels-before : (labels more : List (List ℕ)) (label ascii : List ℕ) → ascii_label label ≡ Some ascii
-    → option_map (λ more. (labels ++ ascii ∷ []) ++ more) (ascii_labels more) ≡ option_map (λ more. labels ++ more) (ascii_labels (label ∷ more))
+    → option_map (λ more. (labels ++ ascii ∷ []) ++ more) (ascii_labels more)
+    ≡ option_map (λ more. labels ++ more) (ascii_labels (label ∷ more))
 ascii_labels-before labels more label ascii e =
-    regrouped (ascii_labels more) ∙ ap (λ o. option_map (λ m. labels ++ m) (option_and_then (λ a. option_map (λ m. a ∷ m) (ascii_labels more)) o)) (sym e)
+    regrouped (ascii_labels more) ∙ ap (λ o. option_map (λ m. labels ++ m)
+    (option_and_then (λ a. option_map (λ m. a ∷ m) (ascii_labels more)) o)) (sym e)
   where
-    regrouped : (o : Option (List (List ℕ))) → option_map (λ m. (labels ++ ascii ∷ []) ++ m) o ≡ option_map (λ m. labels ++ m) (option_map (λ m. ascii ∷ m) o)
+    regrouped : (o : Option (List (List ℕ))) → option_map (λ m. (labels ++ ascii ∷ []) ++ m) o
+        ≡ option_map (λ m. labels ++ m) (option_map (λ m. ascii ∷ m) o)
     regrouped None = refl
     regrouped (Some m) = ap (λ l. Some l) (append_assoc labels (ascii ∷ []) m)
 
-pub ascii_labels-none : (labels more : List (List ℕ)) (label : List ℕ) → ascii_label label ≡ None → option_map (λ m. labels ++ m) (ascii_labels (label ∷ more)) ≡ None
-ascii_labels-none labels more label e = ap (λ o. option_map (λ m. labels ++ m) (option_and_then (λ a. option_map (λ m. a ∷ m) (ascii_labels more)) o)) e
+pub ascii_labels-none : (labels more : List (List ℕ)) (label : List ℕ) → ascii_label label ≡ None
+    → option_map (λ m. labels ++ m) (ascii_labels (label ∷ more)) ≡ None
+ascii_labels-none labels more label e =
+    ap (λ o. option_map (λ m. labels ++ m) (option_and_then (λ a. option_map (λ m. a ∷ m) (ascii_labels more)) o)) e
 
 pub option_map-nothing : (o : Option (List (List ℕ))) → option_map (λ m. [] ++ m) o ≡ o
 option_map-nothing None = refl

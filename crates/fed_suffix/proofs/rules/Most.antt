@@ -1,5 +1,6 @@
 -- How many labels the longest matching rules have: the walk from the right agrees with the set of all rules.
-use Rattle.std.proofs.Common.{◌≡◌, ℕ, zero, suc, ◌+◌, ◌-◌, ◌<◌, ◌≤◌, ◌⊎◌, inl, inr, max, Bool, true, false, cond, not, ◌&&◌, ◌||◌, List, [], ◌∷◌, length, reverse, filter, codes, refl, sym, ap, ◌∙◌, subst, arith}
+use Rattle.std.proofs.Common.{◌≡◌, ℕ, zero, suc, ◌+◌, ◌-◌, ◌<◌, ◌≤◌, ◌⊎◌, inl, inr, max, Bool, true, false, cond, not, ◌&&◌, ◌||◌, List, []}
+use Rattle.std.proofs.Common.{◌∷◌, length, reverse, filter, codes, refl, sym, ap, ◌∙◌, subst, arith}
 use mathlib.Core.List.{reverse_aux}
 use mathlib.Core.Bool.{true≢false}
 use Rattle.std.specs.List.{list_any}
@@ -52,9 +53,14 @@ stands_for_itself label = or_second _ _ ((bytes_eq-Decides label label).1 refl)
 
 stands_for_cases : (label part : List ℕ) → stands_for label part ≡ true → (label ≡ codes "*") ⊎ (label ≡ part)
 stands_for_cases label part stands =
-    elim (one_of _ _ stands) [ inl star ↦ inl ((bytes_eq-Decides label (codes "*")).0 star) | inr same ↦ inr ((bytes_eq-Decides label part).0 same) ]
+    elim (one_of _ _ stands) [
+      | inl star ↦ inl ((bytes_eq-Decides label (codes "*")).0 star)
+      | inr same ↦ inr
+          ((bytes_eq-Decides label part).0 same)
+    ]
 
-length_if_le : (most : ℕ) (done : List (List ℕ)) (passes : Bool) → (passes ≡ true → 0 + length done ≤ most) → cond passes (length done) 0 ≤ most
+length_if_le : (most : ℕ) (done : List (List ℕ)) (passes : Bool) → (passes ≡ true → 0 + length done ≤ most)
+    → cond passes (length done) 0 ≤ most
 length_if_le most done true bound = omega (arith, bound refl)
 length_if_le most done false bound = omega arith
 
@@ -66,7 +72,10 @@ most_from_le test most [] done bound = length_if_le most done (test done) (bound
 most_from_le test most (part ∷ name) done bound =
     let here : length_if test done ≤ most = length_if_le most done (test done) (bound [] refl) in
     let by_part : most_from test (part ∷ done) name ≤ most =
-    most_from_le test most name (part ∷ done) (λ more stands passes. omega (arith, bound (part ∷ more) (both _ _ (stands_for_itself part) stands) passes)) in
+    most_from_le test most name (part ∷ done) (λ more stands passes. omega (
+      arith,
+      bound (part ∷ more) (both _ _ (stands_for_itself part) stands) passes,
+    )) in
     let by_star : most_from test (codes "*" ∷ done) name ≤ most =
     most_from_le test most name (codes "*" ∷ done) (λ more stands passes. omega (arith, bound (codes "*" ∷ more) stands passes)) in
     omega arith
@@ -82,7 +91,8 @@ le_most_from test [] [] done stands passes = omega (arith, le_length_if done (te
 le_most_from test [] (part ∷ name) done stands passes = omega (arith, le_length_if done (test done) passes)
 le_most_from test (label ∷ more) [] done stands passes = absurd (true≢false (sym stands))
 le_most_from test (label ∷ more) (part ∷ name) done stands passes =
-    by (stands_for_cases label part (first_of_both _ _ stands)) (le_most_from test more name (label ∷ done) (second_of_both _ _ stands) passes)
+    by (stands_for_cases label part (first_of_both _ _ stands)) (le_most_from test more name (label ∷ done) (second_of_both _ _ stands)
+    passes)
   where
     by : (label ≡ codes "*") ⊎ (label ≡ part) → length more + length (label ∷ done) ≤ most_from test (label ∷ done) name
         → length (label ∷ more) + length done ≤ most_from test done (part ∷ name)
@@ -103,7 +113,8 @@ is_itself rule = ap is_eq (tied_itself rule_cmp_total rule)
 pub same_rule : (a b : Rule) → eq_by_cmp rule_cmp a b ≡ true → a ≡ b
 same_rule a b e = rule_cmp-IsAntisymmetric a b ((Equal-is (rule_cmp a b)).0 e)
 
-most_labels-cond : (most : ℕ) (rule : Rule) (rules : List Rule) (b : Bool) → (b ≡ true → length rule.0 ≤ most) → most_labels rules ≤ most → most_labels (cond b (rule ∷ rules) rules) ≤ most
+most_labels-cond : (most : ℕ) (rule : Rule) (rules : List Rule) (b : Bool) → (b ≡ true → length rule.0 ≤ most) → most_labels rules ≤ most
+    → most_labels (cond b (rule ∷ rules) rules) ≤ most
 most_labels-cond most rule rules true here rest = omega (arith, here refl)
 most_labels-cond most rule rules false here rest = rest
 
@@ -123,11 +134,13 @@ le_cond_rest : (n : ℕ) (rule : Rule) (rules : List Rule) (b : Bool) → n ≤ 
 le_cond_rest n rule rules true l = omega arith
 le_cond_rest n rule rules false l = l
 
-pub le_most_labels : (test : Rule → Bool) (rule : Rule) (rules : List Rule) → is_among rules rule ≡ true → test rule ≡ true → length rule.0 ≤ most_labels (filter test rules)
+pub le_most_labels : (test : Rule → Bool) (rule : Rule) (rules : List Rule) → is_among rules rule ≡ true → test rule ≡ true
+    → length rule.0 ≤ most_labels (filter test rules)
 le_most_labels test rule [] among passes = absurd (true≢false (sym among))
 le_most_labels test rule (r ∷ rules) among passes =
     elim (one_of _ _ among) [
-      | inl here ↦ subst (λ (x : Rule). length x.0 ≤ most_labels (filter test (r ∷ rules))) (sym (same_rule rule r here)) (le_cond_here r (filter test rules) (test r) (ap test (sym (same_rule rule r here)) ∙ passes))
+      | inl here ↦ subst (λ (x : Rule). length x.0 ≤ most_labels (filter test (r ∷ rules))) (sym (same_rule rule r here))
+          (le_cond_here r (filter test rules) (test r) (ap test (sym (same_rule rule r here)) ∙ passes))
       | inr later ↦ le_cond_rest _ r (filter test rules) (test r) (le_most_labels test rule rules later passes)
     ]
 
@@ -159,7 +172,9 @@ module _ (rules : RuleSet) (exception : Bool) (test : List (List ℕ) → Bool)
   pub most_from-set : (name : List (List ℕ)) → most_from test [] name ≡ most_labels (filter (matches_as name exception) (set.items rules))
   most_from-set name =
       le_of_both _ _
-      (most_from_le test _ name [] (λ more stands passes. let found = le_most_labels (matches_as name exception) (more, exception) (set.items rules) (sym (among_is more) ∙ passes) (both _ _ stands (same_bool_itself exception)) in omega arith))
+      (most_from_le test _ name [] (λ more stands passes. let found =
+      le_most_labels (matches_as name exception) (more, exception) (set.items rules) (sym (among_is more)
+      ∙ passes) (both _ _ stands (same_bool_itself exception)) in omega arith))
       (most_labels_le (matches_as name exception) _ (set.items rules) (λ rule among passes.
       let flag : rule.1 ≡ exception = same_bool_is exception rule.1 (second_of_both _ _ passes) in
       let there : test (reverse rule.0) ≡ true = among_is rule.0 ∙ ap (λ e. is_among (set.items rules) (rule.0, e)) (sym flag) ∙ among in
@@ -168,27 +183,33 @@ module _ (rules : RuleSet) (exception : Bool) (test : List (List ℕ) → Bool)
 
 exceptions-cond : (rule : Rule) (rest : List Rule) (rules : List Rule) (a b : Bool)
     → filter (λ r. r.1) rest ≡ rules → rule.1 ≡ b → filter (λ r. r.1) (cond a (rule ∷ rest) rest) ≡ cond (a && b) (rule ∷ rules) rules
-exceptions-cond rule rest rules true true e f = ap (λ c. cond c (rule ∷ filter (λ r. r.1) rest) (filter (λ r. r.1) rest)) f ∙ ap (λ l. rule ∷ l) e
+exceptions-cond rule rest rules true true e f =
+    ap (λ c. cond c (rule ∷ filter (λ r. r.1) rest) (filter (λ r. r.1) rest)) f ∙ ap (λ l. rule ∷ l) e
 exceptions-cond rule rest rules true false e f = ap (λ c. cond c (rule ∷ filter (λ r. r.1) rest) (filter (λ r. r.1) rest)) f ∙ e
 exceptions-cond rule rest rules false b e f = e
 
-exceptions-filter : (name : List (List ℕ)) (rules : List Rule) → exceptions (filter (matches name) rules) ≡ filter (matches_as name true) rules
+exceptions-filter : (name : List (List ℕ)) (rules : List Rule)
+    → exceptions (filter (matches name) rules) ≡ filter (matches_as name true) rules
 exceptions-filter name [] = refl
 exceptions-filter name (rule ∷ rules) = exceptions-cond rule _ _ (matches name rule) rule.1 (exceptions-filter name rules) refl
 
-most-split : (rule : Rule) (all exceptions plain : List Rule) (a b : Bool) → most_labels all ≡ max (most_labels exceptions) (most_labels plain)
-    → most_labels (cond a (rule ∷ all) all) ≡ max (most_labels (cond (a && b) (rule ∷ exceptions) exceptions)) (most_labels (cond (a && not b) (rule ∷ plain) plain))
+most-split : (rule : Rule) (all exceptions plain : List Rule) (a b : Bool)
+    → most_labels all ≡ max (most_labels exceptions) (most_labels plain)
+    → most_labels (cond a (rule ∷ all) all) ≡ max (most_labels (cond (a && b) (rule ∷ exceptions) exceptions)) (most_labels
+    (cond (a && not b) (rule ∷ plain) plain))
 most-split rule all exceptions plain true true e = omega arith
 most-split rule all exceptions plain true false e = omega arith
 most-split rule all exceptions plain false b e = e
 
 -- the longest of all is the longest of the exceptions and the others
 most_labels-filter : (name : List (List ℕ)) (rules : List Rule)
-    → most_labels (filter (matches name) rules) ≡ max (most_labels (filter (matches_as name true) rules)) (most_labels (filter (matches_as name false) rules))
+    → most_labels (filter (matches name) rules) ≡ max (most_labels (filter (matches_as name true) rules)) (most_labels
+    (filter (matches_as name false) rules))
 most_labels-filter name [] = refl
 most_labels-filter name (rule ∷ rules) = most-split rule _ _ _ (matches name rule) rule.1 (most_labels-filter name rules)
 
-suffix_len_of-max : (exception plain all : ℕ) → all ≡ max 1 (max exception plain) → suffix_len_of exception all ≡ suffix_len_of exception (max plain 1)
+suffix_len_of-max : (exception plain all : ℕ) → all ≡ max 1 (max exception plain)
+    → suffix_len_of exception all ≡ suffix_len_of exception (max plain 1)
 suffix_len_of-max zero plain all e = omega arith
 suffix_len_of-max (suc exception) plain all e = refl
 
@@ -199,7 +220,8 @@ pub suffix_len-matching : (rules : RuleSet) (part : List ℕ) (name : List (List
     → suffix_len (matching rules (part ∷ name)) ≡ suffix_len_of exception (max plain 1)
 suffix_len-matching rules part name exception plain e f =
     let found = filter (matches (part ∷ name)) (set.items rules) in
-    let exceptional : most_labels (exceptions found) ≡ exception = ap most_labels (exceptions-filter (part ∷ name) (set.items rules)) ∙ sym e in
+    let exceptional : most_labels (exceptions found) ≡ exception =
+    ap most_labels (exceptions-filter (part ∷ name) (set.items rules)) ∙ sym e in
     let all : max 1 (most_labels found) ≡ max 1 (max exception plain) =
     ap (λ n. max 1 n) (most_labels-filter (part ∷ name) (set.items rules) ∙ (λ i. max (sym e i) (sym f i))) in
     ap (λ n. suffix_len_of n (max 1 (most_labels found))) exceptional ∙ suffix_len_of-max exception plain _ all

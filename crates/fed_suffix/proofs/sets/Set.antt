@@ -1,5 +1,6 @@
 -- Sets of rules: what is inside another, and the answers of a host and a line.
-use Rattle.std.proofs.Common.{◌≡◌, ◌↔◌, ℕ, Bool, true, false, cond, ◌&&◌, ◌⊎◌, inl, inr, List, [], ◌∷◌, Option, None, option_map, unwrap_or, Ok, IsTrue, refl, sym, ap, ◌∙◌}
+use Rattle.std.proofs.Common.{◌≡◌, ◌↔◌, ℕ, Bool, true, false, cond, ◌&&◌, ◌⊎◌, inl, inr, List, [], ◌∷◌, Option, None, option_map, unwrap_or}
+use Rattle.std.proofs.Common.{Ok, IsTrue, refl, sym, ap, ◌∙◌}
 use mathlib.Core.Bool.{true≢false}
 use Rattle.std.specs.List.{list_all}
 use Rattle.std.specs.Ordering.{eq_by_cmp}
@@ -15,28 +16,34 @@ use Rattle.fed_suffix.proofs.rules.Most.{both, first_of_both, second_of_both, on
 use Rattle.fed_suffix.proofs.nodes.Tree.{same_tests}
 
 -- each of the list passes, and so does one of the list
-passes_among : (test : Rule → Bool) (rule : Rule) (rules : List Rule) → list_all test rules ≡ true → is_among rules rule ≡ true → test rule ≡ true
+passes_among : (test : Rule → Bool) (rule : Rule) (rules : List Rule) → list_all test rules ≡ true → is_among rules rule ≡ true
+    → test rule ≡ true
 passes_among test rule [] all among = absurd (true≢false (sym among))
 passes_among test rule (r ∷ rules) all among =
     by (one_of _ _ among) (λ later. passes_among test rule rules (second_of_both _ _ all) later)
   where
-    by : (eq_by_cmp rule_cmp rule r ≡ true) ⊎ (is_among rules rule ≡ true) → (is_among rules rule ≡ true → test rule ≡ true) → test rule ≡ true
+    by : (eq_by_cmp rule_cmp rule r ≡ true) ⊎ (is_among rules rule ≡ true) → (is_among rules rule ≡ true → test rule ≡ true)
+        → test rule ≡ true
     by (inl here) rest = ap test (same_rule rule r here) ∙ first_of_both _ _ all
     by (inr later) rest = rest later
 
-all_pass : (test : Rule → Bool) (rules : List Rule) → ((rule : Rule) → is_among rules rule ≡ true → test rule ≡ true) → list_all test rules ≡ true
+all_pass : (test : Rule → Bool) (rules : List Rule) → ((rule : Rule) → is_among rules rule ≡ true → test rule ≡ true)
+    → list_all test rules ≡ true
 all_pass test [] each = refl
 all_pass test (r ∷ rules) each =
     both _ _ (each r (or_first _ _ (is_itself r))) (all_pass test rules (λ rule among. each rule (or_second _ _ among)))
 
 -- a set that was made of a list is inside another where each of the list is
-pub is_subset-from_list : (rules : List Rule) (other : RuleSet) → list_all (λ rule. set.contains other rule) rules ≡ set.is_subset (set.from_list {R = rule_cmp} rules) other
+pub is_subset-from_list : (rules : List Rule) (other : RuleSet)
+    → list_all (λ rule. set.contains other rule) rules ≡ set.is_subset (set.from_list {R = rule_cmp} rules) other
 is_subset-from_list rules other =
     same_tests _ _
     (λ all. set.contains-is_subset rule_cmp_total (set.from_list rules) other
-    (λ rule there. passes_among (λ r. set.contains other r) rule rules all (sym (set.contains-from_list rule_cmp_total rules rule) ∙ there)))
+    (λ rule there. passes_among (λ r. set.contains other r) rule rules all (sym (set.contains-from_list rule_cmp_total rules rule)
+    ∙ there)))
     (λ inside. all_pass (λ r. set.contains other r) rules
-    (λ rule among. set.is_subset-contains rule_cmp_total (set.from_list rules) other inside rule (set.contains-from_list rule_cmp_total rules rule ∙ among)))
+    (λ rule among. set.is_subset-contains rule_cmp_total (set.from_list rules) other inside rule
+    (set.contains-from_list rule_cmp_total rules rule ∙ among)))
 
 -- the test of two sets decides whether they are equal
 pub same_rules-equal : (a b : RuleSet) → same_rules a b ≡ true → a ≡ b
@@ -70,7 +77,8 @@ tells_equal a b false e = (λ h. absurd (true≢false (sym h)), λ same. absurd 
 
 -- ---- hosts
 
-pub registrable-name : (rules : RuleSet) (host : List ℕ) → host_kind host ≡ Name → registrable rules host ≡ option_map name_of (registrable_labels rules (labels_of host))
+pub registrable-name : (rules : RuleSet) (host : List ℕ) → host_kind host ≡ Name
+    → registrable rules host ≡ option_map name_of (registrable_labels rules (labels_of host))
 unfolding registrable
 registrable-name rules host e = ap (λ kind. registrable_of kind rules host) e
 
@@ -82,7 +90,8 @@ pub registrable-V6 : (rules : RuleSet) (host : List ℕ) → host_kind host ≡ 
 unfolding registrable
 registrable-V6 rules host e = ap (λ kind. registrable_of kind rules host) e
 
-pub party-by : (rules : RuleSet) (host : List ℕ) (domain : Option (List ℕ)) → domain ≡ registrable rules host → unwrap_or domain host ≡ party rules host
+pub party-by : (rules : RuleSet) (host : List ℕ) (domain : Option (List ℕ)) → domain ≡ registrable rules host
+    → unwrap_or domain host ≡ party rules host
 unfolding party
 party-by rules host domain e = ap (λ o. unwrap_or o host) e
 
@@ -92,6 +101,8 @@ pub rules_after-skipped : (rules : RuleSet) (line : List ℕ) → is_skipped (ru
 unfolding rules_after
 rules_after-skipped rules line e = ap (λ b. cond b (Ok rules) (with_rule rules (rule_of (rule_text line)))) e
 
-pub rules_after-read : (rules : RuleSet) (line : List ℕ) (rule : Option Rule) → is_skipped (rule_text line) ≡ false → rule ≡ rule_of (rule_text line) → rules_after rules line ≡ with_rule rules rule
+pub rules_after-read : (rules : RuleSet) (line : List ℕ) (rule : Option Rule) → is_skipped (rule_text line) ≡ false
+    → rule ≡ rule_of (rule_text line) → rules_after rules line ≡ with_rule rules rule
 unfolding rules_after
-rules_after-read rules line rule e f = ap (λ b. cond b (Ok rules) (with_rule rules (rule_of (rule_text line)))) e ∙ ap (with_rule rules) (sym f)
+rules_after-read rules line rule e f =
+    ap (λ b. cond b (Ok rules) (with_rule rules (rule_of (rule_text line)))) e ∙ ap (with_rule rules) (sym f)

@@ -1,11 +1,11 @@
 -- One turn of closing a page: what is done to the calls that are left is what is done to all.
 use Rattle.std.proofs.Common.{◌≡◌, ℕ, suc, ◌+◌, ◌<◌, ◌≤◌, Bool, true, false, cond, nat_eq, List, [], ◌∷◌}
-use Rattle.std.proofs.Common.{length, drop, Option, Some, None, refl, sym, ap, ◌∙◌, subst, arith, eq-eqb}
-use Rattle.std.specs.Prelude.{◌||◌, slice_get, map, unwrap_or}
+use Rattle.std.proofs.Common.{length, drop, Option, Some, None, refl, sym, ap, ◌∙◌, arith, eq-eqb}
+use Rattle.std.specs.Prelude.{◌||◌, slice_get, unwrap_or}
 use Rattle.std.proofs.lemmas.Bool.Decides.{nat_tests}
 use Rattle.std.specs.Map.{lookup, set_value}
 use Rattle.fed_table.specs.Lists.{has, without, without_calls, times, times_in, total, calls_at, all_without, all_without_calls, emptied}
-use Rattle.fed_table.specs.Table.{item_of, ChangesItem, LosesItems}
+use Rattle.fed_table.specs.Table.{item_of, ChangesItem}
 use Rattle.fed_table.proofs.homes.Counts.{without_none}
 
 pub first_is : (c : ℕ) (xs : List ℕ) → slice_get xs 0 ≡ Some c → xs ≡ c ∷ drop 1 xs

@@ -1,8 +1,8 @@
 -- How often a call stands in a list.
-use Rattle.std.proofs.Common.{◌≡◌, ℕ, zero, suc, ◌+◌, ◌≤◌, Bool, true, false, cond, not, nat_eq, List, [], ◌∷◌}
-use Rattle.std.proofs.Common.{◌++◌, length, refl, sym, ap, ◌∙◌, arith}
+use Rattle.std.proofs.Common.{◌≡◌, ℕ, ◌+◌, ◌≤◌, Bool, true, false, cond, not, nat_eq, List, [], ◌∷◌}
+use Rattle.std.proofs.Common.{◌++◌, length, refl, ap, ◌∙◌, arith}
 use Rattle.std.proofs.lemmas.Bool.Decides.{nat_tests}
-use Rattle.std.specs.Prelude.{filter, ◌||◌}
+use Rattle.std.specs.Prelude.{◌||◌}
 use Rattle.fed_table.specs.Lists.{has, without, times}
 
 pub times-append : (q c : ℕ) (xs : List ℕ) → times q (xs ++ c ∷ []) ≡ times q xs + cond (nat_eq q c) 1 0

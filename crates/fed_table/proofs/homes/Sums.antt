@@ -1,9 +1,8 @@
 -- How often a call stands in all lists together, and what is found where it stands.
-use Rattle.std.proofs.Common.{◌≡◌, ℕ, zero, suc, ◌+◌, ◌<◌, ◌≤◌, Bool, true, false, cond, nat_eq, List, []}
-use Rattle.std.proofs.Common.{◌∷◌, ◌++◌, length, Option, Some, None, is_some, refl, sym, ap, ◌∙◌, arith}
-use Rattle.std.specs.Prelude.{◌||◌, slice_get, map}
+use Rattle.std.proofs.Common.{◌≡◌, ℕ, zero, suc, ◌+◌, ◌≤◌, true, false, cond, List, []}
+use Rattle.std.proofs.Common.{◌∷◌, ◌++◌, length, Option, Some, None, is_some, refl, ap, ◌∙◌, arith}
 use Rattle.std.proofs.lemmas.List.{length-append}
-use Rattle.fed_table.specs.Lists.{has, without, call_after, times, times_in, stands_in, next_in, total, all_without}
+use Rattle.fed_table.specs.Lists.{without, call_after, times, times_in, stands_in, next_in, total, all_without}
 use Rattle.fed_table.specs.Kept.{list_at, changed_at, changed_where, same_index, is_at, AreAt}
 use Rattle.fed_table.proofs.homes.Counts.{has_none, has_some, length-without, without_none}
 

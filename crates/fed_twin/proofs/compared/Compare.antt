@@ -26,7 +26,6 @@ use Rattle.fed_trace.specs.Records.{records_of, records}
 use Rattle.fed_trace.specs.Row.{effects_of, row_of, with_event}
 use Rattle.fed_session.specs.Session.{State, Stands, IsFresh}
 use Rattle.fed_trace.specs.Trace.{Trace, begun}
-use Rattle.fed_session.proofs.kept.Calls.{absent_from_numbers}
 use Rattle.fed_trace.proofs.runs.Untaken.{IsUntaken, untaken_after}
 use Rattle.fed_twin.specs.Compare.{IsQuietLength, QuietRun, is_naming_kind, is_naming_record, is_first_kind, is_first_record, get_count}
 use Rattle.fed_twin.specs.Compare.{quiet_count, quiet_requests}
@@ -362,9 +361,9 @@ at_end {s = s} {most = most} {kept = kept} {sent = sent} {total = total} {sessio
 fresh : (session : State) (T : Trace) (used : UsedState) (event : Event) → Stands session T → IsUntaken used.calls (begun T.rows)
     → IsUnused used event → IsFresh session event
 fresh session T used (events.Get page call options) stands untaken unused =
-    absent_from_numbers call session.calls (ap (list_any (nat_eq call)) stands.taken ∙ untaken call unused)
+    ap (list_any (nat_eq call)) stands.taken ∙ untaken call unused
 fresh session T used (events.Disconnect page call config client hint) stands untaken unused =
-    absent_from_numbers call session.calls (ap (list_any (nat_eq call)) stands.taken ∙ untaken call unused)
+    ap (list_any (nat_eq call)) stands.taken ∙ untaken call unused
 fresh session T used (events.Have have) stands untaken unused = tt
 fresh session T used (events.At time) stands untaken unused = tt
 fresh session T used (events.Load page url raw) stands untaken unused = tt

@@ -16,7 +16,6 @@ use Rattle.fed_script.specs.Used.{UsedState, used_after, unused}
 use Rattle.fed_trace.specs.Row.{with_event}
 use Rattle.fed_session.specs.Session.{State, Stands}
 use Rattle.fed_trace.specs.Trace.{Trace}
-use Rattle.fed_session.proofs.kept.Calls.{absent_from_numbers}
 use Rattle.fed_trace.proofs.runs.Untaken.{untaken_after}
 use Rattle.fedcm.specs.declared.status.Status.TheVariants.{BadScript}
 use Rattle.fedcm.specs.Run.{IsAt, GoesAs, Follows, Outcome, last_written, outcome, after_read, after_line, used_after_read, used_after_line}
@@ -32,7 +31,7 @@ follows session used written T at =
     let steps = at.stands.steps in
     record {
       steps = omega (arith, steps, at.count);
-      fresh = λ call h. absent_from_numbers call session.calls (ap (list_any (nat_eq call)) at.stands.taken ∙ at.fresh call h);
+      fresh = λ call h. ap (list_any (nat_eq call)) at.stands.taken ∙ at.fresh call h;
     }
 
 -- before the first event

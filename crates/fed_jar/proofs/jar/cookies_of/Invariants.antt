@@ -6,4 +6,5 @@ use Rattle.fed_jar.proofs.jar.cookies_of.Given as goal
 
 abbrev pub invariant-loop-key : goal.invariant-loop-key
 invariant-loop-key l =
-    l.list.items ++ filter (is_of_party l.rules l.party) (entry_cookies l.key-iterator) ≡ filter (is_of_party l.rules l.party) (entry_cookies l.cookies.entries)
+    l.list.items ++ filter (is_of_party l.rules l.party) (entry_cookies l.key-iterator)
+    ≡ filter (is_of_party l.rules l.party) (entry_cookies l.cookies.entries)

@@ -6,4 +6,5 @@ use Rattle.fed_jar.proofs.send.cookies_sent.Given as goal
 
 abbrev pub invariant-loop-key : goal.invariant-loop-key
 invariant-loop-key l =
-    sent_cookies l.sent.items ++ filter (is_sent l.rules l.url l.now) (entry_cookies l.key-iterator) ≡ filter (is_sent l.rules l.url l.now) (entry_cookies l.cookies.entries)
+    sent_cookies l.sent.items ++ filter (is_sent l.rules l.url l.now) (entry_cookies l.key-iterator)
+    ≡ filter (is_sent l.rules l.url l.now) (entry_cookies l.cookies.entries)

@@ -7,6 +7,7 @@ use Rattle.fed_jar.proofs.send.joined.Given as goal
 
 abbrev pub invariant-loop-one : goal.invariant-loop-one
 invariant-loop-one l = record {
-  text : l.text.items ++ flat_map next_text (sent_cookies (drop l.one-index l.others)) ≡ pair_text (sent_cookie l.first) ++ flat_map next_text (sent_cookies l.others);
+  text : l.text.items ++ flat_map next_text (sent_cookies (drop l.one-index l.others))
+      ≡ pair_text (sent_cookie l.first) ++ flat_map next_text (sent_cookies l.others);
   line : HasNoLineEnd l.text.items;
 }

@@ -1,4 +1,4 @@
-use Rattle.std.proofs.Common.{◌≡◌, ◌∙◌, ap, sym, true, false, Some, nat_eq}
+use Rattle.std.proofs.Common.{◌≡◌, ◌∙◌, ap, sym, true, false, Some, nat_eq, is_some}
 use Rattle.std.specs.Map.{lookup}
 use Rattle.fed_origin.specs.Origin.{is_trustworthy}
 use Rattle.fed_disconnect.specs.Facts.{disconnect_options}
@@ -9,15 +9,14 @@ use Rattle.fed_session.proofs.events.Begin.{begin_records}
 use Rattle.fed_session.proofs.disconnect.disconnect.Goals as goal
 
 pub returns-clause-outs : goal.returns-clause-outs
-returns-clause-outs c =
-    let found : lookup (nat_eq c.args.page) c.args.pages.now.entries ≡ Some c.in-Some.found.now = sym c.in-Some.ensures.value in
-    let trusted : is_trustworthy c.in-Some.found.now.origin ≡ true = sym c.is_trustworthy.ensures ∙ c.if-not-is_trustworthy.false in
+returns-clause-outs g c =
+    let found : lookup (nat_eq c.args.page) c.args.tabs.now.pages ≡ Some c.in-Some.origin.now = sym c.in-Some.ensures in
+    let trusted : is_trustworthy c.in-Some.origin.now ≡ true = sym c.is_trustworthy.ensures ∙ c.if-not-is_trustworthy.false in
     c.in_ok-outs.ensures ∙ ap (call_records c.args.line (cookies_of c.args.sight.now) c.args.call c.args.page)
     c.in_ok-kept.ensures.effects
     ∙ ap (λ w. call_records c.args.line (cookies_of c.args.sight.now) c.args.call c.args.page
-    (first_row w false c.in-Some.found.now.origin
+    (first_row w false c.in-Some.origin.now
     (ToDisconnect (disconnect_options c.args.config.now c.args.client.now c.args.hint.now))).effects) c.lent.ensures
     ∙ begin_records c.args.line (world_in c.args.sight.now) (cookies_of c.args.sight.now)
-    (lookup (nat_eq c.args.page) c.args.pages.now.entries) c.in-Some.found.now c.args.page c.args.call
-    (ToDisconnect (disconnect_options c.args.config.now c.args.client.now c.args.hint.now)) found
-    trusted
+    (lookup (nat_eq c.args.page) c.args.tabs.now.pages) c.in-Some.origin.now (is_some (lookup (nat_eq c.args.page) c.args.tabs.now.gets))
+    c.args.page c.args.call (ToDisconnect (disconnect_options c.args.config.now c.args.client.now c.args.hint.now)) found trusted

@@ -1,4 +1,4 @@
-use Rattle.std.proofs.Common.{◌≡◌, ◌∙◌, ap, sym, true, Some, nat_eq}
+use Rattle.std.proofs.Common.{◌≡◌, ◌∙◌, ap, sym, true, Some, nat_eq, is_some}
 use Rattle.std.specs.Map.{lookup}
 use Rattle.fed_origin.specs.Origin.{is_trustworthy}
 use Rattle.fed_trace.specs.Begun.{ToGet}
@@ -8,14 +8,14 @@ use Rattle.fed_session.proofs.events.Begin.{begin_records}
 use Rattle.fed_session.proofs.get.get.Goals as goal
 
 pub returns-clause-outs : goal.returns-clause-outs
-returns-clause-outs c =
-    let found : lookup (nat_eq c.args.page) c.args.pages.now.entries ≡ Some c.in-Some.found.now = sym c.in-Some.ensures.value in
-    let trusted : is_trustworthy c.in-Some.found.now.origin ≡ true = sym c.is_trustworthy.ensures ∙ c.if-not-is_trustworthy.false in
+returns-clause-outs g c =
+    let found : lookup (nat_eq c.args.page) c.args.tabs.now.pages ≡ Some c.in-Some.origin.now = sym c.in-Some.ensures in
+    let trusted : is_trustworthy c.in-Some.origin.now ≡ true = sym c.is_trustworthy.ensures ∙ c.if-not-is_trustworthy.false in
     c.in_ok-outs.ensures ∙ ap (call_records c.args.line (cookies_of c.args.sight.now) c.args.call c.args.page) c.in_ok-kept.ensures.effects
     ∙ ap (λ w. call_records c.args.line (cookies_of c.args.sight.now) c.args.call c.args.page
-    (first_row w c.is_some.result c.in-Some.found.now.origin (ToGet c.args.options.now)).effects) c.lent.ensures
+    (first_row w c.is_busy.result c.in-Some.origin.now (ToGet c.args.options.now)).effects) c.lent.ensures
     ∙ ap (λ b. call_records c.args.line (cookies_of c.args.sight.now) c.args.call c.args.page
-    (first_row (world_in c.args.sight.now) b c.in-Some.found.now.origin (ToGet c.args.options.now)).effects) c.is_some.ensures
+    (first_row (world_in c.args.sight.now) b c.in-Some.origin.now (ToGet c.args.options.now)).effects) c.is_busy.ensures
     ∙ begin_records c.args.line (world_in c.args.sight.now) (cookies_of c.args.sight.now)
-    (lookup (nat_eq c.args.page) c.args.pages.now.entries) c.in-Some.found.now c.args.page c.args.call (ToGet c.args.options.now) found
-    trusted
+    (lookup (nat_eq c.args.page) c.args.tabs.now.pages) c.in-Some.origin.now (is_some (lookup (nat_eq c.args.page) c.args.tabs.now.gets))
+    c.args.page c.args.call (ToGet c.args.options.now) found trusted

@@ -9,6 +9,7 @@ use Rattle.fed_suffix.proofs.label.has_empty_label.Goals as goal
 pub returns : goal.returns
 returns c =
     any_from_yields_List is_empty _ _ _ c.any.ensures.ran
-    (YieldsList-from_slice_split _ is_dot c.args.name.now c.split.ensures.rest c.split.ensures.done c.split.ensures.closure (λ x r q k. search (rules, tests)))
+    (YieldsList-from_slice_split _ is_dot c.args.name.now c.split.ensures.rest c.split.ensures.done c.split.ensures.closure
+    (λ x r q k. search (rules, tests)))
     (λ x b q k. search (rules, tests))
     ∙ sym (list_any-reverse is_empty (slice_split is_dot c.args.name.now))

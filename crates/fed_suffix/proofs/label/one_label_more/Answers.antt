@@ -24,7 +24,9 @@ slice_bounds-result-count c =
     let counted : c.loop.counter ≡ c.args.count = omega arith in
     let passed = c.loop.invariant ∙ ap (λ n. drop n (labels_of c.args.name.now)) counted in
     let last = c.last_label-last.result in
-    let cut = cut_is c.args.name.now c.loop.rest.now last.label.now (option_copied last.before) c.args.count passed c.last_label-last.ensures.labels c.last_label-last.ensures.text in
+    let cut =
+    cut_is c.args.name.now c.loop.rest.now last.label.now (option_copied last.before) c.args.count passed
+    c.last_label-last.ensures.labels c.last_label-last.ensures.text in
     omega (arith, cut.within)
 
 pub slice_bounds-result-start : goal.slice_bounds-result-start
@@ -32,7 +34,9 @@ slice_bounds-result-start c =
     let counted : c.loop.counter ≡ c.args.count = omega arith in
     let passed = c.loop.invariant ∙ ap (λ n. drop n (labels_of c.args.name.now)) counted in
     let last = c.last_label-last.result in
-    let cut = cut_is c.args.name.now c.loop.rest.now last.label.now (option_copied last.before) c.args.count passed c.last_label-last.ensures.labels c.last_label-last.ensures.text in
+    let cut =
+    cut_is c.args.name.now c.loop.rest.now last.label.now (option_copied last.before) c.args.count passed
+    c.last_label-last.ensures.labels c.last_label-last.ensures.text in
     omega (arith, cut.within)
 
 pub returns : goal.returns
@@ -40,7 +44,9 @@ returns c =
     let counted : c.loop.counter ≡ c.args.count = omega arith in
     let passed = c.loop.invariant ∙ ap (λ n. drop n (labels_of c.args.name.now)) counted in
     let last = c.last_label-last.result in
-    let cut = cut_is c.args.name.now c.loop.rest.now last.label.now (option_copied last.before) c.args.count passed c.last_label-last.ensures.labels c.last_label-last.ensures.text in
+    let cut =
+    cut_is c.args.name.now c.loop.rest.now last.label.now (option_copied last.before) c.args.count passed
+    c.last_label-last.ensures.labels c.last_label-last.ensures.text in
     let text = cut.text in
     let enough = cut.enough in
     rw take_rest (grind (arith, nat_tests))

@@ -1,4 +1,4 @@
-use Rattle.std.proofs.Common.{sym, ap, ◌∙◌, Some}
+use Rattle.std.proofs.Common.{sym, ap, ◌∙◌, true}
 use Rattle.std.specs.Prelude.{option_map}
 use Rattle.fed_status.specs.Shared.{world_of}
 use Rattle.fed_call.specs.Facts.{next_facts}
@@ -14,7 +14,7 @@ returns-in_ok-of_get-in-Get-clause-effects c =
     let world = world_of c.args.shared.now in
     c.in_ok-state-in-Get.ensures.effects ∙ ap (λ s. (call_row world (facts_of s) c.args.input.now).effects) c.into_inner.ensures
     ∙ get_does world (facts_of c.in-Get.state.value) c.args.input.now
-    ∙ ap (λ p. (outcome_at world (Some (known_of p)) c.args.input.now).effects) (sym c.in-Get.is)
+    ∙ ap (λ p. (outcome_at world true (known_of p) c.args.input.now).effects) (sym c.in-Get.is)
 
 pub returns-in_ok-of_get-in-Get-clause-kept : goal.returns-in_ok-of_get-in-Get-clause-kept
 returns-in_ok-of_get-in-Get-clause-kept c =

@@ -1,5 +1,5 @@
-use Rattle.std.proofs.Common.{◌≡◌, ◌∙◌, sym, subst, refl, nat_eq, None}
-use Rattle.std.specs.Map.{lookup}
+use Rattle.std.proofs.Common.{◌≡◌, ◌∙◌, sym, subst, refl, nat_eq, false}
+use Rattle.std.specs.List.{list_any}
 use Rattle.fed_script.specs.declared.event.Event.TheVariants as events
 use Rattle.fed_trace.specs.Begun.{ToGet}
 use Rattle.fed_session.specs.Session.{State, Stands}
@@ -9,14 +9,14 @@ use Rattle.fed_session.proofs.stands.Stands.{stands_after}
 use Rattle.fed_session.proofs.session.Session.get.Goals as goal
 
 pub returns-clause-row : goal.returns-clause-row
-returns-clause-row c = λ T h.
+returns-clause-row g c = λ T h.
     let before = subst (λ (s : State). Stands (revived s) T) (sym c.self.view_is) h in
-    let fresh = subst (λ (s : State). lookup (nat_eq c.args.call) s.calls ≡ None) (sym c.self.view_is) c.requires.fresh in
+    let fresh = subst (λ (s : State). list_any (nat_eq c.args.call) s.tabs.taken ≡ false) (sym c.self.view_is) c.requires.fresh in
     let event = events.Get c.args.page c.args.call c.args.options.now in
     let begins : BeginsBy T event c.args.page c.args.call (ToGet c.args.options.now) = record { effects = refl; inputs = λ q k. refl } in (
       c.in_ok-outs.ensures.outs ∙ begin_records-stand _ T c.args.line event c.args.page c.args.call (ToGet c.args.options.now) before
           begins,
       stands_after _ _ T c.args.line event before (is_new _ T c.args.call before fresh, c.requires.one) refl refl
           (owes_begin _ _ T c.args.line event c.args.page c.args.call (ToGet c.args.options.now) before begins fresh c.requires.one refl
-          c.in_ok-outs.ensures.pages c.in_ok-outs.ensures.calls),
+          c.in_ok-outs.ensures.tabs),
     )

@@ -12,5 +12,5 @@ returns-clause-row c = λ T line h.
     let before = subst (λ (s : State). Stands (revived s) T) (sym c.self.view_is) h in (
       c.new.ensures ∙ have_records T line c.args.have.now,
       stands_after _ _ T line (events.Have c.args.have.now) before tt refl refl
-          (owes_have _ _ T line c.args.have.now before c.in_ok-take_have.ensures refl refl),
+          (owes_have _ _ T line c.args.have.now before c.in_ok-take_have.ensures refl),
     )

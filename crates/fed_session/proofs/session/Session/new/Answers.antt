@@ -3,4 +3,4 @@ use Rattle.fed_session.proofs.stands.Stands.{stands_new}
 use Rattle.fed_session.proofs.session.Session.new.Goals as goal
 
 pub returns : goal.returns
-returns c = stands_new _ c.args.header refl refl c.new.ensures c.new-2.ensures.empty c.new-3.ensures.empty
+returns c = stands_new _ c.args.header refl refl c.new.ensures c.new-2.ensures

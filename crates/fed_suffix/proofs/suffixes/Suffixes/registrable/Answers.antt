@@ -9,7 +9,8 @@ pub returns-in-Name : goal.returns-in-Name
 returns-in-Name c =
     let text = c.as_bytes.ensures.value ∙ c.as_str.ensures ∙ c.host.view_is in
     let kind = ap host_kind (sym c.host.view_is) ∙ sym c.host.invariant.0 ∙ c.in-Name.is in
-    c.of_name.ensures ∙ ap (λ t. option_map name_of (registrable_labels c.args.self.now (labels_of t))) text ∙ sym (registrable-name c.args.self.now c.args.host.now kind)
+    c.of_name.ensures ∙ ap (λ t. option_map name_of (registrable_labels c.args.self.now (labels_of t))) text
+    ∙ sym (registrable-name c.args.self.now c.args.host.now kind)
 
 pub returns-in-V4 : goal.returns-in-V4
 returns-in-V4 c =

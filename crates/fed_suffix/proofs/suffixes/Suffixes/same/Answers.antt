@@ -7,14 +7,16 @@ pub returns-then-is_within-clause-value : goal.returns-then-is_within-clause-val
 returns-then-is_within-clause-value c =
     let inside : set.is_subset c.args.self.now c.args.other.now ≡ true =
     (λ i. set.is_subset (sym c.self.view_is i) (sym c.other.view_is i)) ∙ sym c.is_within.ensures ∙ c.if-is_within.true in
-    c.is_within-then-is_within.ensures ∙ (λ i. set.is_subset (c.other.view_is i) (c.self.view_is i)) ∙ same_rules-then c.args.self.now c.args.other.now inside
+    c.is_within-then-is_within.ensures ∙ (λ i. set.is_subset (c.other.view_is i) (c.self.view_is i))
+    ∙ same_rules-then c.args.self.now c.args.other.now inside
 
 pub returns-then-is_within-clause-equal : goal.returns-then-is_within-clause-equal
 returns-then-is_within-clause-equal c =
     let inside : set.is_subset c.args.self.now c.args.other.now ≡ true =
     (λ i. set.is_subset (sym c.self.view_is i) (sym c.other.view_is i)) ∙ sym c.is_within.ensures ∙ c.if-is_within.true in
     tells_equal c.args.self.now c.args.other.now _
-    (c.is_within-then-is_within.ensures ∙ (λ i. set.is_subset (c.other.view_is i) (c.self.view_is i)) ∙ same_rules-then c.args.self.now c.args.other.now inside)
+    (c.is_within-then-is_within.ensures ∙ (λ i. set.is_subset (c.other.view_is i) (c.self.view_is i))
+    ∙ same_rules-then c.args.self.now c.args.other.now inside)
 
 pub returns-else-is_within-clause-value : goal.returns-else-is_within-clause-value
 returns-else-is_within-clause-value c =

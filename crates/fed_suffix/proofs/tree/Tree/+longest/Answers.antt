@@ -33,10 +33,17 @@ longest-loop-name-preserved t c =
       left = omega (arith, shorter, measured, c.loop-name.invariant.left);
       exception_here = omega (arith, c.ending_at.ensures.exception, c.or-longest-in-Some.ensures.exception);
       plain_here = omega (arith, c.ending_at.ensures.plain, c.or-longest-in-Some.ensures.plain);
-      exception = walk_next tree true c.loop-name.node c.loop-name.depth c.in-Some-first.next last.label.now _ (labels_before (option_copied last.before)) ways.first ways.second _ _ _ _ _ _ labels
-          c.ways-ways.ensures.first c.ways-ways.ensures.second c.in-Some-first.is c.loop-name.invariant.exception_here c.loop-name.invariant.exception
-          c.longest_by.ensures.exception c.or-longest.ensures.exception c.ending_at.ensures.exception c.or-longest-in-Some.ensures.exception;
-      plain = walk_next tree false c.loop-name.node c.loop-name.depth c.in-Some-first.next last.label.now _ (labels_before (option_copied last.before)) ways.first ways.second _ _ _ _ _ _ labels
-          c.ways-ways.ensures.first c.ways-ways.ensures.second c.in-Some-first.is c.loop-name.invariant.plain_here c.loop-name.invariant.plain
+      exception =
+          walk_next tree true c.loop-name.node c.loop-name.depth c.in-Some-first.next last.label.now _
+          (labels_before (option_copied last.before)) ways.first ways.second _ _ _ _ _ _ labels
+          c.ways-ways.ensures.first c.ways-ways.ensures.second c.in-Some-first.is c.loop-name.invariant.exception_here
+          c.loop-name.invariant.exception
+          c.longest_by.ensures.exception c.or-longest.ensures.exception c.ending_at.ensures.exception
+          c.or-longest-in-Some.ensures.exception;
+      plain =
+          walk_next tree false c.loop-name.node c.loop-name.depth c.in-Some-first.next last.label.now _
+          (labels_before (option_copied last.before)) ways.first ways.second _ _ _ _ _ _ labels
+          c.ways-ways.ensures.first c.ways-ways.ensures.second c.in-Some-first.is c.loop-name.invariant.plain_here
+          c.loop-name.invariant.plain
           c.longest_by.ensures.plain c.or-longest.ensures.plain c.ending_at.ensures.plain c.or-longest-in-Some.ensures.plain;
     }

@@ -24,4 +24,5 @@ loop-label-preserved c =
 
 pub returns : goal.returns
 returns c =
-    sym c.loop-label.invariant ∙ ap (λ l. node_of c.args.self.now (reverse l)) (take_all c.loop-label.label-index c.args.labels.now c.loop-label-test.false)
+    sym c.loop-label.invariant ∙ ap (λ l. node_of c.args.self.now (reverse l))
+    (take_all c.loop-label.label-index c.args.labels.now c.loop-label-test.false)

@@ -12,6 +12,8 @@ pub returns : goal.returns
 returns c =
     let entries = c.args.self.now.rules.entries in
     let other = rules_of c.args.other.now in
-    all_from_yields_List (λ (entry : End × List (List ℕ)). set.contains other (entry_rule entry)) _ _ c.all.result c.all.ensures.ran (YieldsList-from_rest entries c.iter.ensures.rest) (λ x b q k. search (rules, tests))
+    all_from_yields_List (λ (entry : End × List (List ℕ)). set.contains other
+    (entry_rule entry)) _ _ c.all.result c.all.ensures.ran (YieldsList-from_rest entries c.iter.ensures.rest) (λ x b q k. search
+    (rules, tests))
     ∙ sym (list_all-map (λ rule. set.contains other rule) entry_rule entries)
     ∙ is_subset-from_list (map entry_rule entries) other

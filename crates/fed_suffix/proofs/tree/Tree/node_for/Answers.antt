@@ -8,7 +8,9 @@ loop-label-preserved c =
     let old = c.loop-label.self in
     let new = c.child_for.new.self in
     let next = node_of-next new c.args.labels.now c.loop-label.label-index c.label-item.result c.loop-label-test.true c.label-item.is in
-    let before = node_of-Grows old new c.child_for.ensures.grows (reverse (take c.loop-label.label-index c.args.labels.now)) c.loop-label.node c.loop-label.invariant.node in
+    let before =
+    node_of-Grows old new c.child_for.ensures.grows (reverse (take c.loop-label.label-index c.args.labels.now)) c.loop-label.node
+    c.loop-label.invariant.node in
     record {
       tree = c.child_for.ensures.tree;
       rules = c.child_for.ensures.grows.rules ∙ c.loop-label.invariant.rules;

@@ -10,5 +10,6 @@ returns-clause-ok c =
     let items : label.items ≡ c.args.label.now = search rules in
     ap (λ l. position (λ k. bytes_eq l k.items) c.insert_full.new.self.keys) (sym items)
     ∙ ap (position (λ k. bytes_eq label.items k.items)) c.in_ok-number.ensures.keys
-    ∙ position-insert_key (λ a b. bytes_eq a.items b.items) c.args.self.now.labels.keys label ((bytes_eq-Decides label.items label.items).1 refl)
+    ∙ position-insert_key (λ a b. bytes_eq a.items b.items) c.args.self.now.labels.keys label
+    ((bytes_eq-Decides label.items label.items).1 refl)
     ∙ ap (λ n. Some n) (sym c.in_ok-number.ensures.index)

@@ -1,6 +1,6 @@
-use Rattle.std.proofs.Common.{ap, sym, ◌∙◌, refl, arith, cond, nat_eq, None, length, ◌≤◌, ℕ}
+use Rattle.std.proofs.Common.{ap, sym, ◌∙◌, refl, arith, cond, nat_eq, None, length}
 use Rattle.fed_table.specs.Lists.{has, times_in, emptied, all_without, all_without_calls}
-use Rattle.fed_table.specs.Table.{page_calls, item_of, has_call}
+use Rattle.fed_table.specs.Table.{page_calls, item_of}
 use Rattle.fed_table.proofs.closing.Turns.{none_is, once_of, total_within, same_emptied, same_waits, same_items, length_is, nothing_left}
 use Rattle.fed_table.proofs.closing.Turns.{emptied_none}
 use Rattle.fed_table.proofs.table.Table.close_page.Goals as goal

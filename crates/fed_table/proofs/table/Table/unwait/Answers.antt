@@ -1,7 +1,7 @@
-use Rattle.std.proofs.Common.{ap, sym, ◌∙◌, []}
-use Rattle.fed_table.specs.Lists.{all_without, without}
+use Rattle.std.proofs.Common.{ap, sym, ◌∙◌}
+use Rattle.fed_table.specs.Lists.{all_without}
 use Rattle.fed_table.specs.Table.{TableParts}
-use Rattle.fed_table.specs.Kept.{items_in, origin_index, changed_where}
+use Rattle.fed_table.specs.Kept.{origin_index}
 use Rattle.fed_table.proofs.found.Items.{parts_are, same_items}
 use Rattle.fed_table.proofs.homes.Sums.{taken_home}
 use Rattle.fed_table.proofs.homes.Tables.{kept_unwaited}

@@ -1,8 +1,7 @@
-use Rattle.std.proofs.Common.{ap, sym, ◌∙◌, []}
+use Rattle.std.proofs.Common.{ap, ◌∙◌}
 use Rattle.fed_origin.specs.Origin.{same_origin}
 use Rattle.fed_table.specs.Lists.{stands_in, with_last}
 use Rattle.fed_table.specs.Table.{TableParts, has_call}
-use Rattle.fed_table.specs.Kept.{items_in}
 use Rattle.fed_table.proofs.found.Items.{parts_are, same_items}
 use Rattle.fed_table.proofs.homes.Tables.{kept_waiting}
 use Rattle.fed_table.proofs.table.Table.wait.Goals as goal

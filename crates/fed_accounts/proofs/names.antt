@@ -1,0 +1,2 @@
+-- The members of an entry by their names.
+pub mod Found

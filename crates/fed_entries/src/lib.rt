@@ -1,0 +1,6 @@
+//! Entries in order of entering.
+#![tactic(auto)]
+
+mod entries;
+
+pub use entries::{Entries, Slots};

@@ -1,0 +1,274 @@
+//! The pages that stand, and the calls that were taken.
+ghost use Rattle.std.specs.Prelude.{◌≡◌, ◌<◌, [], nat_eq, is_some, true, false, cond, Some, None, IfOk, OnOk, OnErr, IfSome};
+ghost use Rattle.std.specs.Prelude.{option_copied, option_and_then};
+ghost use Rattle.std.specs.List.{list_any};
+ghost use Rattle.std.specs.Map.{lookup};
+ghost use Rattle.indexmap.specs.IndexMap.{insert_entry, shift_remove_entry};
+ghost use Rattle.fed_table.specs.Lists.{with_key, with_last, emptied, total};
+ghost use Rattle.fed_table.specs.Table.{has_page, has_call, item_of, ChangesItem};
+ghost use Rattle.fed_trace.specs.Begun.{is_get};
+ghost use Rattle.fed_trace.specs.Call.{Known};
+ghost use Rattle.fed_session.specs.Session.{item_known};
+ghost use Rattle.fed_session.specs.StepParts.{get_but};
+ghost use Rattle.fed_session.specs.Tabs.{ChangesGet, Ends, Begins, Enters, Stays, Leaves, GoesOn};
+ghost use Rattle.fed_session.specs.StepParts as spec;
+
+use crate::calls::Kept;
+use crate::view::{shown_calls, shown_pages};
+use fed_entries::Entries;
+use fed_io::{Items, NoRoom, Steps};
+use fed_origin::{Origin, Stage};
+use fed_table::Table;
+use indexmap::{IndexMap, IndexSet};
+use std::alloc::Global;
+use std::marker::Model;
+use std::sync::ledger::Ledger;
+
+/// The pages that stand, and the calls that were taken. What names one page or one call looks at no other.
+#[derive(Drop)]
+pub struct Tabs {
+    /// The pages that stand, with their origins.
+    pages: Entries<u32, Origin>,
+    /// The pending get of each page that has one.
+    gets: IndexMap<u32, u32>,
+    /// The calls that were taken.
+    taken: IndexSet<u32>,
+    /// The pages that were ever loaded, each with its pending calls.
+    table: Table<Kept>,
+    /// How many loads and calls there were. There are no more pages and no more pending calls.
+    changes: u32,
+}
+
+impl Model for Tabs {
+    ghost use Rattle.fed_session.specs.Session.{TabsParts};
+    ghost use Rattle.fed_session.specs.Tabs.{AreTabs};
+
+    ghost Value = { TabsParts };
+
+    ghost view = { λ t. record { pages = t.pages; gets = t.gets.entries; taken = t.taken.keys; table = t.table } };
+
+    ghost invariant = { λ t. AreTabs t.pages t.taken.keys t.table t.changes };
+}
+
+impl Tabs {
+    /// No page and no call. It takes no memory.
+    pub(crate) fn new(alloc: Global) -> Tabs
+        ensures { result ≡ record { pages = []; gets = []; taken = []; table = record { pages = []; waits = []; items = [] } } }
+    {
+        Tabs {
+            pages: Entries::new(alloc),
+            gets: IndexMap::new(alloc),
+            taken: IndexSet::new(alloc),
+            table: Table::new(alloc),
+            changes: 0,
+        }
+    }
+
+    /// The origin of a page; `None` exactly where it does not stand. It takes no memory.
+    pub(crate) fn origin(&self, page: u32) -> Option<&Origin>
+        ensures { option_copied result ≡ lookup (nat_eq page) self.now.pages }
+    {
+        self.pages.get(page)
+    }
+
+    /// Whether a page has a pending get. It takes no memory.
+    pub(crate) fn is_busy(&self, page: u32) -> bool
+        ensures { result ≡ is_some (lookup (nat_eq page) self.now.gets) }
+    {
+        self.gets.contains_key(&page)
+    }
+
+    /// Whether a call was taken. It takes no memory.
+    pub(crate) fn was_taken(&self, call: u32) -> bool
+        ensures { result ≡ list_any (nat_eq call) self.now.taken }
+    {
+        self.taken.contains(&call)
+    }
+
+    /// A page's pending calls end, and it stands with this origin: one that stands keeps its place, and a new one enters last.
+    pub(crate) fn load<L: Ledger>(
+        &mut self,
+        page: u32,
+        origin: Origin,
+        steps: &mut Steps<L>,
+    ) -> Result<(), NoRoom>
+        ensures ok { OnOk result (Ends page (insert_entry nat_eq self.old.pages page origin)
+            (with_key nat_eq page (emptied (nat_eq page) self.old.table.pages)) self.old self.new) }
+        ensures unticked { steps.new ≡ steps.old }
+    {
+        self.end_calls(page, steps);
+        let Some(changes) = self.changes.checked_add(1) else {
+            return Err(NoRoom);
+        };
+        self.changes = changes;
+        self.table.add_page(page)?;
+        self.pages.insert(page, origin)?;
+        Ok(())
+    }
+
+    /// A page's pending calls end, and it no longer stands. It takes no memory.
+    pub(crate) fn close<L: Ledger>(&mut self, page: u32, steps: &mut Steps<L>)
+        ensures tabs { Ends page (shift_remove_entry (nat_eq page) self.old.pages) (emptied (nat_eq page) self.old.table.pages)
+            self.old self.new }
+        ensures unticked { steps.new ≡ steps.old }
+    {
+        self.end_calls(page, steps);
+        self.pages.remove(page);
+    }
+
+    // A page's pending calls end.
+    fn end_calls<L: Ledger>(&mut self, page: u32, steps: &mut Steps<L>)
+        ensures tabs { Ends page self.old.pages (emptied (nat_eq page) self.old.table.pages) self.old self.new }
+        ensures unticked { steps.new ≡ steps.old }
+    {
+        let _ = self.gets.swap_remove(&page);
+        let _ = self.table.close_page(page, steps);
+    }
+
+    /// A call of a page that stands is taken. Unless it is over it is a pending call of the page from now on.
+    pub(crate) fn begin<L: Ledger>(
+        &mut self,
+        page: u32,
+        call: u32,
+        kept: Kept,
+        steps: &mut Steps<L>,
+    ) -> Result<(), NoRoom>
+        requires stands { is_some (lookup (nat_eq page) self.old.pages) ≡ true }
+        requires fresh { list_any (nat_eq call) self.old.taken ≡ false }
+        ensures ok { OnOk result (Begins page call kept self.old self.new) }
+        ensures unticked { steps.new ≡ steps.old }
+    {
+        if kept.page() == None {
+            self.taken.insert(call)?;
+            return Ok(());
+        }
+        self.enter(page, call, kept, steps)
+    }
+
+    // A call of a page that stands is taken, and is pending from now on.
+    fn enter<L: Ledger>(
+        &mut self,
+        page: u32,
+        call: u32,
+        kept: Kept,
+        steps: &mut Steps<L>,
+    ) -> Result<(), NoRoom>
+        requires stands { is_some (lookup (nat_eq page) self.old.pages) ≡ true }
+        requires fresh { list_any (nat_eq call) self.old.taken ≡ false }
+        ensures ok { OnOk result ((known : Known) → kept ≡ Some known → Enters page call known self.old self.new) }
+        ensures unticked { steps.new ≡ steps.old }
+    {
+        let Some(changes) = self.changes.checked_add(1) else {
+            return Err(NoRoom);
+        };
+        let is_get = kept.is_get();
+        self.taken.insert(call)?;
+        self.changes = changes;
+        add(&mut self.table, page, call, kept, steps)?;
+        hold_get(&mut self.gets, page, call, is_get)?;
+        Ok(())
+    }
+
+    /// Hands out what is kept of a call; `None` exactly where it is not pending. It takes no memory.
+    pub(crate) fn lend(&mut self, call: u32) -> Option<Kept>
+        ensures known { option_and_then (λ kept. kept) result ≡ item_known self.old.table.items call }
+        ensures lent { IfSome result (λ kept. item_of self.new.table.items call ≡ Some None) }
+        ensures begun { IfSome result (λ kept. list_any (nat_eq call) self.old.taken ≡ true) }
+        ensures tabs { Stays call None self.old self.new }
+    {
+        self.table.lend(call)
+    }
+
+    /// What is kept of a call of a page goes back to its place; where the call is over it leaves the page. It takes no memory.
+    pub(crate) fn give_back<L: Ledger>(
+        &mut self,
+        page: u32,
+        call: u32,
+        kept: Kept,
+        steps: &mut Steps<L>,
+    )
+        requires { item_of self.old.table.items call ≡ Some None }
+        ensures tabs { GoesOn page call kept self.old self.new }
+        ensures unticked { steps.new ≡ steps.old }
+    {
+        if kept.page() == None {
+            self.leave(page, call, steps);
+            return;
+        }
+        self.keep(call, kept);
+    }
+
+    // What is kept of a call that was lent goes back to its place.
+    fn keep(&mut self, call: u32, kept: Kept)
+        requires { item_of self.old.table.items call ≡ Some None }
+        ensures { Stays call kept self.old self.new }
+    {
+        self.table.give_back(call, kept);
+    }
+
+    // A call is no longer a pending call of its page.
+    fn leave<L: Ledger>(&mut self, page: u32, call: u32, steps: &mut Steps<L>)
+        ensures tabs { Leaves page call self.old self.new }
+        ensures unticked { steps.new ≡ steps.old }
+    {
+        let _ = self.table.drop_call(call, steps);
+        drop_get(&mut self.gets, page, call);
+    }
+
+    /// The pages that stand, with their origins, in order of entering.
+    pub(crate) fn shown_pages(&self, alloc: Global) -> Result<Items<(u32, Origin)>, NoRoom>
+        ensures { IfOk result (λ shown. shown ≡ self.now.pages) }
+    {
+        shown_pages(alloc, self.pages.slots())
+    }
+
+    /// The calls that are pending, in order of beginning.
+    pub(crate) fn shown_calls(&self, alloc: Global) -> Result<Items<(u32, u32, Stage)>, NoRoom>
+        ensures { IfOk result (λ shown. shown ≡ spec.shown_calls (item_known self.now.table.items) self.now.taken) }
+    {
+        shown_calls(alloc, &self.taken, &self.table)
+    }
+}
+
+// A call goes last in the list of its page. On want of memory nothing changes.
+fn add<L: Ledger>(
+    table: &mut Table<Kept>,
+    page: u32,
+    call: u32,
+    kept: Kept,
+    steps: &mut Steps<L>,
+) -> Result<(), NoRoom>
+    requires page { has_page table.old.pages page ≡ true }
+    requires call { has_call table.old.items call ≡ false }
+    requires few { total table.old.pages < 4294967295 }
+    ensures pages { OnOk result (table.new.pages ≡ with_last nat_eq page call table.old.pages) }
+    ensures waits { table.new.waits ≡ table.old.waits }
+    ensures items { OnOk result (ChangesItem call (Some (Some kept)) table.old.items table.new.items) }
+    ensures err { OnErr result (table.new ≡ table.old) }
+    ensures unticked { steps.new ≡ steps.old }
+{
+    match table.add(page, call, kept, steps) {
+        Ok(()) => Ok(()),
+        Err((NoRoom, _)) => Err(NoRoom),
+    }
+}
+
+// Where the call is a get, it is the pending one of its page.
+fn hold_get(gets: &mut IndexMap<u32, u32>, page: u32, call: u32, is_get: bool) -> Result<(), NoRoom>
+    ensures { OnOk result (ChangesGet page (cond is_get (Some call) (lookup (nat_eq page) gets.old.entries)) gets.old.entries
+        gets.new.entries) }
+{
+    if is_get {
+        gets.insert(page, call)?;
+    }
+    Ok(())
+}
+
+// The call is no longer the pending get of its page, if it is.
+fn drop_get(gets: &mut IndexMap<u32, u32>, page: u32, call: u32)
+    ensures { ChangesGet page (get_but call (lookup (nat_eq page) gets.old.entries)) gets.old.entries gets.new.entries }
+{
+    if gets.get(&page).copied() == Some(call) {
+        let _ = gets.swap_remove(&page);
+    }
+}

@@ -1,0 +1,88 @@
+//! What the calls of a test look at.
+ghost use Rattle.std.specs.Prelude.{◌≡◌, true};
+ghost use Rattle.fed_origin.specs.Status.{is_known};
+
+use crate::values::{CONFIG, PAGE, origin_of};
+use fed_io::{NoRoom, Text};
+use fed_origin::{LoginStatus, Mediation, Triple};
+use fed_status::{KeptSet, LoginMap, Shared, SilentFlags};
+use fed_suffix::Suffixes;
+use std::alloc::Global;
+
+pub struct Browser {
+    rules: Suffixes,
+    login: LoginMap,
+    kept: KeptSet,
+    flags: SilentFlags,
+    // The mediation of the get calls.
+    pub mediation: Mediation,
+}
+
+impl Drop for Browser {
+    fn drop(self) {
+        let Browser {
+            rules: _,
+            login: _,
+            kept: _,
+            flags: _,
+            mediation: _,
+        } = self;
+    }
+}
+
+impl Browser {
+    pub fn new(alloc: Global) -> Browser {
+        Browser {
+            rules: Suffixes::new(alloc),
+            login: LoginMap::new(alloc),
+            kept: KeptSet::new(alloc),
+            flags: SilentFlags::new(alloc),
+            mediation: Mediation::Optional,
+        }
+    }
+
+    // The same for calls of this mediation.
+    pub fn mediated(self, mediation: Mediation) -> Browser {
+        let mut browser = self;
+        browser.mediation = mediation;
+        browser
+    }
+
+    // The same where the flag of the page's origin is set.
+    pub fn prevented(self, alloc: Global) -> Result<Browser, NoRoom> {
+        let origin = origin_of(alloc, PAGE)?;
+        let mut browser = self;
+        browser.flags.set(&origin)?;
+        Ok(browser)
+    }
+
+    pub fn lent(&self) -> Shared<'_> {
+        Shared {
+            rules: &self.rules,
+            login: &self.login,
+            kept: &self.kept,
+            flags: &self.flags,
+        }
+    }
+}
+
+// What all calls look at where the origin of this URL has this status.
+pub fn with_status(alloc: Global, of: &str, status: LoginStatus) -> Result<Browser, NoRoom>
+    requires { is_known status ≡ true }
+{
+    let origin = origin_of(alloc, of)?;
+    let mut browser = Browser::new(alloc);
+    browser.login.set(&origin, status)?;
+    Ok(browser)
+}
+
+// What calls look at where the account `u1` of the provider may sign in at pages of this URL's origin.
+pub fn with_permission(alloc: Global, page: &str) -> Result<Browser, NoRoom> {
+    let mut browser = Browser::new(alloc);
+    browser.kept.add(Triple {
+        page: origin_of(alloc, page)?,
+        provider: origin_of(alloc, CONFIG)?,
+        account: Text::of(alloc, "u1")?,
+    })?;
+    Ok(browser)
+}

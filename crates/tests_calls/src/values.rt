@@ -1,0 +1,40 @@
+//! What tests of consents, requests and calls share: URLs, origins, and what a page asks of a provider.
+use fed_io::{NoRoom, Text};
+use fed_origin::{Origin, ProviderOptions, WebUrl};
+use std::alloc::Global;
+
+pub const PAGE: &str = "https://rp.example/";
+
+pub const CONFIG: &str = "https://accounts.idp.example/fedcm.json";
+
+pub fn url(alloc: Global, text: &str) -> Result<WebUrl, NoRoom> {
+    match WebUrl::read(alloc, text) {
+        Ok(url) => Ok(url),
+        Err(_) => Err(NoRoom),
+    }
+}
+
+pub fn origin_of(alloc: Global, text: &str) -> Result<Origin, NoRoom> {
+    let url = url(alloc, text)?;
+    Origin::of_url(alloc, &url)
+}
+
+// What the client `c1` asks of the provider with this configuration URL.
+pub fn provider(alloc: Global, config: &str) -> Result<ProviderOptions, NoRoom> {
+    Ok(ProviderOptions {
+        config: url(alloc, config)?,
+        client: Text::of(alloc, "c1")?,
+        nonce: None,
+        login_hint: None,
+        domain_hint: None,
+        params: None,
+    })
+}
+
+// The same, with a nonce.
+pub fn provider_with_nonce(alloc: Global) -> Result<ProviderOptions, NoRoom> {
+    Ok(ProviderOptions {
+        nonce: Some(Text::of(alloc, "n1")?),
+        ..provider(alloc, CONFIG)?
+    })
+}
