@@ -13,6 +13,7 @@ mod call_dialogs;
 mod call_inputs;
 #[cfg(test)]
 mod call_words;
+pub mod callers;
 #[cfg(test)]
 mod consent;
 #[cfg(test)]

@@ -3,6 +3,7 @@
 
 #[cfg(test)]
 mod accounts;
+pub mod callers;
 #[cfg(test)]
 mod provider;
 #[cfg(test)]

@@ -1,6 +1,7 @@
 //! Tests of script lines and transcript lines.
 #![tactic(auto)]
 
+pub mod callers;
 #[cfg(test)]
 mod print;
 #[cfg(test)]

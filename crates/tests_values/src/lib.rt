@@ -1,6 +1,7 @@
 //! Tests of URLs, suffixes, cookies and statuses.
 #![tactic(auto)]
 
+pub mod callers;
 #[cfg(test)]
 mod cookie;
 #[cfg(test)]
