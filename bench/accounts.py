@@ -1,6 +1,7 @@
 #!/usr/bin/env python3
 """Runs the built program over one call whose accounts reply has many accounts, all of them different or all of one id, and half of them
-fitting the call's login hint. Reports the seconds of the run, and microseconds an account.
+fitting the call's login hint. Reports the seconds of a processor, microseconds an account, and
+instructions an account where valgrind is found and the input is not long.
 
     bench/accounts.py [ACCOUNTS]
 """
@@ -9,7 +10,7 @@ import sys
 import tempfile
 
 from accounts_request import CONFIG, FILE, HEADER, MEMBERS, line, reply
-from measure import run
+from measure import each, instructions, run
 
 
 def accounts(count, ids):
@@ -36,15 +37,16 @@ def write(path, count, ids):
 
 def main():
     most = int(sys.argv[1]) if len(sys.argv) > 1 else 100_000
-    print("| accounts | ids | input MB | seconds | us an account | peak MB |")
-    print("|---|---|---|---|---|---|")
+    print("| accounts | ids | input MB | seconds | us an account | peak MB | instructions an account |")
+    print("|---|---|---|---|---|---|---|")
     with tempfile.TemporaryDirectory() as folder:
         path = os.path.join(folder, "script.jsonl")
         for count in (most // 100, most // 10, most):
             for ids in (count, 1):
                 size = write(path, count, ids)
                 seconds, peak = run(path)
-                print(f"| {count:,} | {ids:,} | {size / 1e6:.1f} | {seconds:.2f} | {seconds / count * 1e6:.1f} | {peak:.0f} |")
+                counted = each(instructions(path), count)
+                print(f"| {count:,} | {ids:,} | {size / 1e6:.1f} | {seconds:.2f} | {seconds / count * 1e6:.1f} | {peak:.0f} | {counted} |")
 
 
 if __name__ == "__main__":

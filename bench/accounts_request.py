@@ -1,7 +1,7 @@
 #!/usr/bin/env python3
 """Runs the built program over calls up to their accounts requests, against the cookies that it keeps: those of the provider that
 go with the request, those of the provider that do not (of another path), and those of other parties, 180 a party. Reports
-microseconds a call, from its get to its abort: the run less the run without calls. Before, it looks that one such request carries
+microseconds of a processor and instructions a call (where valgrind is found), from its get to its abort: the run less the run without calls. Before, it looks that one such request carries
 the cookies that it should.
 
     bench/accounts_request.py [CALLS]
@@ -12,7 +12,7 @@ import re
 import sys
 import tempfile
 
-from measure import run, transcript
+from measure import each, instructions, run, transcript
 
 HEADER = {"fedcm": 1, "now": 1_700_000_000, "rules": "example"}
 A_LOAD = 90
@@ -87,8 +87,8 @@ def sent_cookies(path):
 
 def main():
     count = int(sys.argv[1]) if len(sys.argv) > 1 else 2_000
-    print("| sent | others of the provider | of other parties | us a call | peak MB |")
-    print("|---|---|---|---|---|")
+    print("| sent | others of the provider | of other parties | us a call | peak MB | instructions a call |")
+    print("|---|---|---|---|---|---|")
     with tempfile.TemporaryDirectory() as folder:
         path = os.path.join(folder, "script.jsonl")
         for case in CASES:
@@ -97,9 +97,11 @@ def main():
                 sys.exit(f"the accounts request carries other cookies than {case[0]}")
             write(path, case, 0)
             reading, _ = run(path)
+            before = instructions(path)
             write(path, case, count)
             seconds, peak = run(path)
-            print("| {:,} | {:,} | {:,} ".format(*case) + f"| {(seconds - reading) / count * 1e6:.1f} | {peak:.0f} |")
+            counted = each(instructions(path) - before, count)
+            print("| {:,} | {:,} | {:,} ".format(*case) + f"| {(seconds - reading) / count * 1e6:.1f} | {peak:.0f} | {counted} |")
 
 
 if __name__ == "__main__":

@@ -1,13 +1,13 @@
 #!/usr/bin/env python3
 """Runs the built program over page loads that store cookies: PARTIES parties with 180 cookies each, 90 of them a load, and the
-same loads once more, which replace each cookie in its place. Reports seconds, cookies a second and peak memory, for each number
-of parties.
+same loads once more, which replace each cookie in its place. Reports seconds of a processor, cookies a second, peak memory, and
+instructions a cookie where valgrind is found and the input is not long, for each number of parties.
 
     bench/cookies.py [PARTIES ..]
 """
 import sys
 
-from measure import measured
+from measure import each, measured
 
 HEADER = '{"fedcm":1,"now":1700000000,"rules":"example"}\n'
 A_LOAD = 90
@@ -32,14 +32,14 @@ def script(parties):
 
 def main():
     counts = [int(word) for word in sys.argv[1:]] or [100, 1000]
-    print("| parties | cookies kept | cookies written | input MB | seconds | written a second | peak MB |")
-    print("|---|---|---|---|---|---|---|")
+    print("| parties | cookies kept | cookies written | input MB | seconds | written a second | peak MB | instructions a cookie |")
+    print("|---|---|---|---|---|---|---|---|")
     for parties in counts:
-        _, size, seconds, peak = measured(HEADER, script(parties))
+        _, size, seconds, peak, count = measured(HEADER, script(parties))
         written = parties * 360
         print(
             f"| {parties} | {parties * 180} | {written} | {size:.1f} "
-            f"| {seconds:.2f} | {written / seconds:,.0f} | {peak:.0f} |"
+            f"| {seconds:.2f} | {written / seconds:,.0f} | {peak:.0f} | {each(count, written)} |"
         )
 
 

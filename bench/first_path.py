@@ -1,6 +1,6 @@
 #!/usr/bin/env python3
-"""Runs the built program over inputs of 10,000, 100,000 and 1,000,000 events, and reports events a second, megabytes a
-second and peak memory.
+"""Runs the built program over inputs of 10,000, 100,000 and 1,000,000 events, and reports events and megabytes a second of
+a processor, peak memory, and instructions an event where valgrind is found and the input is not long.
 
 Two shapes: `pages` is a load and a get for each of many pages, so that many calls are pending at once; `one page` is one
 page that is loaded again and again, with a get in between that each load ends.
@@ -9,7 +9,7 @@ page that is loaded again and again, with a get in between that each load ends.
 """
 import sys
 
-from measure import measured
+from measure import each, measured
 
 HEADER = '{"fedcm":1,"now":0,"rules":""}\n'
 # URLs as short as `url` reads them: 1,000,000 events have to fit into the 67,108,864 bytes of an input.
@@ -30,12 +30,12 @@ def one_page(events):
 
 def main():
     counts = [int(word) for word in sys.argv[1:]] or [10_000, 100_000, 1_000_000]
-    print("| shape | events | input MB | seconds | events a second | MB a second | peak MB |")
-    print("|---|---|---|---|---|---|---|")
+    print("| shape | events | input MB | seconds | events a second | MB a second | peak MB | instructions an event |")
+    print("|---|---|---|---|---|---|---|---|")
     for name, shape in (("pages", pages), ("one page", one_page)):
         for events in counts:
-            _, size, seconds, peak = measured(HEADER, shape(events))
-            print(f"| {name} | {events:,} | {size:.1f} | {seconds:.2f} | {events / seconds:,.0f} | {size / seconds:.1f} | {peak:.0f} |")
+            _, size, seconds, peak, count = measured(HEADER, shape(events))
+            print(f"| {name} | {events:,} | {size:.1f} | {seconds:.2f} | {events / seconds:,.0f} | {size / seconds:.1f} | {peak:.0f} | {each(count, events)} |")
 
 
 if __name__ == "__main__":

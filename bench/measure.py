@@ -1,13 +1,18 @@
 """Runs the built program over a script."""
 import os
+import shutil
 import subprocess
 import sys
 import tempfile
-import time
 from typing import NamedTuple
 
 TOP = os.path.dirname(os.path.dirname(os.path.abspath(__file__)))
 PROGRAM = os.path.join(TOP, "crates", "fedcm", "out", "fedcm")
+# Counting takes some fifty times as long as running: what is longer is not counted, in bytes.
+COUNTED = 12_000_000
+# A `rep stosb` would be counted byte by byte, which no processor does.
+TUNABLES = "glibc.cpu.x86_rep_stosb_threshold=1000000000:glibc.cpu.x86_rep_movsb_threshold=1000000000"
+COUNT = ["valgrind", "--tool=cachegrind", "--cache-sim=no", "--cachegrind-out-file=/dev/null"]
 
 
 def need_program():
@@ -22,30 +27,55 @@ def transcript(path):
         return subprocess.run([PROGRAM, "run"], stdin=script, stdout=subprocess.PIPE, check=True).stdout.decode()
 
 
-def run(path, word="run"):
-    """The seconds that the program with this word takes over the input at this path, and its peak of memory in MB."""
+def instructions(path, word="run"):
+    """The instructions that the program with this word takes over the input at this path, as valgrind counts them: they do not hang on
+    what else the machine does. `nan` where there is no valgrind or the input is long."""
     need_program()
-    begin = time.monotonic()
+    if os.path.getsize(path) > COUNTED or not shutil.which("valgrind"):
+        return float("nan")
+    with open(path, "rb") as script:
+        told = subprocess.run(
+            [*COUNT, PROGRAM, word],
+            stdin=script,
+            stdout=subprocess.DEVNULL,
+            stderr=subprocess.PIPE,
+            env=dict(os.environ, GLIBC_TUNABLES=TUNABLES),
+            check=True,
+        ).stderr.decode()
+    [count] = [line.split()[-1] for line in told.splitlines() if "refs:" in line]
+    return int(count.replace(",", ""))
+
+
+class Run(NamedTuple):
+    """What a run took: seconds of a processor, and the peak of memory in MB."""
+
+    seconds: float
+    peak: float
+
+
+def run(path, word="run"):
+    """What the program with this word takes over the input at this path."""
+    need_program()
     with open(path, "rb") as script, open(os.devnull, "wb") as out:
         child = subprocess.Popen([PROGRAM, word], stdin=script, stdout=out)
         _, status, usage = os.wait4(child.pid, 0)
     if status != 0:
         sys.exit(f"status {os.waitstatus_to_exitcode(status)} for {path}")
-    return time.monotonic() - begin, usage.ru_maxrss / 1024
+    return Run(usage.ru_utime + usage.ru_stime, usage.ru_maxrss / 1024)
 
 
 class Measured(NamedTuple):
-    """What a run over a script took."""
+    """What a run over a script took: the script's events and MB, seconds of a processor, the peak of memory in MB, and instructions."""
 
     events: int
     megabytes: float
     seconds: float
     peak: float
+    instructions: float
 
 
 def measured(header, events):
-    """The run over the script of this header and these lines of events, which may come one after another: the number of the events, the
-    script's MB, the seconds, and the peak of memory in MB."""
+    """The run over the script of this header and these lines of events, which may come one after another."""
     with tempfile.TemporaryDirectory() as folder:
         path = os.path.join(folder, "script.jsonl")
         count = 0
@@ -54,4 +84,9 @@ def measured(header, events):
             for event in events:
                 script.write(event)
                 count += 1
-        return Measured(count, os.path.getsize(path) / 1e6, *run(path))
+        return Measured(count, os.path.getsize(path) / 1e6, *run(path), instructions(path))
+
+
+def each(instructions, count):
+    """Instructions for one of so many, for a table."""
+    return "" if instructions != instructions else f"{instructions / count:,.0f}"

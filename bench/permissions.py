@@ -1,14 +1,15 @@
 #!/usr/bin/env python3
 """Runs the built program over scripts in which one page disconnects its accounts, one after another: each call takes its own
 permission. The first shape has the permissions of this page alone, the second one as many of other pages beside them. Reports events
-a second and peak memory, for each number of accounts.
+a second of a processor, peak memory, and instructions an event where valgrind is found and the input is not long, for each number of
+accounts.
 
     bench/permissions.py [ACCOUNTS ..]
 """
 import json
 import sys
 
-from measure import measured
+from measure import each, measured
 
 HEADER = '{"fedcm":1,"now":0,"rules":""}\n'
 PROVIDER = "https://accounts.idp.example"
@@ -46,12 +47,12 @@ def disconnects(accounts, others):
 
 def main():
     counts = [int(word) for word in sys.argv[1:]] or [5_000, 10_000, 20_000]
-    print("| permissions beside the page's own | accounts | events | seconds | events a second | peak MB |")
-    print("|---|---|---|---|---|---|")
+    print("| permissions beside the page's own | accounts | events | seconds | events a second | peak MB | instructions an event |")
+    print("|---|---|---|---|---|---|---|")
     for name, others in (("none", False), ("as many", True)):
         for accounts in counts:
-            events, _, seconds, peak = measured(HEADER, disconnects(accounts, others))
-            print(f"| {name} | {accounts:,} | {events:,} | {seconds:.2f} | {events / seconds:,.0f} | {peak:.0f} |")
+            events, _, seconds, peak, count = measured(HEADER, disconnects(accounts, others))
+            print(f"| {name} | {accounts:,} | {events:,} | {seconds:.2f} | {events / seconds:,.0f} | {peak:.0f} | {each(count, events)} |")
 
 
 if __name__ == "__main__":

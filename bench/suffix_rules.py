@@ -1,7 +1,7 @@
 #!/usr/bin/env python3
 """Runs the built program over scripts whose header is the whole Public Suffix List: one without events, one of 20,000 loads
-and calls with the list, and the same without rules. It reports the time to read the list, and per call the time with and
-without the rules.
+and calls with the list, and the same without rules. It reports the time of a processor to read the list, and per call the time with
+and without the rules; and the instructions of each where valgrind is found.
 
     bench/suffix_rules.py [LIST]      # /usr/share/publicsuffix/public_suffix_list.dat, of Debian's package publicsuffix
 """
@@ -10,7 +10,7 @@ import os
 import sys
 import tempfile
 
-from measure import run
+from measure import each, instructions, run
 
 LIST = "/usr/share/publicsuffix/public_suffix_list.dat"
 CALLS = 10_000
@@ -37,24 +37,33 @@ def events(text):
         yield line({"do": "get", "page": number, "call": number, "providers": [{"config": config, "client": "c"}]})
 
 
-def seconds(folder, rules, lines):
+def took(folder, rules, lines):
+    """Seconds and instructions."""
     path = os.path.join(folder, "script.jsonl")
     with open(path, "w", encoding="utf-8") as script:
         script.write(line({"fedcm": 1, "now": 0, "rules": rules}))
         script.writelines(lines)
-    return run(path)[0]
+    return run(path).seconds, instructions(path)
 
 
 def main():
     with open(sys.argv[1] if len(sys.argv) > 1 else LIST, encoding="utf-8") as source:
         text = source.read()
     with tempfile.TemporaryDirectory() as folder:
-        reading = seconds(folder, text, [])
-        twice = seconds(folder, text + "\n" + text, [])
-        with_rules = seconds(folder, text, events(text)) - reading
-        without = seconds(folder, "", events(text))
-    print(f"{len(text.splitlines()):,} lines read in {reading:.3f} s, twice as many in {twice:.3f} s")
-    print(f"{CALLS:,} loads and calls: {with_rules / CALLS * 1e6:.1f} us each with the rules, {without / CALLS * 1e6:.1f} us without")
+        reading, reads = took(folder, text, [])
+        twice, reads_twice = took(folder, text + "\n" + text, [])
+        both, counted = took(folder, text, events(text))
+        without, counted_without = took(folder, "", events(text))
+    lines = len(text.splitlines())
+    print("| what | number | us each | instructions each |")
+    print("|---|---|---|---|")
+    for what, number, seconds, count in (
+        ("lines of rules", lines, reading, reads),
+        ("lines of rules, twice", 2 * lines, twice, reads_twice),
+        ("loads and calls with the rules", CALLS, both - reading, counted - reads),
+        ("loads and calls without", CALLS, without, counted_without),
+    ):
+        print(f"| {what} | {number:,} | {seconds / number * 1e6:.1f} | {each(count, number)} |")
 
 
 if __name__ == "__main__":

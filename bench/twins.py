@@ -1,6 +1,7 @@
 #!/usr/bin/env python3
 """Runs the built program with the word `twin` over two scripts of so many sign-ups each, and with `run` over the first of
-them, and reports the seconds, the ratio and the peak of memory.
+them, and reports the seconds of a processor, the instructions a sign-up where valgrind is found and the input is not long, and the peak
+of memory.
 
 The two scripts differ in their relying parties, clients and nonces. Each sign-up goes up to its prompt, so that both stay
 quiet and every sign-in request is compared.
@@ -13,7 +14,7 @@ import subprocess
 import sys
 import tempfile
 
-from measure import PROGRAM, need_program, run
+from measure import PROGRAM, each, instructions, need_program, run
 
 HEADER = '{"fedcm":1,"now":0,"rules":""}\n'
 NEXT = '{"next":"script"}\n'
@@ -57,7 +58,8 @@ def compared(number, path):
 def main():
     need_program()
     numbers = [int(word) for word in sys.argv[1:]] or [1_000, 5_000, 20_000]
-    print("sign-ups | run s | twin s | ratio | run MB | twin MB")
+    print("| sign-ups each | run s | twin s | ratio | run instructions | twin instructions | run MB | twin MB |")
+    print("|---|---|---|---|---|---|---|---|")
     with tempfile.TemporaryDirectory() as folder:
         alone, pair = os.path.join(folder, "alone"), os.path.join(folder, "pair")
         for number in numbers:
@@ -70,7 +72,8 @@ def main():
             compared(number, pair)
             seconds, peak = run(alone)
             both, both_peak = run(pair, "twin")
-            print(f"{number:8} | {seconds:5.2f} | {both:6.2f} | {both / seconds:5.2f} | {peak:6.0f} | {both_peak:7.0f}")
+            counted = f"{each(instructions(alone), number)} | {each(instructions(pair, 'twin'), number)}"
+            print(f"| {number:,} | {seconds:.2f} | {both:.2f} | {both / seconds:.2f} | {counted} | {peak:.0f} | {both_peak:.0f} |")
 
 
 if __name__ == "__main__":

@@ -1,5 +1,5 @@
 -- The accounts that a call is about.
-use Rattle.std.specs.Prelude.{ℕ, Bool, true, false, List, map, Option, Some, None, Result, Ok, Err}
+use Rattle.std.specs.Prelude.{ℕ, Bool, true, false, List, map, Option, Some, None, Result}
 use Rattle.url.specs.Parts.{Parts}
 use Rattle.fed_origin.specs.declared.origin.Origin.{Origin}
 use Rattle.fed_origin.specs.declared.options.Mediation.{Mediation}

@@ -1,5 +1,5 @@
 -- The rows of a call that asks for a token.
-use Rattle.std.specs.Prelude.{ℕ, Bool, true, false, List, [], ◌∷◌, Option, Some, None, Result, Ok, Err}
+use Rattle.std.specs.Prelude.{ℕ, Bool, true, false, List, Option, Some, None, Result, Ok, Err}
 use Rattle.fed_origin.specs.declared.options.ProviderOptions.{ProviderOptions}
 use Rattle.fed_origin.specs.declared.stage.Stage.TheVariants as stages
 use Rattle.fed_origin.specs.declared.stage.ReplyKind.{ReplyKind}

@@ -1,5 +1,5 @@
 -- What a call began with.
-use Rattle.std.specs.Prelude.{ℕ, Bool, false, [], ◌∷◌, None}
+use Rattle.std.specs.Prelude.{ℕ, Bool, [], ◌∷◌}
 use Rattle.fed_origin.specs.declared.origin.Origin.{Origin}
 use Rattle.fed_origin.specs.declared.options.Context.{Context}
 use Rattle.fed_origin.specs.declared.options.GetOptions.{GetOptions}

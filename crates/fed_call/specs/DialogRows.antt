@@ -80,6 +80,7 @@ abbrev pub cancelled : Stage → Outcome
 cancelled stages.Reading = ignored NotOffered
 cancelled stages.Listing = ignored NotOffered
 cancelled stages.Mismatch = fails (plain steps.UserCancelled)
+cancelled stages.Window = ignored NotOffered
 cancelled stages.Choosing = fails (plain steps.UserCancelled)
 cancelled stages.Prompting = fails (plain steps.UserCancelled)
 cancelled stages.Asserting = ignored NotOffered

@@ -1,5 +1,5 @@
 -- What is known of a call that began and is not over, and what an event leaves of it.
-use Rattle.std.specs.Prelude.{ℕ, Bool, true, false, List, [], ◌∷◌, map, slice_get, Option, Some, None, unwrap_or, option_and_then}
+use Rattle.std.specs.Prelude.{ℕ, Bool, true, false, List, [], ◌∷◌, slice_get, Option, Some, None, unwrap_or, option_and_then}
 use Rattle.std.specs.Prelude.{Result}
 use Rattle.std.specs.Prelude.{Ok, Err}
 use Rattle.std.specs.List.{list_any}
@@ -9,7 +9,7 @@ use Rattle.fed_origin.specs.declared.origin.Origin.{Origin}
 use Rattle.fed_origin.specs.declared.options.GetOptions.{GetOptions}
 use Rattle.fed_origin.specs.declared.options.ProviderOptions.{ProviderOptions}
 use Rattle.fed_origin.specs.declared.stage.Stage.{Stage}
-use Rattle.fed_origin.specs.declared.stage.Stage.TheVariants.{Reading, Listing, Mismatch, Choosing, Prompting, Asserting, Ended}
+use Rattle.fed_origin.specs.declared.stage.Stage.TheVariants.{Reading, Listing, Mismatch, Window, Choosing, Prompting, Asserting, Ended}
 use Rattle.fed_origin.specs.declared.stage.ReplyKind.{ReplyKind}
 use Rattle.fed_origin.specs.declared.stage.ReplyKind.TheVariants as kinds
 use Rattle.fed_provider.specs.declared.config.Config.{Config}
@@ -50,6 +50,7 @@ at_stage Ended facts = None
 at_stage Reading facts = Some (record facts { stage = Reading })
 at_stage Listing facts = Some (record facts { stage = Listing })
 at_stage Mismatch facts = Some (record facts { stage = Mismatch })
+at_stage Window facts = Some (record facts { stage = Window })
 at_stage Choosing facts = Some (record facts { stage = Choosing })
 at_stage Prompting facts = Some (record facts { stage = Prompting })
 at_stage Asserting facts = Some (record facts { stage = Asserting })

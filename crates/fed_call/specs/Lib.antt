@@ -7,3 +7,4 @@ pub mod ListingRows
 pub mod ReadingRows
 pub mod Row
 pub mod State
+pub mod WindowRows

@@ -2,7 +2,6 @@
 use Rattle.std.specs.Prelude.{ℕ, Bool, true, false, List, [], ◌∷◌, map, zip, Option, Some, None, option_map, Result, Ok, Err}
 use Rattle.url.specs.Parts.{Parts, serialize}
 use Rattle.fed_origin.specs.declared.origin.Origin.{Origin}
-use Rattle.fed_origin.specs.declared.options.GetOptions.{GetOptions}
 use Rattle.fed_origin.specs.declared.options.ProviderOptions.{ProviderOptions}
 use Rattle.fed_origin.specs.declared.options.Mediation.{Mediation}
 use Rattle.fed_origin.specs.declared.options.Mediation.TheVariants.{Silent, Optional, Required}
@@ -15,6 +14,7 @@ use Rattle.fed_origin.specs.declared.status.LoginStatus.{LoginStatus}
 use Rattle.fed_origin.specs.declared.status.LoginStatus.TheVariants.{Unknown, LoggedIn, LoggedOut}
 use Rattle.fed_origin.specs.WebUrl.{origin_of}
 use Rattle.fed_suffix.specs.Registrable.{party}
+use Rattle.fed_provider.specs.declared.config.Config.{Config as Configuration}
 use Rattle.fed_provider.specs.declared.metadata.PolicyLinks.{PolicyLinks}
 use Rattle.fed_accounts.specs.declared.account.Account.{Account}
 use Rattle.fed_accounts.specs.declared.step.AccountsStep.{AccountsStep}
@@ -32,6 +32,7 @@ use Rattle.fed_consent.specs.Consent.{Listed, Candidate, Pick, by_reselection}
 use Rattle.fed_call.specs.Accounts.{accounts_of, listed_of, candidate_of}
 use Rattle.fed_call.specs.AssertingRows.{asserts}
 use Rattle.fed_call.specs.Facts.{Facts, metadata_endpoint, reselected}
+use Rattle.fed_call.specs.WindowRows.{may_sign_in, opens_window}
 use Rattle.fed_consent.specs.Outcomes.{Outcome, fails, ignored, stays, moves, after}
 use Rattle.fed_consent.specs.Failures.{accounts_failure, plain}
 
@@ -86,17 +87,24 @@ is_mismatch Passive Required LoggedIn = true
 is_mismatch Passive Required LoggedOut = false
 is_mismatch Passive Required Unknown = false
 
--- the user hears of it (row C15), or the page (row C16)
+-- else the user hears of it (row C15), or the page (row C16)
 abbrev pub by_mismatch : ℕ → List ℕ → Failure → Bool → Outcome
 by_mismatch place site failure true = moves stages.Mismatch (Dialog (dialogs.Mismatch place site failure))
 by_mismatch place site failure false = fails failure
+
+-- by whether the user may be sent to sign in (row C14)
+abbrev pub by_window : ℕ → Option Configuration → Outcome → Bool → Outcome
+by_window place config other true = opens_window place config
+by_window place config other false = other
 
 -- the accounts of the provider at this place and of this origin are refused, or none fits the hints: the user is logged out there
 abbrev pub refused : World → Facts → ℕ → Origin → Failure → Outcome
 refused world facts place provider failure =
     after (SetLogin provider LoggedOut)
+    (by_window place facts.config
     (by_mismatch place (site_of world facts.origin) failure
     (is_mismatch facts.options.mode facts.options.mediation (status_of world.login provider)))
+    (may_sign_in facts.options.mode facts.options.mediation))
 
 -- ---- accounts of the provider at a place that are good
 

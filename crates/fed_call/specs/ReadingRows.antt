@@ -1,5 +1,5 @@
 -- The rows of a call up to its accounts request.
-use Rattle.std.specs.Prelude.{ℕ, Bool, true, false, List, [], ◌∷◌, Option, Some, None, Result, Ok, Err}
+use Rattle.std.specs.Prelude.{ℕ, Bool, true, false, not, List, [], ◌∷◌, Option, Some, None, Result, Ok, Err}
 use Rattle.url.specs.Parts.{Parts}
 use Rattle.fed_origin.specs.declared.origin.Origin.{Origin}
 use Rattle.fed_origin.specs.declared.options.GetOptions.{GetOptions}
@@ -40,6 +40,11 @@ use Rattle.fed_consent.specs.Failures.{plain, provider_failure}
 
 -- ---- a get, from row C2 on
 
+-- the call is active, and the user did nothing at the page
+abbrev pub lacks_activation : Mode → Bool → Bool
+lacks_activation Passive activation = false
+lacks_activation Active activation = not activation
+
 -- the call is silent, and the flag of its page's origin is set
 abbrev pub is_prevented : Mediation → Bool → Bool
 is_prevented Silent flag = flag
@@ -69,16 +74,22 @@ abbrev pub by_site : ℕ → Parts → Result Parts ProviderStep → Bool → Bo
 by_site place config (Err step) prevented gated = fails (plain steps.NoSite)
 by_site place config (Ok wellknown) prevented gated = by_silence place config wellknown prevented gated
 
+-- by whether the user's act is missing (row C3)
+abbrev pub by_activation : ℕ → Parts → Result Parts ProviderStep → Bool → Bool → Bool → Outcome
+by_activation place config wellknown true prevented gated = fails (plain steps.NoActivation)
+by_activation place config wellknown false prevented gated = by_site place config wellknown prevented gated
+
 -- by the scheme of the configuration URL (row C2)
-abbrev pub by_scheme : ℕ → Scheme → Parts → Result Parts ProviderStep → Bool → Bool → Outcome
-by_scheme place Http config wellknown prevented gated = fails (plain steps.ConfigScheme)
-by_scheme place Https config wellknown prevented gated = by_site place config wellknown prevented gated
+abbrev pub by_scheme : ℕ → Scheme → Parts → Result Parts ProviderStep → Bool → Bool → Bool → Outcome
+by_scheme place Http config wellknown lacking prevented gated = fails (plain steps.ConfigScheme)
+by_scheme place Https config wellknown lacking prevented gated = by_activation place config wellknown lacking prevented gated
 
 -- by the provider at this place, if the call of a page of this origin has it
 abbrev pub start_at : World → Origin → GetOptions → ℕ → Option ProviderOptions → Outcome
 start_at world origin options place None = stays
 start_at world origin options place (Some provider) =
     by_scheme place (scheme_of provider.config) provider.config (WellKnownUrlOf world.rules provider.config)
+    (lacks_activation options.mode options.activation)
     (is_prevented options.mediation (has_flag world.flags origin))
     (is_gated options.mode (status_of world.login (origin_of provider.config)))
 

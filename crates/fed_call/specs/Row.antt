@@ -1,7 +1,7 @@
 -- The table of a get call: what it does at each event, by what is known of it.
 use Rattle.std.specs.Prelude.{ℕ, List, Option, Some, None}
 use Rattle.fed_origin.specs.declared.stage.Stage.{Stage}
-use Rattle.fed_origin.specs.declared.stage.Stage.TheVariants.{Reading, Listing, Mismatch, Choosing, Prompting, Asserting, Ended}
+use Rattle.fed_origin.specs.declared.stage.Stage.TheVariants.{Reading, Listing, Mismatch, Window, Choosing, Prompting, Asserting, Ended}
 use Rattle.fed_origin.specs.declared.stage.ReplyKind.{ReplyKind}
 use Rattle.fed_status.specs.Shared.{World}
 use Rattle.fed_consent.specs.declared.table.failure.FailStep.TheVariants as steps
@@ -15,6 +15,7 @@ pub use Rattle.fed_call.specs.ReadingRows.{start_row}
 use Rattle.fed_call.specs.ReadingRows.{reading_reply}
 use Rattle.fed_call.specs.ListingRows.{listing_reply}
 use Rattle.fed_call.specs.DialogRows.{prompting_reply, chose, went_on, cancelled}
+use Rattle.fed_call.specs.WindowRows.{asked_to_sign_in, resumed, window_shut}
 use Rattle.fed_call.specs.AssertingRows.{asserting_reply}
 
 -- a reply for the provider at this place, by the stage
@@ -23,6 +24,7 @@ stage_reply world facts Reading place kind raw =
     reading_reply world.rules facts.heard facts.config place (provider_at place facts.options) kind raw
 stage_reply world facts Listing place kind raw = listing_reply world facts place (provider_at place facts.options) kind raw
 stage_reply world facts Mismatch place kind raw = ignored NotWaited
+stage_reply world facts Window place kind raw = ignored NotWaited
 stage_reply world facts Choosing place kind raw = ignored NotWaited
 stage_reply world facts Prompting place kind raw = prompting_reply world facts place (provider_at place facts.options) kind raw
 stage_reply world facts Asserting place kind raw = asserting_reply facts place (provider_at place facts.options) kind raw
@@ -34,8 +36,10 @@ input_row world facts (inputs.Reply place kind raw) = stage_reply world facts fa
 input_row world facts (inputs.Choose place id) = chose world facts facts.stage place id
 input_row world facts inputs.GoOn = went_on facts facts.stage
 input_row world facts inputs.Cancel = cancelled facts.stage
+input_row world facts inputs.SignIn = asked_to_sign_in facts facts.stage
+input_row world facts inputs.Shut = window_shut facts.stage
+input_row world facts inputs.Resume = resumed facts facts.stage
 input_row world facts inputs.Abort = fails (plain steps.Aborted)
-input_row world facts _ = ignored NotOffered
 
 -- an input of a call
 abbrev pub call_row : World → Option Facts → Input → Outcome

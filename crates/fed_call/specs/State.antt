@@ -11,6 +11,7 @@ use Rattle.fed_call.specs.declared.listing.Listing.{Listing}
 use Rattle.fed_call.specs.declared.mismatch.Mismatch.{Mismatch}
 use Rattle.fed_call.specs.declared.choosing.Choosing.{Choosing}
 use Rattle.fed_call.specs.declared.prompting.Prompting.{Prompting}
+use Rattle.fed_call.specs.declared.window.Window.{Window}
 use Rattle.fed_call.specs.declared.state.CallState.{CallState}
 use Rattle.fed_call.specs.declared.state.CallState.TheVariants as states
 use Rattle.fed_call.specs.Begun.{Begun, options_of}
@@ -40,6 +41,9 @@ listing_facts state = configured state.begun state.config stages.Listing
 abbrev pub mismatch_facts : Mismatch → Facts
 mismatch_facts state = configured state.begun state.config stages.Mismatch
 
+abbrev pub window_facts : Window → Facts
+window_facts state = configured state.begun state.config stages.Window
+
 abbrev pub choosing_facts : Choosing → Facts
 choosing_facts state =
     record (configured state.begun state.config stages.Choosing) { listed = Some state.chooser.listed }
@@ -63,6 +67,7 @@ abbrev pub facts_of : CallState → Option Facts
 facts_of (states.Reading state) = Some (reading_facts state)
 facts_of (states.Listing state) = Some (listing_facts state)
 facts_of (states.Mismatch state) = Some (mismatch_facts state)
+facts_of (states.Window state) = Some (window_facts state)
 facts_of (states.Choosing state) = Some (choosing_facts state)
 facts_of (states.Prompting state) = Some (prompting_facts state)
 facts_of (states.Asserting state) = Some (asserting_facts state)

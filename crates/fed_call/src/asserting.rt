@@ -1,5 +1,5 @@
 //! A call whose token is awaited.
-ghost use Rattle.std.specs.Prelude.{◌≡◌, ◌∷◌, [], Some, None, Ok, false, IfOk};
+ghost use Rattle.std.specs.Prelude.{◌≡◌, Some, None, Ok, false, IfOk};
 ghost use Rattle.fed_consent.specs.declared.table.input.Input.TheVariants as inputs;
 ghost use Rattle.fed_consent.specs.Consent.{assertion_fields};
 ghost use Rattle.fed_call.specs.AssertingRows as spec;

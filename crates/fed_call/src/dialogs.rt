@@ -1,11 +1,9 @@
 //! What the user is shown.
 ghost use Rattle.std.specs.Prelude.{◌≡◌, IfOk, IsAscii, length, option_map};
-ghost use Rattle.std.specs.Option.{option_copied};
 ghost use Rattle.url.specs.Parts.{serialize};
 ghost use Rattle.fed_suffix.specs.Registrable.{party};
 ghost use Rattle.fed_status.specs.Shared.{world_of};
 ghost use Rattle.fed_consent.specs.declared.table.effect.Effect.TheVariants as effects;
-ghost use Rattle.fed_call.specs.Facts.{metadata_endpoint};
 ghost use Rattle.fed_call.specs.ListingRows as spec;
 ghost use Rattle.fed_call.specs.State.{begun_facts};
 

@@ -13,6 +13,7 @@ mod prompting;
 mod reading;
 mod start;
 mod state;
+mod window;
 
 pub use asserting::Asserting;
 pub use choosing::Choosing;
@@ -23,3 +24,4 @@ pub use mismatch::Mismatch;
 pub use prompting::Prompting;
 pub use reading::Reading;
 pub use state::{CallState, Ended};
+pub use window::Window;

@@ -17,7 +17,8 @@ use crate::accounts::{connections, hinted_accounts, kept_each};
 use crate::asserting::assertion_request;
 use crate::begun::Call;
 use crate::dialogs::{choice_dialog, prompt_effect, site};
-use crate::{Asserting, CallState, Choosing, Ended, Mismatch, Prompting};
+use crate::window::{may_sign_in, window_effect};
+use crate::{Asserting, CallState, Choosing, Ended, Mismatch, Prompting, Window};
 use fed_accounts::{Accounts, reselect};
 use fed_consent::{
     Chooser, Dialog, Effect, FailStep, Failure, Finish, Input, Prompt, Reselection, Why,
@@ -135,7 +136,8 @@ impl Listing {
         }
     }
 
-    // The accounts are refused, or none fits the hints of the call: the user hears of it (row C15), or the page (row C16).
+    // The accounts are refused, or none fits the hints of the call: the login window opens (row C14), or the user hears of it (row
+    // C15), or the page (row C16).
     fn refuses(
         self,
         alloc: Global,
@@ -151,11 +153,27 @@ impl Listing {
             (origin_of self.begun.provider.config) failure).stage Stage.Listing)
             (listing_facts self)) }
     {
+        if may_sign_in(&self.begun) {
+            return self.opens_window(alloc, place);
+        }
         if is_mismatch(&self.begun, shared) {
             return self.shows_mismatch(alloc, shared, place, failure);
         }
         let effects = failed(alloc, &self.begun, LoginStatus::LoggedOut, failure)?;
         Ok((CallState::Ended(Ended), effects))
+    }
+
+    // The user is logged out, and the login window opens.
+    fn opens_window(self, alloc: Global, place: u32) -> Result<(CallState, Items<Effect>), NoRoom>
+        ensures effects { IfOk result (λ r. r.1 ≡ Effect.SetLogin (origin_of self.begun.provider.config) LoginStatus.LoggedOut
+            ∷ Effect.Window place self.config.login ∷ []) }
+        ensures state { IfOk result (λ r. r.0 ≡ CallState.Window (record { begun = self.begun; config = self.config })) }
+    {
+        let provider = self.begun.provider_origin().copy(alloc)?;
+        let window = window_effect(alloc, place, &self.config)?;
+        let effects = Effect::SetLogin(provider, LoginStatus::LoggedOut).then(alloc, window)?;
+        let Listing { begun, config } = self;
+        Ok((CallState::Window(Window { begun, config }), effects))
     }
 
     // The user is shown that the provider gave no account, though it had said that the user is logged in.

@@ -106,8 +106,8 @@ fn hears(
     }
 }
 
-// Both files are good, and the accounts are asked for.
-fn asks_accounts(
+/// Both files are good, and the accounts are asked for.
+pub fn asks_accounts(
     alloc: Global,
     begun: Call,
     place: u32,

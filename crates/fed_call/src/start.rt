@@ -54,6 +54,10 @@ pub fn first_requests(
     if config.scheme() == Scheme::Http {
         return Ok(Err(FailStep::ConfigScheme));
     }
+    // Row C3.
+    if lacks_activation(options.mode, options.activation) {
+        return Ok(Err(FailStep::NoActivation));
+    }
     // Row C4.
     let wellknown = match wellknown_url(alloc, shared.rules, config) {
         Ok(url) => url,
@@ -70,6 +74,16 @@ pub fn first_requests(
     }
     // Row C7.
     Ok(Ok(requests(alloc, wellknown, config)?))
+}
+
+// Whether the call is active and the user did nothing at the page.
+fn lacks_activation(mode: Mode, activation: bool) -> bool
+    ensures { result ≡ spec.lacks_activation mode activation }
+{
+    match mode {
+        Mode::Passive => false,
+        Mode::Active => !activation,
+    }
 }
 
 // Whether the call is silent and the flag of its page's origin is set.

@@ -1,15 +1,17 @@
 //! The states of a call.
 ghost use Rattle.std.specs.Prelude.{◌≡◌, IfOk, Some, length, option_map};
+ghost use Rattle.std.specs.Option.{option_copied};
 ghost use Rattle.fed_status.specs.Shared.{world_of};
 ghost use Rattle.fed_call.specs.Facts.{started, stage_of, next_facts};
 ghost use Rattle.fed_consent.specs.Outcomes.{ignored};
 ghost use Rattle.fed_call.specs.Row.{start_row, call_row, declined, kept_declined};
 ghost use Rattle.fed_call.specs.State.{facts_of};
+ghost use Rattle.fed_call.specs.WindowRows.{awaited_by};
 
 use crate::begun::Call;
 use crate::effects::fails;
 use crate::start::{first_requests, provider_origin};
-use crate::{Asserting, Choosing, Listing, Mismatch, Prompting, Reading};
+use crate::{Asserting, Choosing, Listing, Mismatch, Prompting, Reading, Window};
 use fed_consent::{Effect, FailStep, Failure, Input, Why};
 use fed_io::{Items, NoRoom};
 use fed_origin::{GetOptions, Origin, Stage};
@@ -27,6 +29,7 @@ pub enum CallState {
     Reading(Reading),
     Listing(Listing),
     Mismatch(Mismatch),
+    Window(Window),
     Choosing(Choosing),
     Prompting(Prompting),
     Asserting(Asserting),
@@ -40,6 +43,7 @@ impl Drop for CallState {
             CallState::Reading(_)
             | CallState::Listing(_)
             | CallState::Mismatch(_)
+            | CallState::Window(_)
             | CallState::Choosing(_)
             | CallState::Prompting(_)
             | CallState::Asserting(_)
@@ -49,7 +53,7 @@ impl Drop for CallState {
 }
 
 impl CallState {
-    /// A call that begins, and what it does: it fails by the rows C2 or C4 to C6, or sends its first requests by row C7. The
+    /// A call that begins, and what it does: it fails by the rows C2 to C6, or sends its first requests by row C7. The
     /// call has exactly one provider.
     pub fn start(
         alloc: Global,
@@ -78,9 +82,8 @@ impl CallState {
         }
     }
 
-    /// The call after an input, and what it does there: rows C8 to C13, C15 to C27, C31 to C34 and C36. A call that is over ignores each
-    /// input. On want of memory the call is gone, and a consent that was made is
-    /// voided.
+    /// The call after an input, and what it does there: rows C8 to C34 and C36. A call that is over ignores each input. On want of
+    /// memory the call is gone, and a consent that was made is voided.
     pub fn advance(
         self,
         alloc: Global,
@@ -96,6 +99,7 @@ impl CallState {
             CallState::Reading(state) => state.advance(alloc, input, shared),
             CallState::Listing(state) => state.advance(alloc, input, shared),
             CallState::Mismatch(state) => state.advance(alloc, input, shared),
+            CallState::Window(state) => state.advance(alloc, input, shared),
             CallState::Choosing(state) => state.advance(alloc, input, shared),
             CallState::Prompting(state) => state.advance(alloc, input, shared),
             CallState::Asserting(state) => state.advance(alloc, input, shared),
@@ -145,10 +149,27 @@ impl CallState {
             CallState::Reading(_) => Stage::Reading,
             CallState::Listing(_) => Stage::Listing,
             CallState::Mismatch(_) => Stage::Mismatch,
+            CallState::Window(_) => Stage::Window,
             CallState::Choosing(_) => Stage::Choosing,
             CallState::Prompting(_) => Stage::Prompting,
             CallState::Asserting(_) => Stage::Asserting,
             CallState::Ended(_) => Stage::Ended,
+        }
+    }
+
+    /// The origin of the provider whose login window is open; none where none is. It takes no memory.
+    pub fn waits_for(&self) -> Option<&Origin>
+        ensures { option_copied result ≡ awaited_by (facts_of self.now) }
+    {
+        match self {
+            CallState::Window(state) => Some(state.begun.provider_origin()),
+            CallState::Reading(_)
+            | CallState::Listing(_)
+            | CallState::Mismatch(_)
+            | CallState::Choosing(_)
+            | CallState::Prompting(_)
+            | CallState::Asserting(_)
+            | CallState::Ended(_) => None,
         }
     }
 
@@ -160,6 +181,7 @@ impl CallState {
             CallState::Reading(state) => Some(state.begun.page),
             CallState::Listing(state) => Some(state.begun.page),
             CallState::Mismatch(state) => Some(state.begun.page),
+            CallState::Window(state) => Some(state.begun.page),
             CallState::Choosing(state) => Some(state.begun.page),
             CallState::Prompting(state) => Some(state.begun.page),
             CallState::Asserting(state) => Some(state.begun.page),

@@ -1,5 +1,5 @@
 -- What the user is offered, what the user agreed to, and the request that it makes.
-use Rattle.std.specs.Prelude.{ℕ, Bool, true, false, not, ◌&&◌, List, Option, Some, slice_get, option_and_then, option_map, Result, Ok}
+use Rattle.std.specs.Prelude.{ℕ, Bool, true, false, not, List, Option, slice_get, option_and_then, option_map, Result, Ok}
 use Rattle.std.specs.Prelude.{Err}
 use Rattle.std.specs.Prelude.{bytes_eq, if◌then◌else◌}
 use Rattle.std.specs.List.{position}

@@ -1,5 +1,5 @@
 //! What the readers share.
-ghost use Rattle.std.specs.Prelude.{◌≡◌, ◌+◌, ◌-◌, ◌*◌, ◌^◌, ◌==◌, ◌<◌, min, length, option_map, IfSome, IfNone, [], ◌∷◌};
+ghost use Rattle.std.specs.Prelude.{◌≡◌, ◌+◌, ◌-◌, ◌^◌, ◌==◌, ◌<◌, min, length, option_map, IfSome, IfNone, [], ◌∷◌};
 ghost use Rattle.std.specs.List.{slice_split};
 ghost use Rattle.fed_cookie.specs.Bytes as spec;
 

@@ -1,5 +1,5 @@
 //! Cookie dates (RFC 6265, 5.1.1).
-ghost use Rattle.std.specs.Prelude.{◌≡◌, ◌+◌, ◌≤◌, ℤ, pos, length, Some, option_map, map, position, IfSome, IfNone, [], ◌∷◌, ◌<◌};
+ghost use Rattle.std.specs.Prelude.{◌≡◌, ◌+◌, ◌≤◌, length, Some, option_map, position, IfSome, IfNone, [], ◌∷◌, ◌<◌};
 ghost use Rattle.fed_cookie.specs.Date as spec;
 ghost use Rattle.std.specs.Char.{to_ascii_lowercase, is_ascii_digit};
 ghost use Rattle.std.specs.List.{prefix_len, slice_split};

@@ -1,5 +1,4 @@
 //! What a Set-Cookie field says.
-ghost use Rattle.std.specs.Prelude.{◌≡◌, IfOk};
 ghost use Rattle.fed_cookie.specs.SetCookie.{HasNoLineEnd};
 
 use crate::SameSite;

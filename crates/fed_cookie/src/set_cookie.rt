@@ -1,5 +1,5 @@
 //! The reader of a Set-Cookie field (RFC 6265, 5.2).
-ghost use Rattle.std.specs.Prelude.{◌≡◌, ◌==◌, IfOk, map, option_map, option_copied};
+ghost use Rattle.std.specs.Prelude.{◌≡◌, ◌==◌, IfOk, map};
 ghost use Rattle.std.specs.Char.{to_ascii_lowercase};
 ghost use Rattle.std.specs.List.{list_any};
 ghost use Rattle.fed_cookie.specs.SetCookie.{HasNoLineEnd};

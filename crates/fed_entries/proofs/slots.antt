@@ -2,3 +2,4 @@
 pub mod Holes
 pub mod Written
 pub mod Changes
+pub mod Standing

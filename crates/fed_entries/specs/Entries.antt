@@ -1,5 +1,5 @@
 -- Entries in order of entering, and the holes that those which went have left.
-use Rattle.std.specs.Prelude.{◌≡◌, ◌<◌, ℕ, Bool, nat_eq, List, Option, None, option_map}
+use Rattle.std.specs.Prelude.{◌≡◌, ◌<◌, ◌+◌, ℕ, Bool, cond, nat_eq, List, length, Option, None, Some, option_map}
 use Rattle.std.specs.List.{AllByRecursion, IsDistinct, filter_map}
 use Rattle.std.specs.Map.{keys_of, lookup, set_value}
 use Rattle.std.specs.Option.{option_map_or}
@@ -41,5 +41,16 @@ module _ {K V : Type 0} where
   -- what is true of each such list: an entry is found by its key exactly where it stands, and none stands twice
   pub record AreEntries (same : K → K → Bool) (entered : List (K × ℕ)) (slots : List (Slot K V)) (next : ℕ) : Type 0 where
     pub found : (key : K) → lookup (same key) entered ≡ lookup (same key) (numbers_in slots)
+    pub count : length entered ≡ length (entries_in slots)
     pub below : AreBelow next slots
     pub distinct : IsDistinct same (keys_of (entries_in slots))
+
+module _ {K : Type 0} (same : K → K → Bool) where
+  -- a number is that of this key, and the numbers of the others stay
+  abbrev pub NumbersOne : K → ℕ → List (K × ℕ) → List (K × ℕ) → Type 0
+  NumbersOne key number old new =
+      (other : K) → lookup (same other) new ≡ cond (same key other) (Some number) (lookup (same other) old)
+
+  -- where the key has no number, there is one number more
+  abbrev pub CountsOne : K → List (K × ℕ) → List (K × ℕ) → Type 0
+  CountsOne key old new = lookup (same key) old ≡ None → length new ≡ length old + 1

@@ -1,10 +1,10 @@
 //! Entries in order of entering.
-ghost use Rattle.std.specs.Prelude.{◌≡◌, ◌<◌, ◌++◌, ◌∷◌, [], ℕ, Some, None, cond, nat_eq, is_some};
+ghost use Rattle.std.specs.Prelude.{◌≡◌, ◌<◌, ◌++◌, ◌∷◌, [], ℕ, Some, None, nat_eq, is_some, length, slice_get};
 ghost use Rattle.std.specs.Prelude.{option_copied, option_map, option_and_then, OnOk, OnErr};
 ghost use Rattle.std.specs.List.{IsDistinct};
-ghost use Rattle.std.specs.Map.{keys_of, lookup};
+ghost use Rattle.std.specs.Map.{keys_of, values_of, lookup};
 ghost use Rattle.indexmap.specs.IndexMap.{spare, insert_entry, shift_remove_entry};
-ghost use Rattle.fed_entries.specs.Entries.{AreBelow, with_hole, with_value, entries_in, numbers_in};
+ghost use Rattle.fed_entries.specs.Entries.{AreBelow, CountsOne, NumbersOne, with_hole, with_value, entries_in, numbers_in};
 
 use fed_io::NoRoom;
 use indexmap::IndexMap;
@@ -60,6 +60,13 @@ impl<K: Copy + Eq + Hash + Drop, V: Drop> Entries<K, V> {
         }
     }
 
+    /// Whether an entry stands under a key. It takes no memory.
+    pub fn has(&self, key: K) -> bool
+        ensures { result ≡ is_some (lookup (K.eq key) self.now) }
+    {
+        self.entered.contains_key(&key)
+    }
+
     /// Puts a value under a key. A key that stands keeps its place, and a new one enters last. On want of memory the entries
     /// are unchanged.
     pub fn insert(&mut self, key: K, value: V) -> Result<(), NoRoom>
@@ -89,7 +96,25 @@ impl<K: Copy + Eq + Hash + Drop, V: Drop> Entries<K, V> {
         }
     }
 
-    /// Where the entries stand, with holes between them: for a walk over all.
+    /// How many entries stand. It takes no memory.
+    pub fn len(&self) -> usize
+        ensures { result ≡ length self.now }
+    {
+        self.entered.len()
+    }
+
+    /// The value at place `k` from 0 in order of entering; `None` exactly where `k` is at least `len`. It takes no memory.
+    pub fn item(&self, k: usize) -> Option<&V>
+        ensures { option_copied result ≡ slice_get (values_of self.now) k }
+    {
+        // Without holes an entry stands at the place of its slot: then a walk over all places takes linear time.
+        if self.slots.len() == self.entered.len() {
+            return at_slot(&self.slots, k);
+        }
+        standing(&self.slots, k)
+    }
+
+    /// Where the entries stand, with holes between them: for a walk over all. It takes no memory.
     pub fn slots(&self) -> &Slots<K, V>
         ensures { entries_in result.now.entries ≡ self.now }
     {
@@ -153,8 +178,8 @@ fn enter<K: Copy + Eq + Hash + Drop, V: Drop>(
     value: V,
 ) -> Result<(), NoRoom>
     requires { lookup (nat_eq number) slots.old.entries ≡ None }
-    ensures entered { OnOk result ((other : K) → lookup (K.eq other) entered.new.entries
-        ≡ cond (K.eq key other) (Some number) (lookup (K.eq other) entered.old.entries)) }
+    ensures entered { OnOk result (NumbersOne K.eq key number entered.old.entries entered.new.entries) }
+    ensures count { OnOk result (CountsOne K.eq key entered.old.entries entered.new.entries) }
     ensures slots { OnOk result (slots.new.entries ≡ slots.old.entries ++ (number, Some (key, value)) ∷ []) }
     ensures err_entered { OnErr result (entered.new.entries ≡ entered.old.entries) }
     ensures err_slots { OnErr result (slots.new.entries ≡ slots.old.entries) }
@@ -172,8 +197,8 @@ fn enter<K: Copy + Eq + Hash + Drop, V: Drop>(
 // Puts a number, for which there is room.
 fn put_number<K: Eq + Hash + Drop>(entered: &mut IndexMap<K, u64>, key: K, number: u64)
     requires { 0 < spare entered.old }
-    ensures { (other : K) → lookup (K.eq other) entered.new.entries
-        ≡ cond (K.eq key other) (Some number) (lookup (K.eq other) entered.old.entries) }
+    ensures entered { NumbersOne K.eq key number entered.old.entries entered.new.entries }
+    ensures count { CountsOne K.eq key entered.old.entries entered.new.entries }
 {
     let _ = entered.insert(key, number);
 }
@@ -186,4 +211,41 @@ fn leave_hole<K: Drop, V: Drop>(slots: &mut Slots<K, V>, number: u64)
     if let Some(slot) = slots.get_mut(&number) {
         *slot = None;
     }
+}
+
+// The value at place k, where there are no holes.
+fn at_slot<K, V>(slots: &Slots<K, V>, k: usize) -> Option<&V>
+    requires { length (entries_in slots.now.entries) ≡ length slots.now.entries }
+    ensures { option_copied result ≡ slice_get (values_of (entries_in slots.now.entries)) k }
+{
+    match slots.get_index(k) {
+        Some((_, slot)) => value_in(slot),
+        None => None,
+    }
+}
+
+// The value of a slot.
+fn value_in<K, V>(slot: &Option<(K, V)>) -> Option<&V>
+    ensures { option_copied result ≡ option_map (λ entry. entry.1) slot.now }
+{
+    match slot {
+        Some((_, value)) => Some(value),
+        None => None,
+    }
+}
+
+// The value at place k among those that stand.
+fn standing<K, V>(slots: &Slots<K, V>, k: usize) -> Option<&V>
+    ensures { option_copied result ≡ slice_get (values_of (entries_in slots.now.entries)) k }
+{
+    let mut before = k;
+    for (_, slot) in slots.iter() {
+        if let Some((_, value)) = slot {
+            if before == 0 {
+                return Some(value);
+            }
+            before -= 1;
+        }
+    }
+    None
 }

@@ -1,5 +1,5 @@
 //! What stands at the front of some bytes: a response head, a trailer, or a chunk's size line.
-ghost use Rattle.std.specs.Prelude.{◌≡◌, ◌≤◌, ℕ, List, length, drop, take, map, All, IfSome, IfNone};
+ghost use Rattle.std.specs.Prelude.{◌≡◌, ◌≤◌, ℕ, List, length, IfSome, IfNone};
 ghost use Rattle.std.specs.Bool.{OnTrue, OnFalse};
 ghost use Rattle.httparse.specs.Grammar.{ReadsResponse, ResponseHead, Field, LineEnd, ReadsSection, ChunkLine, HasNoChunkLine};
 ghost use Rattle.httparse.specs.Spans.{IsChunkLineAt};

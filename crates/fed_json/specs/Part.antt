@@ -1,23 +1,24 @@
 -- What the values of a text are, by the tokens of its tape.
-use Rattle.std.specs.Prelude.{ℕ, zero, suc, List, [], ◌∷◌, length, Option, Some, None, option_and_then, is_some, cond, false}
+use Rattle.std.specs.Prelude.{ℕ, zero, suc, negsuc, List, [], ◌∷◌, length, Option, Some, None, option_and_then, is_some, cond}
 use Rattle.std.specs.Prelude.{bytes_eq, if◌then◌else◌}
 use Rattle.json.specs.Token.{Token}
 use Rattle.json.specs.Json as json
 use Rattle.json.specs.Find.{InItems, InMembers}
-use Rattle.serde_json.specs.Data.{Num, Data, null, boolean, number, string, array, object, Items, no_items, item, Members, no_members, put}
+use Rattle.serde_json.specs.Data.{Num, negative, Data, null, boolean, number, string, array, object, Items, no_items, item, Members}
+use Rattle.serde_json.specs.Data.{no_members, put}
 use Rattle.serde_json.specs.Read.{number_of}
 
--- what a number is; one out of range, which stands in no text that is read, is none
-abbrev pub number_or_false : Option Num → Data
-number_or_false None = boolean false
-number_or_false (Some n) = number n
+-- what a number is; one out of range, which stands in no text that is read, is one below zero, which no call asks for
+abbrev pub number_or_negative : Option Num → Data
+number_or_negative None = number (negative (negsuc 0))
+number_or_negative (Some n) = number n
 
 -- the data that a JSON value is; of several members of one name the last counts
 abbrev mutual
   pub data_of : json.Json → Data
   data_of json.null = null
   data_of (json.boolean b) = boolean b
-  data_of (json.number s) = number_or_false (number_of s)
+  data_of (json.number s) = number_or_negative (number_of s)
   data_of (json.string s) = string s
   data_of (json.array js) = array (items_of js)
   data_of (json.object ms) = object (members_after ms no_members)

@@ -1,7 +1,7 @@
 //! The values that a text holds.
 ghost use Rattle.std.specs.Prelude.{◌≡◌, is_some, option_map, option_and_then};
 ghost use Rattle.json.specs.Find.{HasValue};
-ghost use Rattle.serde_json.specs.Find.{get, at, as_null, as_number, as_array, as_object, as_str, as_u64};
+ghost use Rattle.serde_json.specs.Find.{get, at, as_null, as_bool, as_number, as_array, as_object, as_str, as_u64};
 ghost use Rattle.fed_json.specs.Part.{data_at, items_at, members_at};
 
 use crate::number::whole_of;
@@ -94,6 +94,13 @@ impl<'t, 'a> Part<'t, 'a> {
         ensures { option_map (λ s. s.now) result ≡ as_str (data_at self.now) }
     {
         self.element.as_str()
+    }
+
+    /// The truth value, where this is one.
+    pub fn as_bool(&self) -> Option<bool>
+        ensures { result ≡ as_bool (data_at self.now) }
+    {
+        self.element.as_bool()
     }
 
     /// The number, where this is a whole one of 64 bits.

@@ -1,9 +1,12 @@
--- The words of mediations, of contexts, of kinds of replies and of login statuses, in scripts, in transcripts and in Set-Login fields.
+-- The words of mediations, of modes, of contexts, of kinds of replies and of login statuses, in scripts, in transcripts and in
+-- Set-Login fields.
 use Rattle.std.specs.Prelude.{ℕ, Bool, false, List, [], ◌∷◌, find, codes, bytes_eq, Option, Some, None}
 use Rattle.fed_origin.specs.declared.options.Context.{Context}
 use Rattle.fed_origin.specs.declared.options.Context.TheVariants.{SignIn, SignUp, UseHere, GoOn}
 use Rattle.fed_origin.specs.declared.options.Mediation.{Mediation}
 use Rattle.fed_origin.specs.declared.options.Mediation.TheVariants.{Silent, Optional, Required}
+use Rattle.fed_origin.specs.declared.options.Mode.{Mode}
+use Rattle.fed_origin.specs.declared.options.Mode.TheVariants.{Passive, Active}
 use Rattle.fed_origin.specs.declared.stage.ReplyKind.{ReplyKind}
 use Rattle.fed_origin.specs.declared.stage.ReplyKind.TheVariants.{WellKnown, Config, Accounts, Metadata, Assertion, Disconnect}
 use Rattle.fed_origin.specs.declared.status.LoginStatus.{LoginStatus}
@@ -17,6 +20,14 @@ mediation_text Required = codes "required"
 -- the mediation that a word stands for
 abbrev pub mediation_of_word : List ℕ → Option Mediation
 mediation_of_word word = find (λ mediation. bytes_eq word (mediation_text mediation)) (Silent ∷ Optional ∷ Required ∷ [])
+
+abbrev pub mode_text : Mode → List ℕ
+mode_text Passive = codes "passive"
+mode_text Active = codes "active"
+
+-- the mode that a word stands for
+abbrev pub mode_of_word : List ℕ → Option Mode
+mode_of_word word = find (λ mode. bytes_eq word (mode_text mode)) (Passive ∷ Active ∷ [])
 
 abbrev pub context_text : Context → List ℕ
 context_text SignIn = codes "signin"

@@ -42,6 +42,22 @@ pub enum Mode {
     Active,
 }
 
+impl Mode {
+    ghost use Rattle.std.specs.Prelude.{◌≡◌};
+    ghost use Rattle.fed_origin.specs.Words.{mode_of_word};
+
+    /// The mode that a word stands for, if it is the word of one.
+    pub fn of_word(word: &str) -> Option<Mode>
+        ensures { result ≡ mode_of_word word.now }
+    {
+        match word {
+            "passive" => Some(Mode::Passive),
+            "active" => Some(Mode::Active),
+            _ => None,
+        }
+    }
+}
+
 /// What the dialog is about (FedCM, IdentityCredentialRequestOptionsContext).
 #[derive(Clone, Copy, Debug, PartialEq, Eq)]
 pub enum Context {

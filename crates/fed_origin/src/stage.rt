@@ -9,6 +9,8 @@ pub enum Stage {
     Listing,
     /// The user is shown that the provider gave no account, though it had said that the user is logged in.
     Mismatch,
+    /// The login window is open: the user is to sign in at the provider.
+    Window,
     /// The user is to choose an account.
     Choosing,
     /// The user is to go on with an account.

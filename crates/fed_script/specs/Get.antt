@@ -1,13 +1,10 @@
 -- What a line of the kind `get` is read as.
-use Rattle.std.specs.Prelude.{ℕ, List, [], ◌∷◌, Option, Some, None, option_and_then, Result, Ok, false}
+use Rattle.std.specs.Prelude.{ℕ, List, [], ◌∷◌, Option, Some, None, option_and_then, Result, Ok}
 use Rattle.std.specs.Option.{option_copied}
 use Rattle.serde_json.specs.Data.{Data, object, Items, no_items, item}
 use Rattle.serde_json.specs.Find.{as_str, as_array}
 use Rattle.url.specs.Parts.{Parts}
-use Rattle.fed_origin.specs.declared.options.Context.{Context}
 use Rattle.fed_origin.specs.declared.options.GetOptions.{GetOptions}
-use Rattle.fed_origin.specs.declared.options.Mediation.{Mediation}
-use Rattle.fed_origin.specs.declared.options.Mode.TheVariants.{Passive}
 use Rattle.fed_origin.specs.declared.options.ProviderOptions.{ProviderOptions}
 use Rattle.fed_script.specs.declared.cause.LineCause.{LineCause}
 use Rattle.fed_script.specs.declared.cause.MemberName.TheVariants as names
@@ -15,8 +12,9 @@ use Rattle.fed_script.specs.declared.event.Event.{Event}
 use Rattle.fed_script.specs.declared.event.Event.TheVariants.{Get}
 use Rattle.fed_script.specs.declared.get.GetMembers as get
 use Rattle.fed_script.specs.declared.get.ProviderMembers as provider
+use Rattle.fed_script.specs.declared.options.OptionMembers.{OptionMembers}
 use Rattle.fed_script.specs.Member.{◌>>=◌, required, optional, member_of, as_u32, url_of}
-use Rattle.fed_script.specs.Options.{mediation_of, no_options, context_of}
+use Rattle.fed_script.specs.Options.{option_members}
 
 -- the members of an entry of `providers`, its URL as text
 pub record ProviderMembers : Type 0 where
@@ -31,8 +29,7 @@ pub record ProviderMembers : Type 0 where
 pub record GetMembers : Type 0 where
   pub page : ℕ
   pub call : ℕ
-  pub mediation : Mediation
-  pub context : Context
+  pub options : OptionMembers
   pub provider : ProviderMembers
 
 -- what borrowed members of an entry point to
@@ -50,13 +47,7 @@ provider_seen p =
 -- what borrowed members of a get point to
 abbrev pub get_seen : get.GetMembers → GetMembers
 get_seen m =
-    record {
-      page = m.page;
-      call = m.call;
-      mediation = m.mediation;
-      context = m.context;
-      provider = provider_seen m.provider;
-    }
+    record { page = m.page; call = m.call; options = m.options; provider = provider_seen m.provider }
 
 -- the entry of a list of exactly one
 abbrev pub only_item : Items → Option Data
@@ -96,12 +87,10 @@ abbrev pub get_members : Data → Result GetMembers LineCause
 get_members d = do
   page ← required as_u32 names.Page d
   call ← required as_u32 names.Call d
-  mediation ← mediation_of d
-  options ← no_options d
-  context ← context_of d
+  options ← option_members d
   entry ← required as_provider names.Providers d
   provider ← provider_members entry
-  Ok (record { page = page; call = call; mediation = mediation; context = context; provider = provider })
+  Ok (record { page = page; call = call; options = options; provider = provider })
 
 -- a provider's options, with its configuration URL
 abbrev pub provider_of : Parts → ProviderMembers → ProviderOptions
@@ -115,14 +104,20 @@ provider_of config members =
       params = members.params;
     }
 
--- the options of a call that names its mediation, its context and its provider: the mode is passive, without activation
-abbrev pub options_of : Mediation → Context → ProviderOptions → GetOptions
-options_of mediation context provider =
-    record { mediation = mediation; mode = Passive; activation = false; context = context; providers = provider ∷ [] }
+-- the options of a call with one provider
+abbrev pub options_of : OptionMembers → ProviderOptions → GetOptions
+options_of members provider =
+    record {
+      mediation = members.mediation;
+      mode = members.mode;
+      activation = members.activation;
+      context = members.context;
+      providers = provider ∷ [];
+    }
 
 -- the get that a line names
 abbrev pub get_of : Data → Result Event LineCause
 get_of d = do
   members ← get_members d
   config ← url_of members.provider.config
-  Ok (Get members.page members.call (options_of members.mediation members.context (provider_of config members.provider)))
+  Ok (Get members.page members.call (options_of members.options (provider_of config members.provider)))

@@ -2,7 +2,6 @@
 use Rattle.std.specs.Prelude.{ℕ, List, codes, Result, Ok, Err, bytes_eq, if◌then◌else◌}
 use Rattle.serde_json.specs.Data.{Data}
 use Rattle.serde_json.specs.Find.{as_str}
-use Rattle.fed_origin.specs.declared.status.Triple.{Triple}
 use Rattle.fed_origin.specs.Words.{status_of_word}
 use Rattle.fed_script.specs.declared.cause.LineCause.{LineCause}
 use Rattle.fed_script.specs.declared.cause.LineCause.TheVariants.{Member}

@@ -1,17 +1,17 @@
 -- What a line is read as. Members are read in their order, and the first that fails is named.
-use Rattle.std.specs.Prelude.{ℕ, not, ⊤, nat_lt, List, [], ◌∷◌, codes, option_and_then, Result, Ok, Err, bytes_eq, if◌then◌else◌}
-use Rattle.std.specs.List.{list_any}
+use Rattle.std.specs.Prelude.{ℕ, not, ⊤, nat_lt, List, codes, option_and_then, Result, Ok, Err, bytes_eq, if◌then◌else◌}
 use Rattle.serde_json.specs.Data.{Data}
 use Rattle.serde_json.specs.Find.{as_str}
 use Rattle.fed_script.specs.declared.cause.LineCause.{LineCause}
-use Rattle.fed_script.specs.declared.cause.LineCause.TheVariants.{NoKind, Member, CallTwice, HaveLate, TimeBack, TooManyEvents}
+use Rattle.fed_script.specs.declared.cause.LineCause.TheVariants.{NoKind, CallTwice, HaveLate, TimeBack, TooManyEvents}
 use Rattle.fed_script.specs.declared.cause.MemberName.TheVariants as names
 use Rattle.fed_script.specs.declared.event.Event.{Event}
 use Rattle.fed_script.specs.declared.event.Header.{Header}
 use Rattle.fed_script.specs.Member.{◌>>=◌, unless, or_cause, json_of, member_of}
 use Rattle.fed_script.specs.Header.{header_named}
 use Rattle.fed_script.specs.Have.{have_of}
-use Rattle.fed_script.specs.Single.{at_of, closepage_of, abort_of, go_on_of, cancel_of, prevent_of}
+use Rattle.fed_script.specs.Single.{at_of, closepage_of, abort_of, go_on_of, cancel_of, signin_of, shutwindow_of}
+use Rattle.fed_script.specs.Single.{idpclose_of, prevent_of}
 use Rattle.fed_script.specs.Load.{load_of}
 use Rattle.fed_script.specs.Get.{get_of}
 use Rattle.fed_script.specs.Reply.{reply_of}
@@ -24,14 +24,6 @@ use Rattle.fed_script.specs.Used.{UsedState, is_used, is_late, is_back}
 abbrev pub header_of : List ℕ → Result Header LineCause
 header_of line = json_of line >>= header_named
 
--- the kinds of event that are not read yet
-abbrev pub kinds_to_come : List (List ℕ)
-kinds_to_come = codes "signin" ∷ codes "shutwindow" ∷ codes "idpclose" ∷ []
-
--- why no event is read of a line of this kind
-abbrev pub unread_kind : List ℕ → LineCause
-unread_kind kind = if list_any (bytes_eq kind) kinds_to_come then Member names.Do else NoKind
-
 -- the event of a line of this kind
 abbrev pub event_of_kind : List ℕ → Data → Result Event LineCause
 event_of_kind kind d =
@@ -43,12 +35,15 @@ event_of_kind kind d =
     else (if bytes_eq kind (codes "abort") then abort_of d
     else (if bytes_eq kind (codes "continue") then go_on_of d
     else (if bytes_eq kind (codes "cancel") then cancel_of d
+    else (if bytes_eq kind (codes "signin") then signin_of d
+    else (if bytes_eq kind (codes "shutwindow") then shutwindow_of d
     else (if bytes_eq kind (codes "reply") then reply_of d
     else (if bytes_eq kind (codes "choose") then choose_of d
+    else (if bytes_eq kind (codes "idpclose") then idpclose_of d
     else (if bytes_eq kind (codes "prevent") then prevent_of d
     else (if bytes_eq kind (codes "setstatus") then setstatus_of d
     else (if bytes_eq kind (codes "disconnect") then disconnect_of d
-    else Err (unread_kind kind)))))))))))))
+    else Err NoKind)))))))))))))))
 
 -- the kind that a line names
 abbrev pub kind_of : Data → Result (List ℕ) LineCause

@@ -57,11 +57,6 @@ abbrev pub optional : {A : Type 0} → (Data → Option A) → MemberName → Op
 optional kind name None = Ok None
 optional kind name (Some d) = some_of (or_cause (Member name) (kind d))
 
--- a member that is not read yet, and so may not be there
-abbrev pub not_built : MemberName → Option Data → Result ⊤ LineCause
-not_built name None = Ok tt
-not_built name (Some d) = Err (Member name)
-
 -- a text that is one of some words, and what the word stands for
 abbrev pub as_word : {A : Type 0} → (List ℕ → Option A) → Data → Option A
 as_word words d = option_and_then words (as_str d)

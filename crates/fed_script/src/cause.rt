@@ -40,7 +40,7 @@ pub enum LineCause {
     NotJson,
     /// The line is no object whose `do` is the name of a kind.
     NoKind,
-    /// The first member that is missing or of a wrong kind, or that is not read yet.
+    /// The first member that is missing or of a wrong kind.
     Member(MemberName),
     /// A URL that `WebUrl::read` refuses.
     BadUrl,

@@ -41,7 +41,7 @@ pub enum Have {
     Cookie { url: WebUrl, field: Bytes },
 }
 
-/// An event of a script, one variant for each kind of line that is read.
+/// An event of a script, one variant for each kind of line.
 pub enum Event {
     /// Something stands from before the script.
     Have(Have),
@@ -78,6 +78,14 @@ pub enum Event {
     Cancel {
         call: u32,
     },
+    /// The user asks for the login window of a call whose provider gave no account.
+    SignIn {
+        call: u32,
+    },
+    /// The user closes the login window of a call.
+    ShutWindow {
+        call: u32,
+    },
     /// The bytes that came back for the call's request of this kind to the provider at this place in its list; none
     /// where the connection gave nothing.
     Reply {
@@ -91,6 +99,10 @@ pub enum Event {
         call: u32,
         provider: u32,
         account: Text,
+    },
+    /// A page says that the user has signed in at its origin: it calls `IdentityProvider.close` (FedCM).
+    IdpClose {
+        page: u32,
     },
     /// A page calls `navigator.credentials.preventSilentAccess` (Credential Management 2.5.5).
     Prevent {
@@ -132,6 +144,8 @@ impl Drop for Event {
             | Event::Abort { call: _ }
             | Event::GoOn { call: _ }
             | Event::Cancel { call: _ }
+            | Event::SignIn { call: _ }
+            | Event::ShutWindow { call: _ }
             | Event::Reply {
                 call: _,
                 provider: _,
@@ -143,6 +157,7 @@ impl Drop for Event {
                 provider: _,
                 account: _,
             }
+            | Event::IdpClose { page: _ }
             | Event::Prevent { page: _ }
             | Event::SetStatus { page: _, status: _ }
             | Event::Disconnect {

@@ -10,10 +10,10 @@ ghost use Rattle.fed_script.specs.declared.cause.MemberName.TheVariants as names
 use crate::cause::{LineCause, MemberName};
 use crate::event::Event;
 use crate::member::{member, number, optional_text, text, web_url};
-use crate::options::{context, mediation, no_options};
+use crate::options::{OptionMembers, option_members};
 use fed_io::{Fault, Items, NoRoom, Text, text_of};
 use fed_json::Part;
-use fed_origin::{Context, GetOptions, Mediation, Mode, ProviderOptions, WebUrl};
+use fed_origin::{GetOptions, ProviderOptions, WebUrl};
 use std::alloc::Global;
 
 // The members of an entry of `providers`, its URL as text.
@@ -32,8 +32,7 @@ struct ProviderMembers<'a> {
 struct GetMembers<'a> {
     page: u32,
     call: u32,
-    mediation: Mediation,
-    context: Context,
+    options: OptionMembers,
     provider: ProviderMembers<'a>,
 }
 
@@ -80,15 +79,12 @@ fn get_members<'a>(d: &Part<'_, 'a>) -> Result<GetMembers<'a>, LineCause>
 {
     let page = number(d, MemberName::Page)?;
     let call = number(d, MemberName::Call)?;
-    let mediation = mediation(d)?;
-    no_options(d)?;
-    let context = context(d)?;
+    let options = option_members(d)?;
     let provider = provider_members(&only_provider(d)?)?;
     Ok(GetMembers {
         page,
         call,
-        mediation,
-        context,
+        options,
         provider,
     })
 }
@@ -111,22 +107,21 @@ fn provider_of(
     })
 }
 
-// The options of a call that names its mediation, its context and its provider.
+// The options of a call with one provider.
 fn options_of(
     alloc: Global,
-    mediation: Mediation,
-    context: Context,
+    members: OptionMembers,
     provider: ProviderOptions,
 ) -> Result<GetOptions, NoRoom>
-    ensures { IfOk result (λ options. options ≡ spec.options_of mediation context provider) }
+    ensures { IfOk result (λ options. options ≡ spec.options_of members provider) }
 {
     let mut providers = Items::new(alloc);
     providers.push(provider)?;
     Ok(GetOptions {
-        mediation,
-        mode: Mode::Passive,
-        activation: false,
-        context,
+        mediation: members.mediation,
+        mode: members.mode,
+        activation: members.activation,
+        context: members.context,
         providers,
     })
 }
@@ -143,7 +138,7 @@ pub(crate) fn get(alloc: Global, d: &Part<'_, '_>) -> Result<Event, Fault<LineCa
             Ok(Event::Get {
                 page: members.page,
                 call: members.call,
-                options: options_of(alloc, members.mediation, members.context, provider)?,
+                options: options_of(alloc, members.options, provider)?,
             })
         }
     }

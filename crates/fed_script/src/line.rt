@@ -16,7 +16,9 @@ use crate::have::have_named;
 use crate::load::load;
 use crate::member::{member, tape_of};
 use crate::reply::reply;
-use crate::single::{abort, at, cancel, close_page, go_on, prevent};
+use crate::single::{
+    abort, at, cancel, close_page, go_on, idp_close, prevent, shut_window, sign_in,
+};
 use crate::status::set_status;
 use crate::used::Used;
 use fed_io::Fault;
@@ -37,16 +39,6 @@ fn kind_of<'a>(d: &Part<'_, 'a>) -> Result<&'a str, LineCause>
     }
 }
 
-// Why no event is read of a line of this kind.
-fn unread_kind(kind: &str) -> LineCause
-    ensures { result ≡ spec.unread_kind kind.now }
-{
-    match kind {
-        "signin" | "shutwindow" | "idpclose" => LineCause::Member(MemberName::Do),
-        _ => LineCause::NoKind,
-    }
-}
-
 // The event of a line of this kind.
 fn event_of_kind(alloc: Global, kind: &str, d: &Part<'_, '_>) -> Result<Event, Fault<LineCause>>
     ensures { Answers result (spec.event_of_kind kind.now (data_at d.now)) }
@@ -60,12 +52,15 @@ fn event_of_kind(alloc: Global, kind: &str, d: &Part<'_, '_>) -> Result<Event, F
         "abort" => abort(d).map_err(Fault::Step),
         "continue" => go_on(d).map_err(Fault::Step),
         "cancel" => cancel(d).map_err(Fault::Step),
+        "signin" => sign_in(d).map_err(Fault::Step),
+        "shutwindow" => shut_window(d).map_err(Fault::Step),
         "reply" => reply(alloc, d),
         "choose" => choose(alloc, d),
+        "idpclose" => idp_close(d).map_err(Fault::Step),
         "prevent" => prevent(d).map_err(Fault::Step),
         "setstatus" => set_status(d).map_err(Fault::Step),
         "disconnect" => disconnect(alloc, d),
-        _ => Err(Fault::Step(unread_kind(kind))),
+        _ => Err(Fault::Step(LineCause::NoKind)),
     }
 }
 

@@ -103,16 +103,6 @@ pub(crate) fn optional_number(d: &Part<'_, '_>, name: MemberName) -> Result<Opti
     Ok(Some(number(d, name)?))
 }
 
-/// A member that is not read yet.
-pub(crate) fn not_built(d: &Part<'_, '_>, name: MemberName) -> Result<(), LineCause>
-    ensures { result ≡ spec.not_built name (spec.member_of name (data_at d.now)) }
-{
-    match member(d, name) {
-        Some(_) => Err(LineCause::Member(name)),
-        None => Ok(()),
-    }
-}
-
 /// The URL of a text; BadUrl where there is none.
 pub(crate) fn web_url(alloc: Global, text: &str) -> Result<WebUrl, Fault<LineCause>>
     ensures { Answers result (spec.url_of text.now) }

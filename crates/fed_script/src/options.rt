@@ -1,14 +1,23 @@
 //! The options of a get, but for its providers.
 ghost use Rattle.std.specs.Prelude.{◌≡◌};
 ghost use Rattle.fed_json.specs.Part.{data_at};
-ghost use Rattle.fed_origin.specs.Words.{mediation_of_word, context_of_word};
+ghost use Rattle.fed_origin.specs.Words.{mediation_of_word, mode_of_word, context_of_word};
 ghost use Rattle.fed_script.specs.Member.{as_word};
 ghost use Rattle.fed_script.specs.Options as spec;
 
 use crate::cause::{LineCause, MemberName};
-use crate::member::{member, not_built};
+use crate::member::member;
 use fed_json::Part;
-use fed_origin::{Context, Mediation};
+use fed_origin::{Context, Mediation, Mode};
+
+/// The options of a get, but for its providers.
+#[derive(Clone, Copy, Drop)]
+pub(crate) struct OptionMembers {
+    pub(crate) mediation: Mediation,
+    pub(crate) mode: Mode,
+    pub(crate) activation: bool,
+    pub(crate) context: Context,
+}
 
 // The mediation that a value names.
 fn as_mediation(found: &Part<'_, '_>) -> Option<Mediation>
@@ -17,8 +26,8 @@ fn as_mediation(found: &Part<'_, '_>) -> Option<Mediation>
     Mediation::of_word(found.as_str()?)
 }
 
-/// The mediation that a line names; where it names none, optional.
-pub(crate) fn mediation(d: &Part<'_, '_>) -> Result<Mediation, LineCause>
+// The mediation that a line names; where it names none, optional.
+fn mediation(d: &Part<'_, '_>) -> Result<Mediation, LineCause>
     ensures { result ≡ spec.mediation_of (data_at d.now) }
 {
     let Some(found) = member(d, MemberName::Mediation) else {
@@ -27,12 +36,33 @@ pub(crate) fn mediation(d: &Part<'_, '_>) -> Result<Mediation, LineCause>
     as_mediation(&found).ok_or(LineCause::Member(MemberName::Mediation))
 }
 
-/// The options that are not read yet may not be there.
-pub(crate) fn no_options(d: &Part<'_, '_>) -> Result<(), LineCause>
-    ensures { result ≡ spec.no_options (data_at d.now) }
+// The mode that a value names.
+fn as_mode(found: &Part<'_, '_>) -> Option<Mode>
+    ensures { result ≡ as_word mode_of_word (data_at found.now) }
 {
-    not_built(d, MemberName::Mode)?;
-    not_built(d, MemberName::Activation)
+    Mode::of_word(found.as_str()?)
+}
+
+// The mode that a line names; where it names none, passive.
+fn mode(d: &Part<'_, '_>) -> Result<Mode, LineCause>
+    ensures { result ≡ spec.mode_of (data_at d.now) }
+{
+    let Some(found) = member(d, MemberName::Mode) else {
+        return Ok(Mode::Passive);
+    };
+    as_mode(&found).ok_or(LineCause::Member(MemberName::Mode))
+}
+
+// Whether a line says that the user acted at the page; where it says nothing of it, the user did not.
+fn activation(d: &Part<'_, '_>) -> Result<bool, LineCause>
+    ensures { result ≡ spec.activation_of (data_at d.now) }
+{
+    let Some(found) = member(d, MemberName::Activation) else {
+        return Ok(false);
+    };
+    found
+        .as_bool()
+        .ok_or(LineCause::Member(MemberName::Activation))
 }
 
 // The context that a value names.
@@ -42,12 +72,24 @@ fn as_context(found: &Part<'_, '_>) -> Option<Context>
     Context::of_word(found.as_str()?)
 }
 
-/// The context that a line names; where it names none, signing in.
-pub(crate) fn context(d: &Part<'_, '_>) -> Result<Context, LineCause>
+// The context that a line names; where it names none, signing in.
+fn context(d: &Part<'_, '_>) -> Result<Context, LineCause>
     ensures { result ≡ spec.context_of (data_at d.now) }
 {
     let Some(found) = member(d, MemberName::Context) else {
         return Ok(Context::SignIn);
     };
     as_context(&found).ok_or(LineCause::Member(MemberName::Context))
+}
+
+/// The options of a get, in their order.
+pub(crate) fn option_members(d: &Part<'_, '_>) -> Result<OptionMembers, LineCause>
+    ensures { result ≡ spec.option_members (data_at d.now) }
+{
+    Ok(OptionMembers {
+        mediation: mediation(d)?,
+        mode: mode(d)?,
+        activation: activation(d)?,
+        context: context(d)?,
+    })
 }

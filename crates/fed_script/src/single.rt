@@ -48,6 +48,30 @@ pub(crate) fn cancel(d: &Part<'_, '_>) -> Result<Event, LineCause>
     Ok(Event::Cancel { call })
 }
 
+/// The call whose login window the user asks for.
+pub(crate) fn sign_in(d: &Part<'_, '_>) -> Result<Event, LineCause>
+    ensures { result ≡ spec.signin_of (data_at d.now) }
+{
+    let call = number(d, MemberName::Call)?;
+    Ok(Event::SignIn { call })
+}
+
+/// The call whose login window the user closes.
+pub(crate) fn shut_window(d: &Part<'_, '_>) -> Result<Event, LineCause>
+    ensures { result ≡ spec.shutwindow_of (data_at d.now) }
+{
+    let call = number(d, MemberName::Call)?;
+    Ok(Event::ShutWindow { call })
+}
+
+/// The page that says that the user has signed in.
+pub(crate) fn idp_close(d: &Part<'_, '_>) -> Result<Event, LineCause>
+    ensures { result ≡ spec.idpclose_of (data_at d.now) }
+{
+    let page = number(d, MemberName::Page)?;
+    Ok(Event::IdpClose { page })
+}
+
 /// The page that prevents silent access.
 pub(crate) fn prevent(d: &Part<'_, '_>) -> Result<Event, LineCause>
     ensures { result ≡ spec.prevent_of (data_at d.now) }

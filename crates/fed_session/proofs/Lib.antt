@@ -1,4 +1,5 @@
 pub mod kept
+pub mod waits
 pub mod clauses
 pub mod stands
 pub mod events

@@ -2,3 +2,4 @@
 pub mod Event
 pub mod Begin
 pub mod Input
+pub mod Resume

@@ -2,4 +2,5 @@
 pub mod Calls
 pub mod Held
 pub mod Loaded
+pub mod Waiting
 pub mod Tables

@@ -1,5 +1,5 @@
 -- What contracts see of a session, and which traces it stands for.
-use Rattle.std.specs.Prelude.{◌≡◌, ℕ, Bool, true, false, nat_eq, List, [], length, map, filter, Option, Some, None, option_map}
+use Rattle.std.specs.Prelude.{◌≡◌, ℕ, Bool, true, false, nat_eq, List, length, map, filter, Option, Some, option_map}
 use Rattle.std.specs.Prelude.{option_and_then, ⊤}
 use Rattle.std.specs.Option.{option_to_list}
 use Rattle.std.specs.List.{filter_map, list_any}
@@ -16,11 +16,11 @@ use Rattle.fed_session.specs.declared.view.View.{View}
 use Rattle.fed_table.specs.Table.{TableParts, page_calls, present_item}
 use Rattle.fed_trace.specs.Begun.{CallKind, is_get}
 use Rattle.fed_trace.specs.Call.{Known, kind_of, page_of}
-use Rattle.fed_trace.specs.Effect.{Effect, Page, PendingCall}
-use Rattle.fed_trace.specs.Keyed.{Change}
+use Rattle.fed_trace.specs.Effect.{PendingCall}
 use Rattle.fed_trace.specs.Known.{known_at}
 use Rattle.fed_trace.specs.Row.{IsRun}
-use Rattle.fed_trace.specs.Trace.{Trace, pages, pending, pending_of, staged, standing, begun, now_at, cookies, logins, kept, flags}
+use Rattle.fed_trace.specs.Trace.{Trace, pages, pending, pending_of, staged, begun, now_at, cookies, logins, kept, flags}
+use Rattle.fed_trace.specs.Windows.{pages_loaded, origins_waited, windows_of}
 
 -- the pages that stand, and the calls that were taken
 pub record TabsParts : Type 0 where
@@ -52,14 +52,9 @@ pub record State : Type 0 where
   -- the pages that stand, and the calls that were taken
   pub tabs : TabsParts
 
--- the page was loaded
-abbrev pub load_change : Effect → Option (Change ℕ ⊤)
-load_change (Page page origin) = Some (page, Some tt)
-load_change _ = None
-
--- the pages that were ever loaded, in order of first loading
-abbrev pub loaded : Trace → List ℕ
-loaded T = keys_of (standing nat_eq load_change T.rows)
+-- the provider origins that calls ever waited for, in the order of first waiting, each with the calls whose login window is open
+abbrev pub windows : Trace → List (Origin × List ℕ)
+windows T = map (λ origin. (origin, windows_of T origin)) (origins_waited T)
 
 -- the numbers of calls with their kinds, and of the gets among them
 abbrev pub numbers_in : List (ℕ × CallKind) → List ℕ
@@ -99,12 +94,12 @@ pub record Stands (s : State) (T : Trace) : Type 0 where
   pub kept : s.kept ≡ kept T
   pub flags : s.flags ≡ flags T
   pub pages : s.tabs.pages ≡ pages T
-  pub loaded : keys_of s.tabs.table.pages ≡ loaded T
+  pub loaded : keys_of s.tabs.table.pages ≡ pages_loaded T
   -- each page has its pending calls, and at most one of them is a get
   pub held : (page : ℕ) → page_calls s.tabs.table.pages page ≡ numbers_in (pending_of T page)
   pub gets : (page : ℕ) → option_to_list (lookup (nat_eq page) s.tabs.gets) ≡ gets_in (pending_of T page)
-  -- no call waits for a provider
-  pub waits : s.tabs.table.waits ≡ []
+  -- the calls that wait for each provider origin, in the order of the last moves there
+  pub waits : s.tabs.table.waits ≡ windows T
   pub taken : s.tabs.taken ≡ begun T.rows
   pub pending : pending_calls (item_known s.tabs.table.items) s.tabs.taken ≡ pending T
   pub known : (call : ℕ) → item_known s.tabs.table.items call ≡ known_at T call

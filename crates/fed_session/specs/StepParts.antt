@@ -1,6 +1,6 @@
 -- What the private clauses of a step speak of: what each part of a session is after an event.
 use Rattle.std.specs.Prelude.{ℕ, ◌+◌, Bool, true, false, nat_eq, List, [], ◌∷◌, Option, Some, None, option_map}
-use Rattle.std.specs.Prelude.{if◌then◌else◌, ⊤}
+use Rattle.std.specs.Prelude.{if◌then◌else◌, option_and_then, ⊤}
 use Rattle.std.specs.List.{filter_map, AllByRecursion}
 use Rattle.fed_origin.specs.declared.origin.Origin.{Origin}
 use Rattle.fed_origin.specs.declared.stage.Stage.{Stage}
@@ -22,6 +22,7 @@ use Rattle.fed_status.specs.Kept.{with_triple, without_triple, without_pair}
 use Rattle.fed_origin.specs.declared.status.Triple.{Triple}
 use Rattle.fed_trace.specs.Begun.{GetCall, CallOptions, Begun}
 use Rattle.fed_call.specs.State.{facts_of}
+use Rattle.fed_call.specs.WindowRows.{awaited}
 use Rattle.fed_disconnect.specs.State.{disconnect_facts_of}
 use Rattle.fed_session.specs.declared.calls.Pending.{Pending}
 use Rattle.fed_session.specs.declared.calls.Pending.TheVariants.{Get, Disconnect}
@@ -140,6 +141,15 @@ get_but call (Some get) = if nat_eq call get then None else Some get
 abbrev pub known_of : Pending → Option Known
 known_of (Get state) = option_map OfGet (facts_of state.value)
 known_of (Disconnect state) = option_map OfDisconnect (disconnect_facts_of state.value)
+
+-- the origin of the provider whose login window is open
+abbrev pub awaits : Known → Option Origin
+awaits (OfGet facts) = awaited facts.options facts.stage
+awaits (OfDisconnect facts) = None
+
+-- the same of a call that may be over
+abbrev pub awaited_in : Option Known → Option Origin
+awaited_in known = option_and_then awaits known
 
 -- the stage of a call that may be over
 abbrev pub stage_in : Option Known → Stage

@@ -1,17 +1,17 @@
 //! What is kept of calls.
-ghost use Rattle.std.specs.Prelude.{◌≡◌, true, IfOk, Some, None, option_map, option_and_then};
+ghost use Rattle.std.specs.Prelude.{◌≡◌, true, is_some, IfOk, Some, None, option_copied, option_map, option_and_then};
 ghost use Rattle.fed_call.specs.State.{facts_of};
 ghost use Rattle.fed_disconnect.specs.State.{disconnect_facts_of};
 ghost use Rattle.fed_status.specs.Shared.{world_of};
 ghost use Rattle.fed_trace.specs.Begun.{is_get};
 ghost use Rattle.fed_trace.specs.Call.{Known, OfGet, OfDisconnect, kind_of, page_of};
-ghost use Rattle.fed_session.specs.StepParts.{known_of, stage_in, outcome_at, kept_next};
+ghost use Rattle.fed_session.specs.StepParts.{known_of, awaited_in, stage_in, outcome_at, kept_next};
 
 use fed_call::CallState;
 use fed_consent::{Effect, Input};
 use fed_disconnect::DState;
 use fed_io::{Items, NoRoom};
-use fed_origin::Stage;
+use fed_origin::{Origin, Stage};
 use fed_status::Shared;
 use std::alloc::Global;
 use std::marker::Model;
@@ -72,6 +72,23 @@ impl Pending {
         }
     }
 
+    /// Whether the login window of the call is open. It takes no memory.
+    pub(crate) fn waits(&self) -> bool
+        ensures { result ≡ is_some (awaited_in (known_of self.now)) }
+    {
+        self.waits_for().is_some()
+    }
+
+    /// The origin of the provider whose login window is open; none where none is. It takes no memory.
+    pub(crate) fn waits_for(&self) -> Option<&Origin>
+        ensures { option_copied result ≡ awaited_in (known_of self.now) }
+    {
+        match self {
+            Pending::Get(state) => state.waits_for(),
+            Pending::Disconnect(_) => None,
+        }
+    }
+
     /// How far the call has come. It takes no memory.
     pub(crate) fn stage(&self) -> Stage
         ensures { result ≡ stage_in (known_of self.now) }
@@ -121,6 +138,16 @@ impl Kept {
     {
         match &self.state {
             Some(state) => state.page(),
+            None => None,
+        }
+    }
+
+    /// The origin for which the call waits; none where it waits for none. It takes no memory.
+    pub(crate) fn waits_for(&self) -> Option<&Origin>
+        ensures { option_copied result ≡ awaited_in self.now }
+    {
+        match &self.state {
+            Some(state) => state.waits_for(),
             None => None,
         }
     }

@@ -44,11 +44,12 @@ pub(crate) fn take_input<L: Ledger>(
         return ignored(alloc, line, Why::CallEnded);
     };
     let page = state.page();
+    let waited = state.waits();
     let (kept, effects) = state.advance(alloc, input, &sight.lent())?;
     let Some(page) = page else {
         return ignored(alloc, line, Why::CallEnded);
     };
-    tabs.give_back(page, call, kept, steps);
+    tabs.give_back(page, call, waited, kept, steps)?;
     let outs = apply(alloc, line, sight, call, page, effects)?;
     Ok(outs)
 }
@@ -72,6 +73,8 @@ pub(crate) fn input_of(alloc: Global, event: &Event) -> Result<Option<(u32, Inpu
         Event::Abort { call } => Some((*call, Input::Abort)),
         Event::GoOn { call } => Some((*call, Input::GoOn)),
         Event::Cancel { call } => Some((*call, Input::Cancel)),
+        Event::SignIn { call } => Some((*call, Input::SignIn)),
+        Event::ShutWindow { call } => Some((*call, Input::Shut)),
         Event::Choose {
             call,
             provider,
@@ -100,6 +103,7 @@ pub(crate) fn input_of(alloc: Global, event: &Event) -> Result<Option<(u32, Inpu
         | Event::At { .. }
         | Event::Load { .. }
         | Event::ClosePage { .. }
+        | Event::IdpClose { .. }
         | Event::Prevent { .. }
         | Event::SetStatus { .. }
         | Event::Get { .. }

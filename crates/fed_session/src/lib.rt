@@ -8,6 +8,7 @@ mod get;
 mod input;
 mod load;
 mod page;
+mod resume;
 mod session;
 mod sight;
 mod tabs;

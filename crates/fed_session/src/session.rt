@@ -15,6 +15,7 @@ use crate::get::get;
 use crate::input::{input_of, take_input};
 use crate::load::{take_have, take_head};
 use crate::page::{close, prevent, set_page_status};
+use crate::resume::resume;
 use crate::sight::Sight;
 use crate::tabs::Tabs;
 use crate::view::{View, shown_flags, shown_logins};
@@ -142,6 +143,7 @@ impl Session {
                 let outs = close(self.alloc, line, &mut self.tabs, *page, steps)?;
                 Ok(outs)
             }
+            Event::IdpClose { page } => self.idpclose(line, *page, steps),
             Event::Prevent { page } => {
                 let (tabs, flags) = (&self.tabs, &mut self.sight.flags);
                 let outs = prevent(self.alloc, line, tabs, flags, *page)?;
@@ -167,6 +169,8 @@ impl Session {
             Event::Abort { .. }
             | Event::GoOn { .. }
             | Event::Cancel { .. }
+            | Event::SignIn { .. }
+            | Event::ShutWindow { .. }
             | Event::Choose { .. }
             | Event::Reply { .. } => self.called(line, event, steps),
         }
@@ -297,6 +301,24 @@ impl Session {
             &input,
             steps,
         )?;
+        Ok(outs)
+    }
+
+    // A page says that the user has signed in at its origin.
+    fn idpclose<L: Ledger>(
+        &mut self,
+        line: u32,
+        page: u32,
+        steps: &mut Steps<L>,
+    ) -> Result<Items<Out>, NoRoom>
+        ensures row { (T : Trace) → Stands (revived self.old) T
+            → IfOk result (λ outs. (outs ≡ records (row_of T line (events.IdpClose page)))
+            × Stands (stepped self.new) (with_event T line (events.IdpClose page))) }
+        ensures steps { self.new.steps ≡ self.old.steps }
+        ensures alive { self.new.alive ≡ self.old.alive }
+        ensures unticked { steps.new ≡ steps.old }
+    {
+        let outs = resume(self.alloc, line, &self.sight, &mut self.tabs, page, steps)?;
         Ok(outs)
     }
 

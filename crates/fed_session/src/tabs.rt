@@ -1,16 +1,17 @@
 //! The pages that stand, and the calls that were taken.
 ghost use Rattle.std.specs.Prelude.{◌≡◌, ◌<◌, [], nat_eq, is_some, true, false, cond, Some, None, IfOk, OnOk, OnErr, IfSome};
 ghost use Rattle.std.specs.Prelude.{option_copied, option_and_then};
+ghost use Rattle.fed_origin.specs.Origin.{same_origin};
 ghost use Rattle.std.specs.List.{list_any};
 ghost use Rattle.std.specs.Map.{lookup};
 ghost use Rattle.indexmap.specs.IndexMap.{insert_entry, shift_remove_entry};
-ghost use Rattle.fed_table.specs.Lists.{with_key, with_last, emptied, total};
-ghost use Rattle.fed_table.specs.Table.{has_page, has_call, item_of, ChangesItem};
+ghost use Rattle.fed_table.specs.Lists.{all_without, with_key, with_last, emptied, stands_in, total};
+ghost use Rattle.fed_table.specs.Table.{has_page, has_call, item_of, waiting_for, ChangesItem};
 ghost use Rattle.fed_trace.specs.Begun.{is_get};
 ghost use Rattle.fed_trace.specs.Call.{Known};
 ghost use Rattle.fed_session.specs.Session.{item_known};
-ghost use Rattle.fed_session.specs.StepParts.{get_but};
-ghost use Rattle.fed_session.specs.Tabs.{ChangesGet, Ends, Begins, Enters, Stays, Leaves, GoesOn};
+ghost use Rattle.fed_session.specs.StepParts.{get_but, awaits, awaited_in};
+ghost use Rattle.fed_session.specs.Tabs.{ChangesGet, Ends, Begins, Enters, Stays, Leaves, GoesOn, waits_next};
 ghost use Rattle.fed_session.specs.StepParts as spec;
 
 use crate::calls::Kept;
@@ -35,7 +36,7 @@ pub struct Tabs {
     taken: IndexSet<u32>,
     /// The pages that were ever loaded, each with its pending calls.
     table: Table<Kept>,
-    /// How many loads and calls there were. There are no more pages and no more pending calls.
+    /// How many loads, calls and opened windows there were. There are no more pages, pending calls and origins waited for.
     changes: u32,
 }
 
@@ -135,6 +136,7 @@ impl Tabs {
     ) -> Result<(), NoRoom>
         requires stands { is_some (lookup (nat_eq page) self.old.pages) ≡ true }
         requires fresh { list_any (nat_eq call) self.old.taken ≡ false }
+        requires idle { awaited_in kept ≡ None }
         ensures ok { OnOk result (Begins page call kept self.old self.new) }
         ensures unticked { steps.new ≡ steps.old }
     {
@@ -155,6 +157,7 @@ impl Tabs {
     ) -> Result<(), NoRoom>
         requires stands { is_some (lookup (nat_eq page) self.old.pages) ≡ true }
         requires fresh { list_any (nat_eq call) self.old.taken ≡ false }
+        requires idle { awaited_in kept ≡ None }
         ensures ok { OnOk result ((known : Known) → kept ≡ Some known → Enters page call known self.old self.new) }
         ensures unticked { steps.new ≡ steps.old }
     {
@@ -162,6 +165,7 @@ impl Tabs {
             return Err(NoRoom);
         };
         let is_get = kept.is_get();
+        self.table.are_lists();
         self.taken.insert(call)?;
         self.changes = changes;
         add(&mut self.table, page, call, kept, steps)?;
@@ -174,34 +178,102 @@ impl Tabs {
         ensures known { option_and_then (λ kept. kept) result ≡ item_known self.old.table.items call }
         ensures lent { IfSome result (λ kept. item_of self.new.table.items call ≡ Some None) }
         ensures begun { IfSome result (λ kept. list_any (nat_eq call) self.old.taken ≡ true) }
-        ensures tabs { Stays call None self.old self.new }
+        ensures waits { IfSome result (λ kept. (known : Known) → kept ≡ Some known
+            → stands_in call self.new.table.waits ≡ is_some (awaits known)) }
+        ensures tabs { Stays call None self.old.table.waits self.old self.new }
     {
         self.table.lend(call)
     }
 
-    /// What is kept of a call of a page goes back to its place; where the call is over it leaves the page. It takes no memory.
+    /// What is kept of a call of a page, which waited or not, goes back to its place; where the call is over it leaves the page.
     pub(crate) fn give_back<L: Ledger>(
         &mut self,
         page: u32,
         call: u32,
+        waited: bool,
         kept: Kept,
         steps: &mut Steps<L>,
-    )
-        requires { item_of self.old.table.items call ≡ Some None }
-        ensures tabs { GoesOn page call kept self.old self.new }
+    ) -> Result<(), NoRoom>
+        requires lent { item_of self.old.table.items call ≡ Some None }
+        requires waits { stands_in call self.old.table.waits ≡ waited }
+        ensures ok { OnOk result (GoesOn page call waited kept self.old self.new) }
         ensures unticked { steps.new ≡ steps.old }
     {
         if kept.page() == None {
             self.leave(page, call, steps);
-            return;
+            return Ok(());
         }
+        self.set_waiting(call, waited, &kept, steps)?;
         self.keep(call, kept);
+        Ok(())
+    }
+
+    // A call that was lent waits from now on where its login window is open.
+    fn set_waiting<L: Ledger>(
+        &mut self,
+        call: u32,
+        waited: bool,
+        kept: &Kept,
+        steps: &mut Steps<L>,
+    ) -> Result<(), NoRoom>
+        requires lent { item_of self.old.table.items call ≡ Some None }
+        requires waits { stands_in call self.old.table.waits ≡ waited }
+        ensures ok { OnOk result (self.new ≡ record self.old {
+          table = record self.old.table {
+            waits = waits_next waited call (awaited_in kept.now) self.old.table.waits;
+          };
+        }) }
+        ensures unticked { steps.new ≡ steps.old }
+    {
+        match (waited, kept.waits_for()) {
+            (false, Some(origin)) => self.wait(call, origin, steps),
+            (true, None) => {
+                self.unwait(call, steps);
+                Ok(())
+            }
+            (false, None) | (true, Some(_)) => Ok(()),
+        }
+    }
+
+    // A call that was lent is the last that waits for an origin.
+    fn wait<L: Ledger>(
+        &mut self,
+        call: u32,
+        origin: &Origin,
+        steps: &mut Steps<L>,
+    ) -> Result<(), NoRoom>
+        requires lent { item_of self.old.table.items call ≡ Some None }
+        requires idle { stands_in call self.old.table.waits ≡ false }
+        ensures ok { OnOk result (self.new ≡ record self.old {
+          table = record self.old.table {
+            waits = with_last same_origin origin.now call self.old.table.waits;
+          };
+        }) }
+        ensures unticked { steps.new ≡ steps.old }
+    {
+        let Some(changes) = self.changes.checked_add(1) else {
+            return Err(NoRoom);
+        };
+        self.changes = changes;
+        self.table.wait(call, origin, steps)?;
+        Ok(())
+    }
+
+    // A call that was lent waits no longer.
+    fn unwait<L: Ledger>(&mut self, call: u32, steps: &mut Steps<L>)
+        requires lent { item_of self.old.table.items call ≡ Some None }
+        requires waits { stands_in call self.old.table.waits ≡ true }
+        ensures tabs { self.new ≡ record self.old { table = record self.old.table { waits = all_without call self.old.table.waits } } }
+        ensures unticked { steps.new ≡ steps.old }
+    {
+        self.table.unwait(call, steps);
     }
 
     // What is kept of a call that was lent goes back to its place.
     fn keep(&mut self, call: u32, kept: Kept)
-        requires { item_of self.old.table.items call ≡ Some None }
-        ensures { Stays call kept self.old self.new }
+        requires lent { item_of self.old.table.items call ≡ Some None }
+        requires waits { stands_in call self.old.table.waits ≡ is_some (awaited_in kept) }
+        ensures { Stays call kept self.old.table.waits self.old self.new }
     {
         self.table.give_back(call, kept);
     }
@@ -213,6 +285,13 @@ impl Tabs {
     {
         let _ = self.table.drop_call(call, steps);
         drop_get(&mut self.gets, page, call);
+    }
+
+    /// The calls that wait for an origin, in their order.
+    pub(crate) fn waiting(&self, alloc: Global, origin: &Origin) -> Result<Items<u32>, NoRoom>
+        ensures { IfOk result (λ calls. calls ≡ waiting_for self.now.table.waits origin.now) }
+    {
+        self.table.waiting(alloc, origin)
     }
 
     /// The pages that stand, with their origins, in order of entering.

@@ -1,4 +1,3 @@
 pub mod lists
 pub mod numbers
 pub mod removals
-pub mod slots

@@ -1,7 +1,6 @@
 //! What the browser keeps of sign-ins: login statuses, kept permissions, prevent-silent flags.
 #![tactic(auto)]
 
-mod entries;
 mod flags;
 mod kept;
 mod login;

@@ -1,16 +1,17 @@
 //! The table of kept permissions: each under the numbers of its parts.
 ghost use Rattle.std.specs.Prelude.{◌≡◌, [], Some, not, filter, length, slice_get, IfOk, OnOk, OnErr};
 ghost use Rattle.std.specs.List.{IsDistinct};
-ghost use Rattle.std.specs.Map.{keys_of};
+ghost use Rattle.std.specs.Map.{keys_of, values_of};
 ghost use Rattle.std.specs.Option.{option_copied};
+ghost use Rattle.fed_entries.specs.Entries.{entries_in};
 ghost use Rattle.fed_status.specs.Kept as spec;
 ghost use Rattle.fed_status.specs.Kept.{triple_of, with_triple, without_triple, without_pair};
 ghost use Rattle.fed_status.specs.Place.{place_of, same_place, is_at_pair};
 ghost use Rattle.fed_status.specs.Table.{IsTable, ArePairsOf, triples_of, without_accounts};
 
-use crate::entries::Entries;
 use crate::pairs::{Pairs, has_some, list, take, unlist};
 use crate::place::{Names, Pair, Place};
+use fed_entries::{Entries, Slots};
 use fed_io::{Items, NoRoom, Text};
 use fed_origin::{Origin, Triple};
 use indexmap::{IndexMap, IndexSet};
@@ -20,7 +21,7 @@ use std::alloc::Global;
 #[derive(Drop)]
 pub struct Table {
     pub names: Names,
-    pub kept: Entries,
+    pub kept: Entries<Place, Triple>,
     /// The accounts of the pairs of which some permission is kept.
     pub pairs: Pairs,
 }
@@ -59,7 +60,7 @@ impl Table {
             return Ok(());
         }
         list(&mut self.pairs, alloc, place)?;
-        match self.kept.put(place, triple) {
+        match self.kept.insert(place, triple) {
             Ok(()) => Ok(()),
             Err(NoRoom) => {
                 unlist(&mut self.pairs, place);
@@ -124,12 +125,12 @@ impl Table {
     pub fn list(&self, alloc: Global) -> Result<Items<Triple>, NoRoom>
         ensures { IfOk result (λ list. list ≡ triples_of self.now) }
     {
-        self.kept.list(alloc)
+        all_standing(alloc, self.kept.slots())
     }
 }
 
 // Removes the permissions of a pair, and no other is looked at.
-fn forget(kept: &mut Entries, pairs: &mut Pairs, pair: Pair)
+fn forget(kept: &mut Entries<Place, Triple>, pairs: &mut Pairs, pair: Pair)
     requires pairs { ArePairsOf kept.old pairs.old.entries }
     requires apart { IsDistinct same_place (keys_of kept.old) }
     ensures kept { kept.new ≡ filter (λ entry. not (is_at_pair pair entry.0)) kept.old }
@@ -141,10 +142,23 @@ fn forget(kept: &mut Entries, pairs: &mut Pairs, pair: Pair)
 }
 
 // Removes the permissions of a pair for these accounts.
-fn remove_each(kept: &mut Entries, pair: Pair, accounts: &IndexSet<usize>)
+fn remove_each(kept: &mut Entries<Place, Triple>, pair: Pair, accounts: &IndexSet<usize>)
     ensures { kept.new ≡ without_accounts pair accounts.now.keys kept.old }
 {
     for account in accounts.iter() {
         kept.remove(pair.place(*account));
     }
+}
+
+// All permissions that stand, each copied.
+fn all_standing(alloc: Global, slots: &Slots<Place, Triple>) -> Result<Items<Triple>, NoRoom>
+    ensures { IfOk result (λ list. list ≡ values_of (entries_in slots.now.entries)) }
+{
+    let mut list = Items::new(alloc);
+    for (_, slot) in slots.iter() {
+        if let Some((_, triple)) = slot {
+            list.push(triple.copy(alloc)?)?;
+        }
+    }
+    Ok(list)
 }

@@ -40,7 +40,8 @@ pub fn has_empty_label(name: &[u8]) -> bool
 
 /// The last `count` labels and one more, or `None` where there are no more.
 pub fn one_label_more(name: &[u8], count: usize) -> Option<&[u8]>
-    ensures { option_copied result ≡ (if nat_lt count (length (labels_of name.now)) then Some (name_of (take (count + 1) (labels_of name.now)))
+    ensures { option_copied result ≡ (if nat_lt count (length (labels_of name.now))
+        then Some (name_of (take (count + 1) (labels_of name.now)))
         else None) }
 {
     let mut rest = name;

@@ -1,8 +1,8 @@
 //! A list of calls.
-ghost use Rattle.std.specs.Prelude.{◌≡◌, ◌++◌, [], ◌∷◌, slice_get, OnOk, OnErr};
+ghost use Rattle.std.specs.Prelude.{◌≡◌, ◌++◌, [], ◌∷◌, slice_get, IfOk, OnOk, OnErr};
 ghost use Rattle.fed_table.specs.Lists.{without, call_after};
 
-use fed_io::NoRoom;
+use fed_io::{Items, NoRoom};
 use std::alloc::Global;
 use std::marker::Model;
 
@@ -44,6 +44,13 @@ impl CallList {
         ensures { self.new ≡ without call self.old }
     {
         self.calls.retain(|other| call != *other);
+    }
+
+    /// The calls, in their order.
+    pub fn list(&self, alloc: Global) -> Result<Items<u32>, NoRoom>
+        ensures { IfOk result (λ calls. calls ≡ self.now) }
+    {
+        Ok(Items::from_vec(self.calls.to_vec(alloc)?))
     }
 
     /// The first call.

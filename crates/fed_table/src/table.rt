@@ -1,6 +1,6 @@
 //! The table of pages and pending calls.
 ghost use Rattle.std.specs.Prelude.{◌≡◌, ◌<◌, ◌≤◌, ◌+◌, ◌*◌, ◌++◌, [], ◌∷◌, nat_eq, length, true};
-ghost use Rattle.std.specs.Prelude.{false, Some, None, slice_get, OnOk, OnErr, IfErr};
+ghost use Rattle.std.specs.Prelude.{false, Some, None, slice_get, OnOk, OnErr, IfOk, IfErr};
 ghost use Rattle.std.specs.Option.{option_copied};
 ghost use Rattle.indexmap.specs.IndexMap.{spare};
 ghost use Rattle.fed_origin.specs.Origin.{same_origin};
@@ -12,7 +12,7 @@ ghost use Rattle.fed_table.specs.Table.{ChangesItem, LosesItems, IsCallTable};
 use crate::calls::CallList;
 use crate::lists;
 use crate::place::{self, CallPlace, CallPlaces};
-use fed_io::{NoRoom, Steps};
+use fed_io::{Items, NoRoom, Steps};
 use fed_origin::Origin;
 use indexmap::IndexMap;
 use std::alloc::Global;
@@ -219,6 +219,16 @@ impl<C: Drop> Table<C> {
         match self.waits.get(origin) {
             Some(calls) => calls.first(),
             None => None,
+        }
+    }
+
+    /// The calls that wait for an origin, in their order.
+    pub fn waiting(&self, alloc: Global, origin: &Origin) -> Result<Items<u32>, NoRoom>
+        ensures value { IfOk result (λ calls. calls ≡ waiting_for self.now.waits origin.now) }
+    {
+        match self.waits.get(origin) {
+            Some(calls) => calls.list(alloc),
+            None => Ok(Items::new(alloc)),
         }
     }
 

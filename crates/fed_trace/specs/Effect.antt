@@ -5,6 +5,7 @@ use Rattle.url.specs.Parts.{Parts}
 use Rattle.fed_origin.specs.declared.origin.Origin.{Origin}
 use Rattle.fed_origin.specs.declared.stage.Stage.{Stage}
 use Rattle.fed_origin.specs.declared.stage.Stage.TheVariants.{Ended}
+use Rattle.fed_origin.specs.declared.stage.Stage.TheVariants as stages
 use Rattle.fed_origin.specs.declared.status.LoginStatus.{LoginStatus}
 use Rattle.fed_origin.specs.declared.status.Triple.{Triple}
 use Rattle.fed_jar.specs.Cookie.{StoredCookie}
@@ -50,6 +51,11 @@ abbrev pub page_change : Effect → Option (Change ℕ Origin)
 page_change (Page page origin) = Some (page, Some origin)
 page_change (Closed page) = Some (page, None)
 page_change _ = None
+
+-- what an effect says of the pages that were ever loaded
+abbrev pub loaded_change : Effect → Option (Change ℕ ⊤)
+loaded_change (Page page origin) = Some (page, Some tt)
+loaded_change _ = None
 
 -- what an effect says of login statuses
 abbrev pub login_change : Effect → Option (Change Origin LoginStatus)
@@ -106,6 +112,16 @@ get_begun _ = None
 abbrev pub stage_change : Effect → Option (Change ℕ Stage)
 stage_change (Move kind call stage) = Some (call, Some stage)
 stage_change _ = None
+
+-- a call at this stage has its login window open
+abbrev pub is_window : Stage → Bool
+is_window stages.Window = true
+is_window _ = false
+
+-- what an effect says of the calls whose login window is open
+abbrev pub window_change : Effect → Option (Change ℕ ⊤)
+window_change (Move kind call stage) = Some (key_change call (is_window stage))
+window_change _ = None
 
 -- the time that an effect brings
 abbrev pub time_of : Effect → Option ℕ

@@ -29,6 +29,8 @@ input_of (events.Reply call provider kind raw) = Some (call, inputs.Reply provid
 input_of (events.Choose call provider account) = Some (call, inputs.Choose provider account)
 input_of (events.GoOn call) = Some (call, inputs.GoOn)
 input_of (events.Cancel call) = Some (call, inputs.Cancel)
+input_of (events.SignIn call) = Some (call, inputs.SignIn)
+input_of (events.ShutWindow call) = Some (call, inputs.Shut)
 input_of _ = None
 
 -- what is brought, if it is for this call

@@ -9,3 +9,4 @@ pub mod OfScript
 pub mod Records
 pub mod Row
 pub mod Trace
+pub mod Windows

@@ -27,20 +27,22 @@ use Rattle.fed_consent.specs.declared.table.ask.Ask.TheVariants as asks
 use Rattle.fed_consent.specs.declared.table.effect.Effect.{Effect as CallEffect}
 use Rattle.fed_consent.specs.declared.table.effect.Effect.TheVariants as does
 use Rattle.fed_consent.specs.declared.table.input.Input.{Input}
-use Rattle.fed_consent.specs.declared.table.why.Why.TheVariants.{NoPage, PageInsecure, NoCall, CallEnded}
+use Rattle.fed_consent.specs.declared.table.input.Input.TheVariants.{Resume}
+use Rattle.fed_consent.specs.declared.table.why.Why.TheVariants.{NoPage, PageInsecure, NoCall, CallEnded, NobodyWaits}
 use Rattle.fed_consent.specs.Outcomes.{Outcome}
 use Rattle.fed_disconnect.specs.Facts.{disconnect_options}
 use Rattle.fed_trace.specs.Begun.{Begun, CallKind, CallOptions, ToGet, ToDisconnect, kind_asked}
 use Rattle.fed_trace.specs.Call.{Known, kind_of, page_of, first_row, input_row}
 use Rattle.fed_script.specs.declared.event.Event.{Event}
 use Rattle.fed_script.specs.declared.event.Event.TheVariants as events
-use Rattle.fed_script.specs.declared.event.Event.TheVariants.{At, Load, ClosePage, Get, Prevent, SetStatus, Disconnect}
+use Rattle.fed_script.specs.declared.event.Event.TheVariants.{At, Load, ClosePage, Get, IdpClose, Prevent, SetStatus, Disconnect}
 use Rattle.fed_script.specs.declared.event.Have.{Have}
 use Rattle.fed_script.specs.declared.event.Have.TheVariants as haves
 use Rattle.fed_script.specs.declared.event.Header.{Header}
 use Rattle.fed_trace.specs.Effect.{Effect, Time, Page, Closed, Cookie, Login, Begin, Move, Sent, Shown, Window, Kept, Flag, Result, Ignored}
 use Rattle.fed_trace.specs.Known.{world_at, is_begun, input_of, known_at}
 use Rattle.fed_trace.specs.Trace.{Row, Trace, page_at, gets, pending_of, now_at, writes, begun}
+use Rattle.fed_trace.specs.Windows.{windows_of}
 
 -- ---- what a call does
 
@@ -160,6 +162,28 @@ abbrev pub load_effects : List (ℕ × CallKind) → ℕ → Parts → List Stor
 load_effects calls page url cookies statuses =
     ends_of calls ++ (Page page (origin_of url) ∷ (cookie_effects cookies ++ login_effects (origin_of url) statuses))
 
+-- ---- a page that says that the user has signed in at its origin
+
+-- a call in Window asks for its accounts again (row C29), by what is known of it
+abbrev pub resume_effects : World → (Ask → List ℕ) → (ℕ → Option Known) → ℕ → List Effect
+resume_effects world cookies known call = input_effects world cookies true call (known call) Resume
+
+-- the calls that wait for it, one after the other; at least one has to
+abbrev pub waiting_effects : World → (Ask → List ℕ) → (ℕ → Option Known) → List ℕ → List Effect
+waiting_effects world cookies known [] = Ignored NobodyWaits ∷ []
+waiting_effects world cookies known (call ∷ calls) = flat_map (resume_effects world cookies known) (call ∷ calls)
+
+-- a page that stands, by whether it is trustworthy
+abbrev pub standing_resumes : World → (Ask → List ℕ) → (ℕ → Option Known) → List ℕ → Bool → List Effect
+standing_resumes world cookies known calls true = waiting_effects world cookies known calls
+standing_resumes world cookies known calls false = Ignored PageInsecure ∷ []
+
+-- by the origin of the page, if it stands, and by the calls that wait for each origin
+abbrev pub idpclose_effects : World → (Ask → List ℕ) → (ℕ → Option Known) → (Origin → List ℕ) → Option Origin → List Effect
+idpclose_effects world cookies known waiting None = Ignored NoPage ∷ []
+idpclose_effects world cookies known waiting (Some origin) =
+    standing_resumes world cookies known (waiting origin) (is_trustworthy origin)
+
 -- ---- other events
 
 -- a page is closed: its pending calls end, and it no longer stands
@@ -201,6 +225,7 @@ effects_of T (Get page call options) =
 effects_of T (Disconnect page call config client hint) =
     begin_effects (world_at T) (cookies_with T) (page_at T page) (is_busy page (gets T)) page call
     (ToDisconnect (disconnect_options config client hint))
+effects_of T (IdpClose page) = idpclose_effects (world_at T) (cookies_with T) (known_at T) (windows_of T) (page_at T page)
 effects_of T (Prevent page) = page_says (page_at T page) (λ origin. Flag origin true)
 effects_of T (SetStatus page status) = page_says (page_at T page) (λ origin. Login origin status)
 effects_of T event = brought_effects T (input_of event)

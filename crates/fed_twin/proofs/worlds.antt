@@ -4,5 +4,7 @@ pub mod Grow
 pub mod Pages
 pub mod Steps
 pub mod Disconnects
+pub mod Windows
+pub mod Resumes
 pub mod Flags
 pub mod Worlds

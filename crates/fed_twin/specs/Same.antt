@@ -33,6 +33,7 @@ pub record SameProvider (p : Providers) (a b : ProviderOptions) : Type 0 where
 pub record SameOptions (p : Providers) (a b : GetOptions) : Type 0 where
   pub mediation : a.mediation ≡ b.mediation
   pub mode : a.mode ≡ b.mode
+  pub activation : a.activation ≡ b.activation
   pub providers : AllZip (SameProvider p) a.providers b.providers
 
 -- the same accounts are offered; which of them are connected is not said
@@ -45,6 +46,7 @@ abbrev pub is_open : Stage → Bool
 is_open stages.Reading = true
 is_open stages.Listing = true
 is_open stages.Mismatch = true
+is_open stages.Window = true
 is_open stages.Choosing = true
 is_open stages.Prompting = true
 is_open stages.Asserting = false

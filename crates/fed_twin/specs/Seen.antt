@@ -2,7 +2,6 @@
 use Rattle.std.specs.Prelude.{ℕ, Bool, List, Option, Some, None, if◌then◌else◌}
 use Rattle.fed_origin.specs.declared.origin.Origin.{Origin}
 use Rattle.fed_origin.specs.declared.stage.Stage.{Stage}
-use Rattle.fed_origin.specs.declared.stage.Stage.TheVariants as stages
 use Rattle.fed_origin.specs.declared.status.LoginStatus.{LoginStatus}
 use Rattle.fed_origin.specs.Origin.{is_trustworthy}
 use Rattle.fed_jar.specs.Cookie.{StoredCookie}
@@ -22,7 +21,7 @@ pub data Seen : Type 0 where
   Cookie : (cookie : StoredCookie) → Seen
   Login : (origin : Origin) → (status : LoginStatus) → Seen
   Begin : (call page : ℕ) → Seen
-  Ended : (call : ℕ) → Seen
+  Move : (call : ℕ) → (stage : Stage) → Seen
   Sent : (call provider : ℕ) → (ask : Ask) → (cookies : List ℕ) → Seen
 
 -- of an origin only whether it is trustworthy, unless a provider has its party
@@ -36,10 +35,6 @@ pub record Told : Type 0 where
 
 abbrev pub told : Providers → Origin → Told
 told p origin = record { trusted = is_trustworthy origin; origin = told_origin p origin }
-
-abbrev pub seen_move : ℕ → Stage → Option Seen
-seen_move call stages.Ended = Some (Ended call)
-seen_move call _ = None
 
 abbrev pub seen_sent : ℕ → ℕ → Ask → List ℕ → Option Seen
 seen_sent call provider (asks.WellKnown to) cookies = Some (Sent call provider (asks.WellKnown to) cookies)
@@ -55,7 +50,7 @@ seen p (does.Closed page) = Some (Closed page)
 seen p (does.Cookie cookie) = if is_provider p cookie.domain then Some (Cookie cookie) else None
 seen p (does.Login origin status) = if is_provider p origin.host then Some (Login origin status) else None
 seen p (does.Begin begun) = of_get (kind_asked begun.options) (Some (Begin begun.call begun.page))
-seen p (does.Move kind call stage) = of_get kind (seen_move call stage)
+seen p (does.Move kind call stage) = of_get kind (Some (Move call stage))
 seen p (does.Sent kind call provider ask cookies) = of_get kind (seen_sent call provider ask cookies)
 seen p (does.Shown call dialog) = None
 seen p (does.Window call provider url) = None

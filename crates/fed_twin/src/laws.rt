@@ -6,7 +6,7 @@ ghost use Rattle.fed_twin.specs.Fault.{TwinFaultOf};
 ghost use Rattle.fed_twin.specs.Script.{Quiet};
 ghost use Rattle.fed_twin.specs.Twin.{Twin};
 ghost use Rattle.fed_twin.specs.Jars.{TwoJars};
-ghost use Rattle.fed_twin.specs.Laws.{TwoWorlds};
+ghost use Rattle.fed_twin.specs.Laws.{TwoWorlds, SameWindows};
 ghost use Rattle.fed_twin.specs.Looks.{LooksAreSeen};
 ghost use Rattle.fed_twin.specs.Origins.{NumbersDecide};
 ghost use Rattle.fed_twin.specs.Tokens.{OneToken};
@@ -16,6 +16,11 @@ ghost use Rattle.fed_twin.specs.Tokens.{OneToken};
 /// the same order, until either asks for a token or a disconnect.
 pub fn two_worlds()
     ensures { TwoWorlds }
+{}
+
+/// So long the same calls of two such scripts wait for each provider, in the same order.
+pub fn same_windows()
+    ensures { SameWindows }
 {}
 
 /// Two scripts that differ only in cookies do the same, but for the cookies that are written and sent.
@@ -46,7 +51,8 @@ pub fn twins_of_themselves()
 {}
 
 /// Where providers can tell the same of what happened, these look-backs are the same, on which a sign-in request hangs: the time, pending
-/// gets and gets that began, what is told of pages, the cookies and the statuses of providers, and the requests that were sent.
+/// gets, gets that began and gets in Window, what is told of pages, the cookies and the statuses of providers, and the requests that were
+/// sent.
 pub fn looks_are_seen()
     ensures { LooksAreSeen }
 {}

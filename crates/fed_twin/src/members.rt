@@ -110,6 +110,9 @@ pub fn same_members(a: &Event, b: &Event) -> bool
         (Event::Abort { call }, Event::Abort { call: other }) => *call == *other,
         (Event::GoOn { call }, Event::GoOn { call: other }) => *call == *other,
         (Event::Cancel { call }, Event::Cancel { call: other }) => *call == *other,
+        (Event::SignIn { call }, Event::SignIn { call: other }) => *call == *other,
+        (Event::ShutWindow { call }, Event::ShutWindow { call: other }) => *call == *other,
+        (Event::IdpClose { page }, Event::IdpClose { page: other }) => *page == *other,
         (
             Event::Reply {
                 call,

@@ -26,6 +26,8 @@ mod top;
 mod twin;
 #[cfg(test)]
 mod twin_tests;
+#[cfg(test)]
+mod window_tests;
 
 use program::program;
 pub use status::Status;

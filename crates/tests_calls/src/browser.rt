@@ -4,7 +4,7 @@ ghost use Rattle.fed_origin.specs.Status.{is_known};
 
 use crate::values::{CONFIG, PAGE, origin_of};
 use fed_io::{NoRoom, Text};
-use fed_origin::{LoginStatus, Mediation, Triple};
+use fed_origin::{LoginStatus, Mediation, Mode, Triple};
 use fed_status::{KeptSet, LoginMap, Shared, SilentFlags};
 use fed_suffix::Suffixes;
 use std::alloc::Global;
@@ -14,8 +14,10 @@ pub struct Browser {
     login: LoginMap,
     kept: KeptSet,
     flags: SilentFlags,
-    // The mediation of the get calls.
+    // The mediation and the mode of the get calls, and whether the user acted at the page.
     pub mediation: Mediation,
+    pub mode: Mode,
+    pub activation: bool,
 }
 
 impl Drop for Browser {
@@ -26,6 +28,8 @@ impl Drop for Browser {
             kept: _,
             flags: _,
             mediation: _,
+            mode: _,
+            activation: _,
         } = self;
     }
 }
@@ -38,7 +42,23 @@ impl Browser {
             kept: KeptSet::new(alloc),
             flags: SilentFlags::new(alloc),
             mediation: Mediation::Optional,
+            mode: Mode::Passive,
+            activation: true,
         }
+    }
+
+    // The same for active calls.
+    pub fn active(self) -> Browser {
+        let mut browser = self;
+        browser.mode = Mode::Active;
+        browser
+    }
+
+    // The same where the user did nothing at the page.
+    pub fn idle(self) -> Browser {
+        let mut browser = self;
+        browser.activation = false;
+        browser
     }
 
     // The same for calls of this mediation.

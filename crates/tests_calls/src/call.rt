@@ -23,6 +23,9 @@ config config | not-waited | reading
 other | not-waited | reading
 accounts | not-waited | reading
 cancel | not-offered | reading
+signin | not-offered | reading
+shut | not-offered | reading
+resume | not-offered | reading
 wellknown config links | not-waited | listing
 lost wellknown | call-ended | ended";
 
@@ -80,6 +83,21 @@ fn a_call_fails_at_once(rt: HostRuntime) -> Result<(), Fail> {
     assert!(rt; at_once(rt.alloc(), http, Mode::Passive, &browser)? == ("config-scheme", None));
     let address = "https://192.0.2.1/fedcm.json";
     assert!(rt; at_once(rt.alloc(), address, Mode::Passive, &browser)? == ("no-site", None));
+    assert!(rt; at_once(rt.alloc(), address, Mode::Active, &browser)? == ("no-site", None));
+    Ok(())
+}
+
+#[test]
+fn an_active_call_needs_the_user(rt: HostRuntime) -> Result<(), Fail> {
+    let idle = Browser::new(rt.alloc()).idle();
+    assert!(rt; at_once(rt.alloc(), CONFIG, Mode::Passive, &idle)? == ("first", Some(7)));
+    assert!(rt; at_once(rt.alloc(), CONFIG, Mode::Active, &idle)? == ("no-activation", None));
+    let http = "http://192.0.2.1/fedcm.json";
+    assert!(rt; at_once(rt.alloc(), http, Mode::Active, &idle)? == ("config-scheme", None));
+    let address = "https://192.0.2.1/fedcm.json";
+    assert!(rt; at_once(rt.alloc(), address, Mode::Active, &idle)? == ("no-activation", None));
+    let prevented = idle.prevented(rt.alloc())?.mediated(Mediation::Silent);
+    assert!(rt; at_once(rt.alloc(), CONFIG, Mode::Active, &prevented)? == ("no-activation", None));
     Ok(())
 }
 

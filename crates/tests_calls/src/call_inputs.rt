@@ -71,6 +71,9 @@ fn input(alloc: Global, word: &str) -> Result<Input, NoRoom> {
     match word {
         "go" => Ok(Input::GoOn),
         "cancel" => Ok(Input::Cancel),
+        "signin" => Ok(Input::SignIn),
+        "shut" => Ok(Input::Shut),
+        "resume" => Ok(Input::Resume),
         "abort" => Ok(Input::Abort),
         "u1" | "u2" | "u3" => choice(alloc, 0, word),
         "elsewhere" => choice(alloc, 1, "u1"),

@@ -7,25 +7,20 @@ use crate::values::{CONFIG, PAGE, origin_of, provider};
 use fed_call::CallState;
 use fed_consent::{Ask, AssertionAsk, Dialog, Effect, Finish, Input};
 use fed_io::{Items, NoRoom};
-use fed_origin::{Context, GetOptions, LoginStatus, Mediation, Mode, Stage};
+use fed_origin::{Context, GetOptions, LoginStatus, Mediation, Mode, Origin, Stage};
 use std::alloc::Global;
 use std::process::Abort;
 use std::test::Fail;
 
-fn options(
-    alloc: Global,
-    config: &str,
-    mode: Mode,
-    mediation: Mediation,
-) -> Result<GetOptions, NoRoom>
+fn options(alloc: Global, config: &str, mode: Mode, browser: &Browser) -> Result<GetOptions, NoRoom>
     ensures { IfOk result (λ options. length options.providers ≡ 1) }
 {
     let mut providers = Items::new(alloc);
     providers.push(provider(alloc, config)?)?;
     Ok(GetOptions {
-        mediation,
+        mediation: browser.mediation,
         mode,
-        activation: mode == Mode::Active,
+        activation: browser.activation,
         context: Context::SignIn,
         providers,
     })
@@ -48,7 +43,7 @@ fn with_word(call: (CallState, Items<Effect>)) -> Seen {
 
 pub fn begin(alloc: Global, config: &str, mode: Mode, browser: &Browser) -> Result<Seen, NoRoom> {
     let origin = origin_of(alloc, PAGE)?;
-    let options = options(alloc, config, mode, browser.mediation)?;
+    let options = options(alloc, config, mode, browser)?;
     match CallState::start(alloc, 1, 7, origin, options, &browser.lent()) {
         Ok(call) => Ok(with_word(call)),
         Err(NoRoom) => Err(NoRoom),
@@ -84,6 +79,7 @@ fn logged_out_word(effect: &Effect) -> &'static str {
     match effect {
         Effect::Finish(finish) => finish_word(finish),
         Effect::Dialog(Dialog::Mismatch { .. }) => "mismatch",
+        Effect::Window(0, url) => window_word(url.as_str()),
         _ => "else",
     }
 }
@@ -117,6 +113,7 @@ fn effect_word(effect: &Effect) -> &'static str {
         Effect::Send(0, ask) => ask_word(ask),
         Effect::Finish(finish) => finish_word(finish),
         Effect::Dialog(dialog) => dialog_word(dialog),
+        Effect::Window(0, url) => window_word(url.as_str()),
         Effect::Ignored(why) => why.as_str(),
         _ => "else",
     }
@@ -136,6 +133,14 @@ fn accounts_word(to: &str) -> &'static str {
         "accounts"
     } else {
         "elsewhere"
+    }
+}
+
+fn window_word(url: &str) -> &'static str {
+    if url == "https://accounts.idp.example/login" {
+        "window"
+    } else {
+        "another window"
     }
 }
 
@@ -214,10 +219,26 @@ pub fn paged(call: Seen) -> (&'static str, Option<u32>) {
     (call.word, call.state.page())
 }
 
+fn is_awaited(call: &Seen, origin: &Origin) -> bool {
+    match call.state.waits_for() {
+        Some(awaited) => awaited == origin,
+        None => false,
+    }
+}
+
+// Whether a call waits for its provider after these inputs.
+pub fn waits(alloc: Global, words: &str, browser: &Browser) -> Result<bool, NoRoom> {
+    let origin = origin_of(alloc, CONFIG)?;
+    let inputs = inputs(alloc, words)?;
+    let call = begin(alloc, CONFIG, browser.mode, browser)?;
+    let call = after(alloc, call, inputs.as_slice(), browser)?;
+    Ok(is_awaited(&call, &origin))
+}
+
 // What a call does at the last of these inputs, and where it is then.
 fn last(alloc: Global, words: &str, browser: &Browser) -> Result<(&'static str, Stage), NoRoom> {
     let inputs = inputs(alloc, words)?;
-    let call = begin(alloc, CONFIG, Mode::Passive, browser)?;
+    let call = begin(alloc, CONFIG, browser.mode, browser)?;
     let call = after(alloc, call, inputs.as_slice(), browser)?;
     Ok(ending(call))
 }
@@ -227,6 +248,7 @@ fn stage_word(stage: Stage) -> &'static str {
         Stage::Reading => "reading",
         Stage::Listing => "listing",
         Stage::Mismatch => "mismatch",
+        Stage::Window => "window",
         Stage::Choosing => "choosing",
         Stage::Prompting => "prompting",
         Stage::Asserting => "asserting",

@@ -1,5 +1,5 @@
 //! What a caller concludes from the contracts of the lower crates alone.
-ghost use Rattle.std.specs.Prelude.{◌≡◌, [], None, Ok, IfOk, IfSome, not, length};
+ghost use Rattle.std.specs.Prelude.{◌≡◌, [], None, Ok, IfOk, IfSome, not};
 ghost use Rattle.fed_origin.specs.WebUrl.{path_query_of};
 ghost use Rattle.fed_request.specs.Request.{host_field};
 ghost use Rattle.fed_request.specs.Text.{get_text};

@@ -12,6 +12,8 @@ mod call_dialogs;
 #[cfg(test)]
 mod call_inputs;
 #[cfg(test)]
+mod call_windows;
+#[cfg(test)]
 mod call_words;
 pub mod callers;
 #[cfg(test)]

@@ -11,7 +11,7 @@ use fed_io::{Fault, NoRoom, Text};
 use fed_origin::{Mediation, Origin, Scheme, WebUrl};
 use fed_provider::{ProviderStep, wellknown_url};
 use fed_suffix::Suffixes;
-use fed_token::{TokenStep, read_disconnect};
+use fed_token::read_disconnect;
 use std::alloc::Global;
 
 /// The well-known URL for a configuration URL, whose scheme has to be tested first: a plain one has none.

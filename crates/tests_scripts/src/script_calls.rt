@@ -14,6 +14,9 @@ fn is_single(event: &Event, what: &str, number: u32) -> bool {
         Event::Abort { call } => what == "abort" && *call == number,
         Event::Cancel { call } => what == "cancel" && *call == number,
         Event::GoOn { call } => what == "continue" && *call == number,
+        Event::SignIn { call } => what == "signin" && *call == number,
+        Event::ShutWindow { call } => what == "shutwindow" && *call == number,
+        Event::IdpClose { page } => what == "idpclose" && *page == number,
         _ => false,
     }
 }
@@ -95,7 +98,7 @@ member.context | {"do":"get","page":1,"call":1,"context":"","providers":1}
 member.context | {"do":"get","page":1,"call":1,"context":true,"providers":1}
 member.context | {"do":"get","page":1,"call":1,"context":["use"],"providers":1}
 member.providers | {"do":"get","page":1,"call":1,"context":"use","providers":1}
-member.activation | {"do":"get","page":1,"call":1,"activation":true,"context":"use"}"#
+member.providers | {"do":"get","page":1,"call":1,"activation":true,"context":"use"}"#
 }
 
 #[test]
@@ -151,6 +154,66 @@ fn pages_and_calls(rt: HostRuntime) -> Result<(), Fail> {
     assert!(rt; says(alloc, r#"{"do":"cancel","call":0}"#, "cancel", 0));
     assert!(rt; says(alloc, r#"{"do":"continue","call":2}"#, "continue", 2));
     assert_eq!(rt; taken(alloc, 0, rows_of_pages_and_calls())?, ("", 4));
+    Ok(())
+}
+
+// A page that no line loaded may be named.
+fn rows_of_windows() -> &'static str {
+    r#"ok | {"do":"signin","call":3}
+ok | {"do":"shutwindow","call":3}
+ok | {"do":"idpclose","page":9}
+member.call | {"do":"signin","call":"3"}
+member.call | {"do":"shutwindow","call":null}
+member.page | {"do":"idpclose","page":4294967296}"#
+}
+
+#[test]
+fn windows(rt: HostRuntime) -> Result<(), Fail> {
+    let alloc = rt.alloc();
+    assert!(rt; says(alloc, r#"{"do":"signin","call":3}"#, "signin", 3));
+    assert!(rt; says(alloc, r#"{"do":"shutwindow","call":0}"#, "shutwindow", 0));
+    assert!(rt;
+        says(
+            alloc,
+            r#"{"do":"idpclose","page":4294967295}"#,
+            "idpclose",
+            u32::MAX
+        )
+    );
+    assert_eq!(rt; taken(alloc, 0, rows_of_windows())?, ("", 3));
+    Ok(())
+}
+
+// Whether an event is a get of this mode, with an activation or without.
+fn has_mode(event: &Event, mode: Mode, activation: bool) -> bool {
+    match event {
+        Event::Get { options, .. } => options.mode == mode && options.activation == activation,
+        _ => false,
+    }
+}
+
+fn reads_mode(alloc: Global, line: &str, mode: Mode, activation: bool) -> bool {
+    match event(alloc, line) {
+        Some(event) => has_mode(&event, mode, activation),
+        None => false,
+    }
+}
+
+#[test]
+fn modes(rt: HostRuntime) -> Result<(), Fail> {
+    let alloc = rt.alloc();
+    let absent =
+        r#"{"do":"get","page":1,"call":1,"mode":null,"activation":null,"providers":[{"config":"https://a","client":"c"}]}"#;
+    assert!(rt; reads_mode(alloc, absent, Mode::Passive, false));
+    let passive =
+        r#"{"do":"get","page":1,"call":1,"mode":"passive","activation":true,"providers":[{"config":"https://a","client":"c"}]}"#;
+    assert!(rt; reads_mode(alloc, passive, Mode::Passive, true));
+    let active =
+        r#"{"do":"get","page":1,"call":1,"activation":false,"mode":"active","providers":[{"config":"https://a","client":"c"}]}"#;
+    assert!(rt; reads_mode(alloc, active, Mode::Active, false));
+    let both =
+        r#"{"do":"get","page":1,"call":1,"mode":"active","activation":true,"providers":[{"config":"https://a","client":"c"}]}"#;
+    assert!(rt; reads_mode(alloc, both, Mode::Active, true));
     Ok(())
 }
 

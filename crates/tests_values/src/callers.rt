@@ -52,6 +52,7 @@ pub fn first_flag(alloc: Global, origin: &Origin) -> Result<bool, NoRoom>
 }
 
 /// The permission that is kept first is there.
+#[tactic(auto, using(crate::proofs::kept::Itself::same_itself))]
 pub fn first_permission(alloc: Global, triple: &Triple) -> Result<bool, NoRoom>
     ensures { IfOk result (λ kept. kept ≡ true) }
 {

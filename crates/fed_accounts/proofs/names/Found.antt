@@ -1,5 +1,5 @@
 -- One pass over the members of an entry finds under each name what the last of that name has.
-use Rattle.std.proofs.Common.{◌≡◌, ◌∙◌, ℕ, Bool, true, false, cond, true≢false, List, ◌∷◌, bytes_eq, Option, Some, None}
+use Rattle.std.proofs.Common.{◌≡◌, ◌∙◌, ℕ, Bool, true, false, cond, true≢false, List, bytes_eq, Option, Some, None}
 use Rattle.std.proofs.Common.{option_map, refl, sym, ap}
 use Rattle.std.specs.Prelude.{codes, Err}
 use Rattle.std.proofs.lemmas.Slice.Eq.{bytes_eq-Decides}
@@ -9,12 +9,10 @@ use Rattle.serde_json.specs.Find.{get_member, as_str, as_array, as_object}
 use Rattle.fed_json.specs.Part.{data_at, data_or, if_named}
 use Rattle.fed_reply.specs.declared.member.Member.{Member}
 use Rattle.fed_reply.specs.declared.member.Member.TheVariants.{Absent}
-use Rattle.fed_reply.specs.Members.{member_map, member_here, member_found, member_of, text_under, list_under}
+use Rattle.fed_reply.specs.Members.{member_map, member_found, member_of, text_under, list_under}
 use Rattle.fed_reply.specs.Steps.{◌>>=◌}
 use Rattle.fed_accounts.specs.declared.members.Texts.{Texts}
 use Rattle.fed_accounts.specs.declared.members.Lists.{Lists}
-use Rattle.fed_accounts.specs.declared.account.Account.{Account}
-use Rattle.fed_accounts.specs.declared.step.AccountsStep.{AccountsStep}
 use Rattle.fed_accounts.specs.declared.step.AccountsStep.TheVariants.{Shape}
 use Rattle.fed_accounts.specs.Found.{text_if, text_after, lists_with, FindsText, FindsList, Finds, texts_by, lists_by, list_found}
 use Rattle.fed_accounts.specs.Read.{texts_of, with_lists, account_of}

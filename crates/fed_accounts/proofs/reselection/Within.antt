@@ -1,7 +1,7 @@
 -- The place of the account that is reselected is one of the list.
 use Rattle.std.proofs.Common.{◌≡◌, ◌<◌, ◌+◌, ℕ, Bool, true, false, cond, ◌||◌, List, [], ◌∷◌, map, filter, zip}
-use Rattle.std.proofs.Common.{length, Option}
-use Rattle.std.proofs.Common.{Some, None, arith, subst, sym}
+use Rattle.std.proofs.Common.{length}
+use Rattle.std.proofs.Common.{Some, None, arith, subst}
 use Rattle.std.specs.List.{AllByRecursion, enumerate_from}
 use Rattle.fed_origin.specs.declared.options.Mediation.{Mediation}
 use Rattle.fed_accounts.specs.declared.account.Account.{Account}

@@ -1,5 +1,5 @@
 -- What is known where the user's word makes no agreement, and of an account that is reselected.
-use Rattle.std.proofs.Common.{◌≡◌, ℕ, Bool, true, false, Option, None, Some, option_and_then, Result, Ok, Err, refl, sym, ap, rules}
+use Rattle.std.proofs.Common.{◌≡◌, ℕ, Bool, true, false, Option, None, Some, option_and_then, Ok, Err, refl, sym, ap, rules}
 use Rattle.std.proofs.Common.{if◌then◌else◌}
 use Rattle.std.specs.Prelude.{option_map, slice_get}
 use Rattle.fed_accounts.specs.declared.account.Account.{Account}

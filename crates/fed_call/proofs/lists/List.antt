@@ -1,5 +1,5 @@
 -- Lists of one item.
-use Rattle.std.proofs.Common.{◌≡◌, ℕ, ◌+◌, Bool, false, List, [], ◌∷◌, length, map, slice_index_or, refl, rules, arith}
+use Rattle.std.proofs.Common.{◌≡◌, Bool, false, List, [], ◌∷◌, length, map, slice_index_or, refl, rules, arith}
 
 -- what a list of one gives is a list of one, which its first item makes
 pub first_alone : {A : Type 0} (f : A → Bool) (xs : List A) (ys : List Bool) → length xs ≡ 1 → ys ≡ map f xs

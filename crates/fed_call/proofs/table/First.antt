@@ -7,7 +7,7 @@ use Rattle.fed_provider.specs.declared.config.Config.{Config}
 use Rattle.fed_provider.specs.declared.first_replies.FirstReplies.{FirstReplies}
 use Rattle.fed_provider.specs.declared.step.ProviderStep.{ProviderStep}
 use Rattle.fed_provider.specs.Config.{ConfigOf}
-use Rattle.fed_provider.specs.FirstReplies.{config_heard, config_read, reply_heard, wellknown_heard, wellknown_of, wellknown_read}
+use Rattle.fed_provider.specs.FirstReplies.{config_heard, config_read, reply_heard, wellknown_heard, wellknown_read}
 use Rattle.fed_consent.specs.declared.table.input.Input.TheVariants.{Reply}
 use Rattle.fed_status.specs.Shared.{World}
 use Rattle.fed_call.specs.Begun.{Begun, options_of}

@@ -5,6 +5,8 @@ use Rattle.url.specs.Parts.{Parts}
 use Rattle.fed_origin.specs.declared.options.Mediation.{Mediation}
 use Rattle.fed_origin.specs.declared.options.Mediation.TheVariants.{Silent, Optional, Required}
 use Rattle.fed_origin.specs.declared.options.ProviderOptions.{ProviderOptions}
+use Rattle.fed_origin.specs.declared.origin.Origin.{Origin}
+use Rattle.fed_origin.specs.WebUrl.{origin_of}
 use Rattle.fed_provider.specs.declared.config.Config.{Config}
 use Rattle.fed_accounts.specs.declared.account.Account.{Account}
 use Rattle.fed_accounts.specs.declared.step.AccountsStep.{AccountsStep}
@@ -12,18 +14,36 @@ use Rattle.fed_consent.specs.declared.table.failure.Failure.{Failure}
 use Rattle.fed_consent.specs.declared.table.input.Input.TheVariants.{Choose, GoOn}
 use Rattle.fed_consent.specs.declared.consent.manner.Manner.TheVariants.{Chosen}
 use Rattle.fed_consent.specs.Consent.{Agreement, Candidate, Pick, by_reselection, chosen}
+use Rattle.fed_consent.specs.Failures.{accounts_failure}
+use Rattle.fed_status.specs.Login.{status_of}
 use Rattle.fed_status.specs.Shared.{World}
 use Rattle.fed_call.specs.Accounts.{candidate_of}
 use Rattle.fed_call.specs.Facts.{Facts, metadata_endpoint, reselected, with_choice, with_input}
 use Rattle.fed_consent.specs.Outcomes.{Outcome, is_ignored}
 use Rattle.fed_call.specs.AssertingRows.{asserts}
 use Rattle.fed_call.specs.DialogRows.{agreed_to, settles, choice}
-use Rattle.fed_call.specs.ListingRows.{by_mismatch, prompt_effect, offers, unless_silent, by_reselected, by_accounts}
+use Rattle.fed_call.specs.ListingRows.{site_of, is_mismatch, by_mismatch, by_window, refused, prompt_effect, offers, unless_silent}
+use Rattle.fed_call.specs.ListingRows.{by_reselected, by_accounts}
+use Rattle.fed_call.specs.WindowRows.{may_sign_in}
 
 mismatch_taken : (place : ℕ) (site : List ℕ) (failure : Failure) (mismatch : Bool)
     → list_any is_ignored (by_mismatch place site failure mismatch).effects ≡ false
 mismatch_taken place site failure true = refl
 mismatch_taken place site failure false = refl
+
+window_taken : (place : ℕ) (config : Option Config) (other : Outcome) (opens : Bool) → list_any is_ignored other.effects ≡ false
+    → list_any is_ignored (by_window place config other opens).effects ≡ false
+window_taken place None other true taken = refl
+window_taken place (Some config) other true taken = refl
+window_taken place config other false taken = taken
+
+refused_taken : (world : World) (facts : Facts) (place : ℕ) (provider : Origin) (failure : Failure)
+    → list_any is_ignored (refused world facts place provider failure).effects ≡ false
+refused_taken world facts place provider failure =
+    let site = site_of world facts.origin in
+    let mismatch = is_mismatch facts.options.mode facts.options.mediation (status_of world.login provider) in
+    window_taken place facts.config (by_mismatch place site failure mismatch)
+    (may_sign_in facts.options.mode facts.options.mediation) (mismatch_taken place site failure mismatch)
 
 pub prompt_taken : (world : World) (facts : Facts) (place : ℕ) (provider : ProviderOptions) (candidate : Candidate) (connected : Bool)
     (endpoint : Option Parts)
@@ -61,7 +81,8 @@ reselected_taken world facts place provider accounts (Some pick) =
 -- an accounts reply of the provider is taken
 pub accounts_taken : (world : World) (facts : Facts) (place : ℕ) (provider : ProviderOptions) (read : Result (List Account) AccountsStep)
     → list_any is_ignored (by_accounts world facts place provider read).effects ≡ false
-accounts_taken world facts place provider (Err step) = mismatch_taken _ _ _ _
+accounts_taken world facts place provider (Err step) =
+    refused_taken world facts place (origin_of provider.config) (accounts_failure step)
 accounts_taken world facts place provider (Ok accounts) =
     reselected_taken world facts place provider accounts (reselected world facts place provider accounts)
 

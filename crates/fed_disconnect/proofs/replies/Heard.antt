@@ -90,6 +90,7 @@ heard_says world facts kind raw = go (reply_heard world.rules facts.replies fact
 set_twice : (stage : Stage) (facts : DisconnectFacts) → at_stage stage (record facts { stage = Reading }) ≡ at_stage stage facts
 set_twice stages.Reading facts = refl
 set_twice stages.Listing facts = refl
+set_twice stages.Window facts = refl
 set_twice stages.Choosing facts = refl
 set_twice stages.Prompting facts = refl
 set_twice stages.Mismatch facts = refl

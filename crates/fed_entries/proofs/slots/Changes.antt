@@ -1,5 +1,6 @@
 -- What is true of entries stays so as one comes, changes and goes.
-use Rattle.std.proofs.Common.{◌≡◌, ◌+◌, ℕ, Bool, true, false, cond, not, nat_eq, List, [], ◌∷◌, ◌++◌, filter}
+use Rattle.std.proofs.Common.{◌≡◌, ◌+◌, ℕ, Bool, true, false, cond, not, nat_eq, List, [], ◌∷◌, ◌++◌, filter, length}
+use Rattle.std.proofs.Common.{length-append}
 use Rattle.std.proofs.Common.{is_some, Option, Some, None, arith, refl, sym, ap, subst, ◌∙◌}
 use Rattle.std.proofs.lemmas.Bool.{ne_eqb}
 use Rattle.std.specs.Prelude.{option_map}
@@ -7,19 +8,19 @@ use Rattle.std.specs.Cmp.{IsEquivalence}
 use Rattle.std.specs.List.{AllByRecursion, IsDistinct}
 use Rattle.std.specs.Map.{keys_of, lookup, remove_entry, set_value}
 use Rattle.std.specs.Option.{option_map_or}
-use Rattle.std.proofs.lemmas.Map.{lookup-remove_entry, keys-set_value}
+use Rattle.std.proofs.lemmas.Map.{lookup-remove_entry, keys-set_value, length-set_value}
 use Rattle.std.proofs.lemmas.Map.Made.{IsDistinct-keys_filter}
 use Rattle.std.proofs.lemmas.List.Elements.{filter_map-append}
 use Rattle.indexmap.specs.IndexMap.{insert_entry}
-use Rattle.fed_entries.specs.Entries.{Slot, entries_by, entries_in, numbers_in, AreBelow, AreEntries, with_value}
+use Rattle.fed_entries.specs.Entries.{Slot, entries_by, entries_in, numbers_in, AreBelow, AreEntries, CountsOne, NumbersOne, with_value}
 use Rattle.fed_entries.proofs.slots.Holes.{hole, below_set}
 use Rattle.fed_entries.proofs.slots.Written.{value_written}
 
-none_of : {A : Type 0} (o : Option A) → is_some o ≡ false → o ≡ None
+pub none_of : {A : Type 0} (o : Option A) → is_some o ≡ false → o ≡ None
 none_of None e = refl
 none_of (Some x) e = cc
 
-filter_all : {A : Type 0} (p : A → Bool) (xs : List A) → AllByRecursion (λ x. p x ≡ true) xs → filter p xs ≡ xs
+pub filter_all : {A : Type 0} (p : A → Bool) (xs : List A) → AllByRecursion (λ x. p x ≡ true) xs → filter p xs ≡ xs
 filter_all p [] all = refl
 filter_all p (x ∷ xs) all = (λ i. cond (all.0 i) (x ∷ filter_all p xs all.1 i) (filter_all p xs all.1 i))
 
@@ -100,6 +101,17 @@ module _ {K X : Type 0} (same : K → K → Bool) where
       pick true f later = let is : value ≡ first.1 = cc in ap (λ v. (first.0, v) ∷ es) is
       pick false f later = ap (λ l. first ∷ l) (later f)
 
+  length_removed : (test : K → Bool) (es : List (K × X)) → is_some (lookup test es) ≡ true
+      → length (remove_entry test es) + 1 ≡ length es
+  length_removed test [] found = cc
+  length_removed test (e ∷ es) found = pick (test e.0) found (λ f. length_removed test es f)
+    where
+      pick : (b : Bool) → is_some (cond b (Some e.1) (lookup test es)) ≡ true
+          → (is_some (lookup test es) ≡ true → length (remove_entry test es) + 1 ≡ length es)
+          → length (cond b es (e ∷ remove_entry test es)) + 1 ≡ length (e ∷ es)
+      pick true f later = omega arith
+      pick false f later = let rest : length (remove_entry test es) + 1 ≡ length es = later f in omega (arith, rest)
+
   none_removed : (test : K → Bool) (es : List (K × X)) → lookup test es ≡ None → remove_entry test es ≡ es
   none_removed test [] absent = refl
   none_removed test (e ∷ es) absent = pick (test e.0) absent (λ f. none_removed test es f)
@@ -119,6 +131,7 @@ module _ {K V : Type 0} (same : K → K → Bool) where
       → entries_in new ≡ entries_in old → numbers_in new ≡ numbers_in old → AreBelow next new → AreEntries same entered new next
   same_slots entered old new next h entries numbers below = record {
     found = λ key. h.found key ∙ ap (lookup (same key)) (sym numbers);
+    count = h.count ∙ ap length (sym entries);
     below = below;
     distinct = subst (λ es. IsDistinct same (keys_of es)) (sym entries) h.distinct;
   }
@@ -149,6 +162,7 @@ module _ {K V : Type 0} (same : K → K → Bool) where
       value_written (same key) (λ n v. v) value number slots found apart in
       record {
         found = λ other. h.found other ∙ ap (lookup (same other)) (sym numbers);
+        count = h.count ∙ sym (ap length entries ∙ length-set_value (same key) (entries_in slots) value);
         below = below_write value next number slots h.below;
         distinct =
             subst (IsDistinct same) (sym (ap keys_of entries ∙ keys-set_value (same key) (entries_in slots) value)) h.distinct;
@@ -200,7 +214,7 @@ module _ {K : Type 0} (same : K → K → Bool) (laws : IsEquivalence same) wher
 module _ {K V : Type 0} (same : K → K → Bool) (laws : IsEquivalence same) where
   -- ---- one comes
 
-  distinct_last : (key : K) (value : V) (es : List (K × V)) → lookup (same key) es ≡ None
+  pub distinct_last : (key : K) (value : V) (es : List (K × V)) → lookup (same key) es ≡ None
       → IsDistinct same (keys_of es) → IsDistinct same (keys_of (es ++ (key, value) ∷ []))
   unfolding IsDistinct
   distinct_last key value [] absent d = (tt, tt)
@@ -224,10 +238,10 @@ module _ {K V : Type 0} (same : K → K → Bool) (laws : IsEquivalence same) wh
       → AreEntries same entered old next
       → entries_in closed ≡ entries_in old → numbers_in closed ≡ numbers_in old → AreBelow next closed
       → lookup (same key) entered ≡ None
-      → ((other : K) → lookup (same other) more ≡ cond (same key other) (Some next) (lookup (same other) entered))
+      → NumbersOne same key next entered more → CountsOne same key entered more
       → new ≡ closed ++ (next, Some (key, value)) ∷ [] → after ≡ next + 1
       → AreEntries same more new after
-  put_last entered more old closed new next after key value h entries numbers below absent updates last succ =
+  put_last entered more old closed new next after key value h entries numbers below absent updates longer last succ =
       let none : lookup (same key) (numbers_in closed) ≡ None = ap (lookup (same key)) numbers ∙ sym (h.found key) ∙ absent in
       let apart : IsDistinct same (keys_of (entries_in closed)) =
       subst (λ es. IsDistinct same (keys_of es)) (sym entries) h.distinct in
@@ -237,6 +251,9 @@ module _ {K V : Type 0} (same : K → K → Bool) (laws : IsEquivalence same) wh
             updates other ∙ ap (λ o. cond (same key other) (Some next) o) (h.found other ∙ sym (ap (lookup (same other)) numbers))
             ∙ sym (ap (lookup (same other)) (entries_last (λ number v. number) closed next key value)
             ∙ last_found same laws key next other (numbers_in closed) none);
+        count = longer absent ∙ ap (λ n. n + 1) (h.count ∙ sym (ap length entries))
+            ∙ sym (ap length (entries_last (λ number v. v) closed next key value)
+            ∙ length-append (entries_in closed) ((key, value) ∷ []));
         below = below_last next (key, value) closed below;
         distinct = subst (λ es. IsDistinct same (keys_of es)) (sym (entries_last (λ number v. v) closed next key value))
             (distinct_last key value (entries_in closed) (none_agrees (same key) closed none) apart);
@@ -246,7 +263,7 @@ module _ {K V : Type 0} (same : K → K → Bool) (laws : IsEquivalence same) wh
   -- ---- one goes
 
   -- where none stands twice, all entries of a key go with the first
-  removed_is_filter : (key : K) (es : List (K × V)) → IsDistinct same (keys_of es)
+  pub removed_is_filter : (key : K) (es : List (K × V)) → IsDistinct same (keys_of es)
       → remove_entry (same key) es ≡ filter (λ e. not (same key e.0)) es
   unfolding IsDistinct
   removed_is_filter key [] d = refl
@@ -270,17 +287,23 @@ module _ {K V : Type 0} (same : K → K → Bool) (laws : IsEquivalence same) wh
       → AreEntries same entered slots next
       → lookup (same key) entered ≡ Some number → IsDistinct nat_eq (keys_of slots)
       → ((other : K) → lookup (same other) fewer ≡ cond (same key other) None (lookup (same other) entered))
+      → length fewer + 1 ≡ length entered
       → AreEntries same fewer (set_value (nat_eq number) slots None) next
-  one_leaves entered fewer slots next key number h there apart updates =
+  one_leaves entered fewer slots next key number h there apart updates shorter =
       let found : lookup (same key) (numbers_in slots) ≡ Some number = sym (h.found key) ∙ there in
       let numbers = hole (same key) (λ n t. n) number slots found apart in
       let entries = hole (same key) (λ n t. t) number slots found apart in
+      let one_less : length (remove_entry (same key) (entries_in slots)) + 1 ≡ length (entries_in slots) =
+      length_removed same (same key) (entries_in slots) (sym (found_agree (same key) slots) ∙ ap is_some found) in
+      let count : length entered ≡ length (entries_in slots) = h.count in
+      let left : length fewer ≡ length (remove_entry (same key) (entries_in slots)) = omega (arith, one_less, count, shorter) in
       record {
         found = λ other.
             updates other ∙ ap (λ o. cond (same key other) None o) (h.found other)
             ∙ sym (ap (lookup (same other)) numbers
             ∙ lookup-remove_entry laws (same key) (λ x y e. laws.congr key x y e) other (numbers_in slots)
             (subst (IsDistinct same) (sym (keys_agree slots)) h.distinct));
+        count = left ∙ sym (ap length entries);
         below = below_set next number None slots h.below;
         distinct = subst (λ es. IsDistinct same (keys_of es)) (sym (entries ∙ removed_is_filter key (entries_in slots) h.distinct))
             (IsDistinct-keys_filter same (λ e. not (same key e.0)) (entries_in slots) h.distinct);

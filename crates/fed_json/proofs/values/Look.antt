@@ -9,10 +9,10 @@ use Rattle.json.specs.Json as json
 use Rattle.json.specs.Find as find
 use Rattle.json.specs.Find.{later_or, BeginsWith, HasValue, InItems, InMembers, NextItem, NextMember}
 use Rattle.serde_json.specs.Data.{Num, Data, no_items, item, Members, no_members, put}
-use Rattle.serde_json.specs.Find.{get, get_member, at, get_item, as_null, as_number, as_array, as_object, as_str, as_u64}
+use Rattle.serde_json.specs.Find.{get, get_member, at, get_item, as_null, as_bool, as_number, as_array, as_object, as_str, as_u64}
 use Rattle.serde_json.specs.Read.{number_of}
 use Rattle.serde_json.proofs.Views.{get_member-put, get_member-put_other}
-use Rattle.fed_json.specs.Part.{number_or_false, data_of, items_of, members_after, data_at, items_at, HasItems}
+use Rattle.fed_json.specs.Part.{number_or_negative, data_of, items_of, members_after, data_at, items_at, HasItems}
 use Rattle.fed_json.specs.Part.{members_at, data_or, HasMembers}
 use Rattle.fed_json.proofs.values.Range.{data_at-BeginsWith, items_at-InItems, members_at-InMembers}
 
@@ -45,7 +45,7 @@ seen_or-none : (o : Option json.Json) → seen_or o None ≡ option_map data_of 
 seen_or-none None = refl
 seen_or-none (Some j) = refl
 
-get-number : (name : List ℕ) (o : Option Num) → get name (number_or_false o) ≡ None
+get-number : (name : List ℕ) (o : Option Num) → get name (number_or_negative o) ≡ None
 get-number name None = refl
 get-number name (Some n) = refl
 
@@ -57,7 +57,7 @@ get-data_of name (json.string s) = refl
 get-data_of name (json.array js) = refl
 get-data_of name (json.object ms) = members_after-get name ms no_members ∙ seen_or-none (find.get_member name ms)
 
-at-number : (n : ℕ) (o : Option Num) → at n (number_or_false o) ≡ None
+at-number : (n : ℕ) (o : Option Num) → at n (number_or_negative o) ≡ None
 at-number n None = refl
 at-number n (Some m) = refl
 
@@ -103,7 +103,7 @@ pub found-none : (look : json.Json → Option json.Json) (see : Data → Option 
 found-none look see same ts here h =
     sym (ap see (data_at-BeginsWith ts here.0 here.1) ∙ same here.0 ∙ ap (option_map data_of) (h here.0 here.1))
 
-str-number : (o : Option Num) → as_str (number_or_false o) ≡ None
+str-number : (o : Option Num) → as_str (number_or_negative o) ≡ None
 str-number None = refl
 str-number (Some n) = refl
 
@@ -115,7 +115,19 @@ as_str-data_of (json.string s) = refl
 as_str-data_of (json.array js) = refl
 as_str-data_of (json.object ms) = refl
 
-null-number : (o : Option Num) → is_some (as_null (number_or_false o)) ≡ false
+bool-number : (o : Option Num) → as_bool (number_or_negative o) ≡ None
+bool-number None = refl
+bool-number (Some n) = refl
+
+pub as_bool-data_of : (j : json.Json) → as_bool (data_of j) ≡ find.as_bool j
+as_bool-data_of json.null = refl
+as_bool-data_of (json.boolean b) = refl
+as_bool-data_of (json.number s) = bool-number (number_of s)
+as_bool-data_of (json.string s) = refl
+as_bool-data_of (json.array js) = refl
+as_bool-data_of (json.object ms) = refl
+
+null-number : (o : Option Num) → is_some (as_null (number_or_negative o)) ≡ false
 null-number None = refl
 null-number (Some n) = refl
 
@@ -131,7 +143,7 @@ is_null-data_of (json.object ms) = refl
 abbrev pub whole_of : List ℕ → Option ℕ
 whole_of s = option_and_then as_u64 (number_of s)
 
-whole-number : (o : Option Num) → option_and_then as_u64 (as_number (number_or_false o)) ≡ option_and_then as_u64 o
+whole-number : (o : Option Num) → option_and_then as_u64 (as_number (number_or_negative o)) ≡ option_and_then as_u64 o
 whole-number None = refl
 whole-number (Some n) = refl
 
@@ -143,7 +155,7 @@ whole-data_of (json.string s) = refl
 whole-data_of (json.array js) = refl
 whole-data_of (json.object ms) = refl
 
-object-number : (o : Option Num) → is_some (as_object (number_or_false o)) ≡ false
+object-number : (o : Option Num) → is_some (as_object (number_or_negative o)) ≡ false
 object-number None = refl
 object-number (Some n) = refl
 
@@ -163,7 +175,7 @@ opens (Some rest) j h = ap (λ i. is_some (find.as_object i)) (sym h.1)
 
 -- ---- items of arrays
 
-array-number : (o : Option Num) → as_array (number_or_false o) ≡ None
+array-number : (o : Option Num) → as_array (number_or_negative o) ≡ None
 array-number None = refl
 array-number (Some n) = refl
 
@@ -211,7 +223,7 @@ no-item old new left next = items_at-InItems old left.0 left.1 ∙ ap items_of (
 
 -- ---- members of objects
 
-object_of-number : (o : Option Num) → as_object (number_or_false o) ≡ None
+object_of-number : (o : Option Num) → as_object (number_or_negative o) ≡ None
 object_of-number None = refl
 object_of-number (Some n) = refl
 

@@ -15,7 +15,7 @@ use Rattle.json.proofs.Nesting.{value-depth}
 use Rattle.json.proofs.Printed.Trees.{value-json_tokens}
 use Rattle.serde_json.specs.Data.{Num, Data, number, array, object, item, Members, no_members, put}
 use Rattle.serde_json.specs.Read.{number_of, of_json, of_items, of_members, read}
-use Rattle.fed_json.specs.Part.{number_or_false, data_of, items_of, members_after, or_null, data_at, or_no_items, items_at, room_left}
+use Rattle.fed_json.specs.Part.{number_or_negative, data_of, items_of, members_after, or_null, data_at, or_no_items, items_at, room_left}
 use Rattle.fed_json.specs.Part.{or_no_members, members_at}
 use Rattle.fed_json.proofs.values.Split.{value-split, items-split, members-split, depth-length, items_depth-length, members_depth-length}
 
@@ -90,7 +90,7 @@ both_right true c e = e
 both_right false true e = refl
 both_right false false e = e
 
-read_number : (o : Option Num) → is_some o ≡ true → option_map number o ≡ Some (number_or_false o)
+read_number : (o : Option Num) → is_some o ≡ true → option_map number o ≡ Some (number_or_negative o)
 read_number None e = absurd (cc)
 read_number (Some n) e = refl
 

@@ -37,7 +37,7 @@ use Rattle.fed_trace.proofs.happens.Gets.{others_ask}
 use Rattle.fed_laws.proofs.pending.Stood.{Invariant, Stood}
 use Rattle.fed_trace.proofs.happens.Taken.{Meets, does_at, outcome_of}
 use Rattle.fed_laws.proofs.pending.Taken.{asks_at}
-use Rattle.fed_trace.proofs.happens.Ends.{Happens, Left, Ends, Started, Took, Starts, Takes, event_for}
+use Rattle.fed_trace.proofs.happens.Ends.{Happens, Left, Ends, Started, Took, Resumed, Starts, Takes, event_for}
 use Rattle.fed_trace.proofs.happens.Happens.{happens}
 use Rattle.fed_laws.proofs.causes.Cause.{Caused, Path, Alone, AfterChoice, Prompts, chosen_id}
 use Rattle.fed_trace.proofs.happens.Says.{own, outcome_asks}
@@ -332,6 +332,7 @@ asked_by T event kind call provider ask cookies new h caused has = go (happens T
     go (Ends e) = never e.asks
     go (Started s) = begins_with s
     go (Took t) = taken t (facts_at T call) refl
+    go (Resumed r) = never r.asks
 
 pub cause_lem : OfRuns HasCause
 cause_lem T run after before row kind call provider ask cookies is has =

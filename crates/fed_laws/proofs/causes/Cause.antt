@@ -36,7 +36,7 @@ use Rattle.fed_laws.proofs.pending.Asked.{row_is}
 use Rattle.fed_trace.proofs.happens.First.{FirstTurn, FailsFirst, ReadsFirst, first_turn, is_first, is_beginning, known_begun}
 use Rattle.fed_laws.proofs.pending.Begun.{or_true}
 use Rattle.fed_laws.proofs.pending.Stood.{Stood, calm, left_page, unbegun_before}
-use Rattle.fed_trace.proofs.happens.Ends.{Happens, Left, Ends, Started, Took, Leaves, Starts}
+use Rattle.fed_trace.proofs.happens.Ends.{Happens, Left, Ends, Started, Took, Resumed, Leaves, Starts}
 use Rattle.fed_trace.proofs.happens.Happens.{happens}
 
 -- ---- the account of an id
@@ -246,6 +246,9 @@ unsaid_chooses (events.Abort c) call listed none = refl
 unsaid_chooses (events.Reply c place kind raw) call listed none = refl
 unsaid_chooses (events.GoOn c) call listed none = refl
 unsaid_chooses (events.Cancel c) call listed none = refl
+unsaid_chooses (events.SignIn c) call listed none = refl
+unsaid_chooses (events.ShutWindow c) call listed none = refl
+unsaid_chooses (events.IdpClose page) call listed none = refl
 unsaid_chooses (events.Prevent page) call listed none = refl
 unsaid_chooses (events.SetStatus page status) call listed none = refl
 unsaid_chooses (events.Disconnect page c config client hint) call listed none = refl
@@ -307,6 +310,7 @@ untaken_row T line event call new none = go (happens T event call)
     go (Started s) =
         config_same T line event call ((is_beginning event s.begun.page s.begun.call s.begun.options s.is_event).unsaid call) ∙ none
     go (Took t) = let no : true ≡ false = sym t.begun ∙ unbegun_before T line event call new in absurd (cc)
+    go (Resumed r) = config_same T line event call (ap (input_to call) r.is_event) ∙ none
 
 pub untaken : (header : Header) (rows : List Row) (call : ℕ) → IsRun header rows → list_any (nat_eq call) (begun rows) ≡ false
     → config_taken call 0 rows ≡ None

@@ -5,7 +5,7 @@ use Rattle.std.proofs.Common.{refl, sym, ap, subst, ◌∙◌, arith}
 use Rattle.std.proofs.lemmas.Bool.Decides.{nat_tests}
 use Rattle.std.specs.Prelude.{option_and_then, slice_get, unwrap_or, is_some}
 use Rattle.fed_origin.specs.declared.options.ProviderOptions.{ProviderOptions}
-use Rattle.fed_origin.specs.declared.stage.Stage.TheVariants.{Reading, Choosing, Prompting}
+use Rattle.fed_origin.specs.declared.stage.Stage.TheVariants.{Reading, Window, Choosing, Prompting}
 use Rattle.fed_consent.specs.declared.table.input.Input.{Input}
 use Rattle.fed_consent.specs.declared.table.input.Input.TheVariants as inputs
 use Rattle.fed_consent.specs.Consent.{Listed, chosen}
@@ -14,19 +14,20 @@ use Rattle.fed_script.specs.declared.event.Event.{Event}
 use Rattle.fed_script.specs.declared.event.Event.TheVariants as events
 use Rattle.fed_script.specs.declared.event.Event.TheVariants.{Choose, Reply}
 use Rattle.fed_script.specs.declared.event.Header.{Header}
-use Rattle.fed_laws.specs.Cause.{chooses, config_taken}
-use Rattle.fed_trace.specs.Known.{world_at, is_begun, facts_at}
+use Rattle.fed_laws.specs.Cause.{chooses, config_in, config_taken}
+use Rattle.fed_trace.specs.Known.{world_at, input_to, is_begun, facts_at}
 use Rattle.fed_laws.specs.Laws.{at}
 use Rattle.fed_trace.specs.Row.{with_event, IsNew, IsRun}
 use Rattle.fed_trace.specs.Trace.{Row, Trace}
 use Rattle.fed_laws.proofs.pending.Asked.{invariant, row_is}
+use Rattle.fed_laws.proofs.pending.Resumed.{GoesAgain, found_resumed, goes_again}
 use Rattle.fed_laws.proofs.pending.Stood.{Invariant, Stood, not_some}
 use Rattle.fed_trace.proofs.happens.First.{is_first}
 use Rattle.fed_trace.proofs.happens.Gets.{facts_same, facts_ended, others_after}
 use Rattle.fed_trace.proofs.happens.Taken.{Meets, facts_taken, outcome_of}
-use Rattle.fed_trace.proofs.happens.Ends.{Happens, Left, Ends, Started, Took, Leaves, Starts, Takes, event_for}
+use Rattle.fed_trace.proofs.happens.Ends.{Happens, Left, Ends, Started, Took, Resumed, Resumes, Leaves, Starts, Takes, event_for}
 use Rattle.fed_trace.proofs.happens.Happens.{happens}
-use Rattle.fed_laws.proofs.causes.Cause.{Caused, Opened, Prompts, caused_left, caused_started, opened_on, prompts_on, untaken}
+use Rattle.fed_laws.proofs.causes.Cause.{Caused, Opened, Prompts, caused_left, caused_started, config_same, opened_on, prompts_on, untaken}
 use Rattle.fed_laws.proofs.turns.Way.{ChoosesNone, Elsewhere, OffersMany, OffersOne, Picks, Readies, Unmoved, Way, is_open, way_at}
 use Rattle.fed_laws.proofs.causes.Dialog.{Step, stage_then, told_then, after_step, calm_step, begins_no_more, one_provider, config_then}
 use Rattle.fed_laws.proofs.causes.Dialog.{configured_then, opened_now, prompts_now, picks_now, readied_now}
@@ -67,8 +68,10 @@ chooses_no_account event call f inputs.Cancel listed is one lists none = let cam
     ap (chooses call 0 listed) came
 chooses_no_account event call f inputs.Abort listed is one lists none = let came : event ≡ events.Abort call = cc in
     ap (chooses call 0 listed) came
-chooses_no_account event call f inputs.SignIn listed is one lists none = let no : Some event ≡ None = is in absurd (cc)
-chooses_no_account event call f inputs.Shut listed is one lists none = let no : Some event ≡ None = is in absurd (cc)
+chooses_no_account event call f inputs.SignIn listed is one lists none = let came : event ≡ events.SignIn call = cc in
+    ap (chooses call 0 listed) came
+chooses_no_account event call f inputs.Shut listed is one lists none = let came : event ≡ events.ShutWindow call = cc in
+    ap (chooses call 0 listed) came
 chooses_no_account event call f inputs.Resume listed is one lists none = let no : Some event ≡ None = is in absurd (cc)
 
 -- ---- what stands then
@@ -145,6 +148,29 @@ caused_then T line event call f f' s =
       prompting = dialogs.prompting;
     }
 
+-- ---- the call asks for its accounts again
+
+caused_resumed : (T : Trace) (line : ℕ) (event : Event) (call : ℕ) (f' : Facts) → (r : Resumes T event call) → Caused T call r.facts
+    → facts_at (with_event T line event) call ≡ Some f' → Caused (with_event T line event) call f'
+caused_resumed T line event call f' r c is =
+    subst (Caused (with_event T line event) call) then.is
+    (record {
+      config = c.config ∙ ap (option_and_then (config_in r.facts.options 0)) (sym (config_same T line event call unsaid));
+      configured = some c.configured;
+      choosing = λ at. let no : true ≡ false = sym (ap is_open at) ∙ then.closed in absurd (cc);
+      prompting = λ at. let no : true ≡ false = sym (ap is_open at) ∙ then.closed in absurd (cc);
+    })
+  where
+    then : GoesAgain r.facts f'
+    then = goes_again T line event call f' r is
+
+    unsaid : input_to call event ≡ None
+    unsaid = ap (input_to call) r.is_event
+
+    some : (r.facts.stage ≡ Reading) ⊎ (is_some r.facts.config ≡ true) → (then.stage ≡ Reading) ⊎ (is_some r.facts.config ≡ true)
+    some (inr has) = inr has
+    some (inl reading) = let no : Reading ≡ Window = sym reading ∙ r.at_window in absurd (cc)
+
 -- ---- every row
 
 caused_by_row : (T : Trace) (line : ℕ) (event : Event) (call : ℕ) (f' : Facts)
@@ -186,6 +212,7 @@ caused_by_row T line event call f' nothing new h caused then is = go (happens T 
         (facts_ended T line event call e.stage e.begins_none) is
     go (Started s) = by_started s
     go (Took t) = by_taken t (facts_at T call) refl
+    go (Resumed r) = caused_resumed T line event call f' r (caused r.facts (found_resumed T event call r)) is
 
 pub caused : (header : Header) (rows : List Row) (call : ℕ) → IsRun header rows → (f : Facts)
     → facts_at (record { header = header; rows = rows }) call ≡ Some f

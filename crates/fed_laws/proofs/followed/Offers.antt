@@ -25,7 +25,7 @@ use Rattle.fed_consent.specs.declared.table.why.Why.TheVariants.{NotWaited, Call
 use Rattle.fed_origin.specs.declared.options.ProviderOptions.{ProviderOptions}
 use Rattle.fed_origin.specs.declared.origin.Origin.{Origin}
 use Rattle.fed_origin.specs.declared.stage.Stage.{Stage}
-use Rattle.fed_origin.specs.declared.stage.Stage.TheVariants.{Reading, Listing, Mismatch, Choosing, Prompting, Asserting, Ended}
+use Rattle.fed_origin.specs.declared.stage.Stage.TheVariants.{Reading, Listing, Mismatch, Window, Choosing, Prompting, Asserting, Ended}
 use Rattle.fed_origin.specs.declared.status.LoginStatus.TheVariants.{LoggedIn}
 use Rattle.fed_reply.specs.Steps.{with_ok}
 use Rattle.fed_script.specs.declared.event.Event.{Event}
@@ -52,7 +52,7 @@ use Rattle.fed_origin.specs.declared.stage.ReplyKind.TheVariants as kinds
 use Rattle.fed_laws.proofs.tokens.Answered.{listed_page, result_disturbs, not_both}
 use Rattle.fed_laws.proofs.causes.Cause.{Caused, only_chosen, left_unsaid, unsaid_chooses}
 use Rattle.fed_laws.proofs.turns.Config.{told}
-use Rattle.fed_trace.proofs.happens.Ends.{Happens, Left, Ends, Started, Took, EndsWithPage}
+use Rattle.fed_trace.proofs.happens.Ends.{Happens, Left, Ends, Started, Took, Resumed, EndsWithPage}
 use Rattle.fed_trace.proofs.happens.Happens.{happens}
 use Rattle.fed_trace.proofs.keyed.Keyed.{distinct_standing, lookup-standing}
 use Rattle.fed_laws.proofs.turns.Open.{open_at, StaysOpen, Open, AsksNow, GivesNow}
@@ -63,11 +63,12 @@ use Rattle.fed_trace.proofs.happens.Gets.{facts_same}
 use Rattle.fed_trace.proofs.happens.Disconnects.{disconnect_turn, sets_no_login}
 use Rattle.fed_laws.proofs.pending.Stood.{Stood, Invariant, get_at}
 use Rattle.fed_trace.proofs.happens.Taken.{Meets, facts_taken, outcome_of}
+use Rattle.fed_laws.proofs.pending.Resumed.{stage_resumed}
 use Rattle.fed_laws.proofs.pending.Taken.{asks_at, gives_at}
 use Rattle.fed_laws.proofs.tokens.Token.{says_none}
 use Rattle.fed_laws.proofs.followed.Tracks.{AsOnly, ToChoose, ToGoOn, Tracks, offering_on, unsaid_metadata, needs_back, is_open_at}
 use Rattle.fed_laws.proofs.followed.Tracks.{tracks_taken}
-use Rattle.fed_laws.proofs.turns.Way.{prompt_taken, way_at}
+use Rattle.fed_laws.proofs.turns.Way.{is_open, prompt_taken, way_at}
 
 ready_only : (connected : Bool) (endpoint : Option Parts) → (connected ≡ true) ⊎ (endpoint ≡ None)
     → needs_metadata connected endpoint ≡ false
@@ -133,6 +134,9 @@ tracks_on T line event call page listed since new h caused k calm quiet = go (ha
     go (Took t) =
         let m : Meets T event call f = record { takes = t; found = k.found } in
         taken m (open_at (world_at T) f t.input (is_open_at f call listed since k.offering) configured)
+    go (Resumed r) =
+        let no : false ≡ true = ap is_open (sym (stage_resumed T event call f r k.found)) ∙ is_open_at f call listed since k.offering in
+        absurd (cc)
 
 -- ---- the reply
 
@@ -209,6 +213,7 @@ listens T event call provider raw o is has = go (known_at T call) refl
     at_stages f found Listing at = record { facts = f; found = found; listing = at }
     at_stages f found Reading at = ignores f found Reading at NotWaited refl
     at_stages f found Mismatch at = ignores f found Mismatch at NotWaited refl
+    at_stages f found Window at = ignores f found Window at NotWaited refl
     at_stages f found Choosing at = ignores f found Choosing at NotWaited refl
     at_stages f found Prompting at = ignores f found Prompting at NotWaited refl
     at_stages f found Asserting at = ignores f found Asserting at NotWaited refl

@@ -7,7 +7,7 @@ use Rattle.fed_consent.specs.Consent.{Candidate, Listed, chosen}
 use Rattle.fed_consent.specs.declared.table.input.Input.{Input}
 use Rattle.fed_origin.specs.declared.stage.ReplyKind.{ReplyKind}
 use Rattle.fed_origin.specs.declared.stage.Stage.{Stage}
-use Rattle.fed_origin.specs.declared.stage.Stage.TheVariants.{Reading, Listing, Mismatch, Choosing, Prompting, Asserting, Ended}
+use Rattle.fed_origin.specs.declared.stage.Stage.TheVariants.{Reading, Listing, Mismatch, Window, Choosing, Prompting, Asserting, Ended}
 use Rattle.fed_provider.specs.declared.config.Config.{Config}
 use Rattle.fed_script.specs.declared.event.Event.{Event}
 use Rattle.fed_script.specs.declared.event.Event.TheVariants.{Choose, Reply, Load, ClosePage, Get, At, SetStatus}
@@ -37,7 +37,7 @@ use Rattle.fed_laws.proofs.causes.Cause.{chosen_id}
 use Rattle.fed_laws.proofs.causes.Caused.{chooses_no_account}
 use Rattle.fed_laws.proofs.turns.Config.{told}
 use Rattle.fed_laws.proofs.causes.Dialog.{one_provider}
-use Rattle.fed_trace.proofs.happens.Ends.{Happens, Left, Ends, Started, Took, event_for}
+use Rattle.fed_trace.proofs.happens.Ends.{Happens, Left, Ends, Started, Took, Resumed, event_for}
 use Rattle.fed_trace.proofs.happens.Happens.{happens}
 use Rattle.fed_laws.proofs.turns.Open.{metadata_ready}
 use Rattle.fed_trace.proofs.happens.First.{is_first}
@@ -63,6 +63,7 @@ begins_once T event call new begun = go (happens T event call)
         let no : true ≡ false = sym begun ∙ fresh in
         absurd (cc)
     go (Took t) = takes_begins T event call call t
+    go (Resumed r) = r.begins_none
 
 begun_row : (header : Header) (row : Row) (rows : List Row) (call : ℕ) → list_any (nat_eq call) (begun rows) ≡ true
     → list_any (nat_eq call) (begun (row ∷ rows)) ≡ true
@@ -190,6 +191,9 @@ unsaid_metadata (events.Abort c) call none = refl
 unsaid_metadata (events.Choose c place id) call none = refl
 unsaid_metadata (events.GoOn c) call none = refl
 unsaid_metadata (events.Cancel c) call none = refl
+unsaid_metadata (events.SignIn c) call none = refl
+unsaid_metadata (events.ShutWindow c) call none = refl
+unsaid_metadata (events.IdpClose page) call none = refl
 unsaid_metadata (events.Prevent page) call none = refl
 unsaid_metadata (events.SetStatus page status) call none = refl
 unsaid_metadata (events.Disconnect page c config client hint) call none = refl
@@ -236,8 +240,10 @@ ready_by_reply T event call f inputs.Cancel is one at same came =
     let k : event ≡ events.Cancel call = cc in let no : false ≡ true = ap (is_metadata call 0) (sym k) ∙ came in absurd (cc)
 ready_by_reply T event call f inputs.Abort is one at same came =
     let k : event ≡ events.Abort call = cc in let no : false ≡ true = ap (is_metadata call 0) (sym k) ∙ came in absurd (cc)
-ready_by_reply T event call f inputs.SignIn is one at same came = let no : Some event ≡ None = is in absurd (cc)
-ready_by_reply T event call f inputs.Shut is one at same came = let no : Some event ≡ None = is in absurd (cc)
+ready_by_reply T event call f inputs.SignIn is one at same came =
+    let k : event ≡ events.SignIn call = cc in let no : false ≡ true = ap (is_metadata call 0) (sym k) ∙ came in absurd (cc)
+ready_by_reply T event call f inputs.Shut is one at same came =
+    let k : event ≡ events.ShutWindow call = cc in let no : false ≡ true = ap (is_metadata call 0) (sym k) ∙ came in absurd (cc)
 ready_by_reply T event call f inputs.Resume is one at same came = let no : Some event ≡ None = is in absurd (cc)
 
 pub needs_back : (connected : Bool) (endpoint : Option Parts) → endpoint ≡ None → needs_metadata connected endpoint ≡ false
@@ -258,6 +264,7 @@ same_at f opened = go f.stage refl
     go Reading at = let no : false ≡ true = ap is_open (sym at) ∙ opened in absurd (cc)
     go Listing at = let no : false ≡ true = ap is_open (sym at) ∙ opened in absurd (cc)
     go Mismatch at = let no : false ≡ true = ap is_open (sym at) ∙ opened in absurd (cc)
+    go Window at = let no : false ≡ true = ap is_open (sym at) ∙ opened in absurd (cc)
     go Asserting at = let no : false ≡ true = ap is_open (sym at) ∙ opened in absurd (cc)
     go Ended at = let no : false ≡ true = ap is_open (sym at) ∙ opened in absurd (cc)
 

@@ -25,7 +25,7 @@ use Rattle.fed_laws.specs.Laws.{AsksOnce, OfRuns}
 use Rattle.fed_trace.specs.Row.{effects_of, row_of, with_event, cookies_with, IsNew, IsRun}
 use Rattle.fed_trace.specs.Trace.{Row, Trace}
 use Rattle.fed_trace.proofs.known.Facts.{get_page, same_call, same_origin_of, same_options}
-use Rattle.fed_trace.proofs.happens.Ends.{Happens, Left, Ends, Started, Took, Takes}
+use Rattle.fed_trace.proofs.happens.Ends.{Happens, Left, Ends, Started, Took, Resumed, Takes}
 use Rattle.fed_trace.proofs.happens.Happens.{happens}
 use Rattle.fed_trace.proofs.happens.Says.{outcome_begins, outcome_pending, asks_token, finish_of}
 use Rattle.fed_laws.proofs.turns.Config.{told}
@@ -35,6 +35,7 @@ use Rattle.fed_laws.proofs.pending.Stood.{AskedFor, Stood, Invariant, asked_on, 
 use Rattle.fed_laws.proofs.pending.Stood.{invariant_by}
 use Rattle.fed_laws.proofs.pending.Stood.{when_same, not_some, when_ended}
 use Rattle.fed_laws.proofs.pending.Begun.{when_started}
+use Rattle.fed_laws.proofs.pending.Resumed.{when_resumed}
 use Rattle.fed_trace.proofs.happens.Taken.{Meets, outcome_of, does_at, facts_taken}
 use Rattle.fed_laws.proofs.pending.Taken.{input_keeps_pages, asks_at, gives_at, after_by, still_pending, IgnoresOrEnds, ends_asserting}
 use Rattle.fed_laws.proofs.pending.Taken.{requests_sends, picks_asked}
@@ -207,6 +208,7 @@ kept_by_row T line event call new h = go (happens T event call)
     go (Ends e) = when_ended T line event call h e
     go (Started s) = when_started T line event call new h s
     go (Took t) = when_took T line event call h t (facts_at T call) refl
+    go (Resumed r) = when_resumed T line event call h r
 
 -- a row whose effects are those of its event is that of the event
 pub row_is : (T : Trace) (row : Row) → row.effects ≡ effects_of T row.event → row ≡ row_of T row.line row.event

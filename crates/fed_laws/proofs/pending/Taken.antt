@@ -6,7 +6,7 @@ use Rattle.std.specs.List.{filter_map}
 use Rattle.fed_origin.specs.declared.options.ProviderOptions.{ProviderOptions}
 use Rattle.fed_origin.specs.declared.stage.ReplyKind.{ReplyKind}
 use Rattle.fed_origin.specs.declared.stage.Stage.{Stage}
-use Rattle.fed_origin.specs.declared.stage.Stage.TheVariants.{Reading, Listing, Mismatch, Choosing, Prompting, Asserting, Ended}
+use Rattle.fed_origin.specs.declared.stage.Stage.TheVariants.{Reading, Listing, Mismatch, Window, Choosing, Prompting, Asserting, Ended}
 use Rattle.fed_origin.specs.Origin.{origin_text}
 use Rattle.fed_origin.specs.WebUrl.{origin_of}
 use Rattle.fed_token.specs.declared.step.TokenStep.{TokenStep}
@@ -22,6 +22,7 @@ use Rattle.fed_consent.specs.Consent.{AssertionFields, assertion_fields, chosen}
 use Rattle.fed_origin.specs.declared.status.LoginStatus.TheVariants.{LoggedIn}
 use Rattle.fed_call.specs.AssertingRows.{asserting_reply, assertion_reply, by_token}
 use Rattle.fed_call.specs.DialogRows.{chose, went_on, cancelled}
+use Rattle.fed_call.specs.WindowRows.{asked_to_sign_in, resumed, window_shut}
 use Rattle.fed_call.specs.Facts.{Facts, at_stage, by_account, provider_at, with_choice, with_input, with_list, with_listing}
 use Rattle.fed_consent.specs.Outcomes.{Outcome, ignored}
 use Rattle.fed_call.specs.Row.{input_row, stage_reply}
@@ -55,8 +56,8 @@ input_keeps_pages event call (inputs.Choose provider account) q is = let k : eve
 input_keeps_pages event call inputs.GoOn q is = let k : event ≡ events.GoOn call = cc in ap (replaces q) k
 input_keeps_pages event call inputs.Cancel q is = let k : event ≡ events.Cancel call = cc in ap (replaces q) k
 input_keeps_pages event call inputs.Abort q is = let k : event ≡ events.Abort call = cc in ap (replaces q) k
-input_keeps_pages event call inputs.SignIn q is = let no : Some event ≡ None = is in absurd (cc)
-input_keeps_pages event call inputs.Shut q is = let no : Some event ≡ None = is in absurd (cc)
+input_keeps_pages event call inputs.SignIn q is = let k : event ≡ events.SignIn call = cc in ap (replaces q) k
+input_keeps_pages event call inputs.Shut q is = let k : event ≡ events.ShutWindow call = cc in ap (replaces q) k
 input_keeps_pages event call inputs.Resume q is = let no : Some event ≡ None = is in absurd (cc)
 
 pub asks_at : (T : Trace) (event : Event) (call : ℕ) (f : Facts) → (m : Meets T event call f)
@@ -105,6 +106,7 @@ still_pending kind call k now None going = refl
 still_pending kind call k now (Some Reading) going = refl
 still_pending kind call k now (Some Listing) going = refl
 still_pending kind call k now (Some Mismatch) going = refl
+still_pending kind call k now (Some Window) going = refl
 still_pending kind call k now (Some Choosing) going = refl
 still_pending kind call k now (Some Prompting) going = refl
 still_pending kind call k now (Some Asserting) going = refl
@@ -143,9 +145,9 @@ ends_asserting world f (inputs.Choose place id) at =
 ends_asserting world f inputs.GoOn at = subst (λ st. IgnoresOrEnds (went_on f st)) (sym at) (inl (NotOffered, refl))
 ends_asserting world f inputs.Cancel at = subst (λ st. IgnoresOrEnds (cancelled st)) (sym at) (inl (NotOffered, refl))
 ends_asserting world f inputs.Abort at = inr refl
-ends_asserting world f inputs.SignIn at = inl (NotOffered, refl)
-ends_asserting world f inputs.Shut at = inl (NotOffered, refl)
-ends_asserting world f inputs.Resume at = inl (NotOffered, refl)
+ends_asserting world f inputs.SignIn at = subst (λ st. IgnoresOrEnds (asked_to_sign_in f st)) (sym at) (inl (NotOffered, refl))
+ends_asserting world f inputs.Shut at = subst (λ st. IgnoresOrEnds (window_shut st)) (sym at) (inl (NotOffered, refl))
+ends_asserting world f inputs.Resume at = subst (λ st. IgnoresOrEnds (resumed f st)) (sym at) (inl (NotOffered, refl))
 
 -- ---- a request for a token
 

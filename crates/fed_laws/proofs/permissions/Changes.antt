@@ -20,7 +20,7 @@ use Rattle.fed_consent.specs.declared.table.ask.Ask.{Ask}
 use Rattle.fed_consent.specs.declared.table.effect.Effect.{Effect as CallEffect}
 use Rattle.fed_consent.specs.declared.table.effect.Effect.TheVariants as does
 use Rattle.fed_consent.specs.Outcomes.{Outcome, only_place}
-use Rattle.fed_call.specs.ReadingRows.{by_gate, by_scheme, by_silence, start_at}
+use Rattle.fed_call.specs.ReadingRows.{by_activation, by_gate, by_scheme, by_silence, start_at}
 use Rattle.fed_disconnect.specs.Facts.{provider_origin}
 use Rattle.fed_disconnect.specs.Rows as disconnect
 use Rattle.fed_trace.specs.Begun.{Begun, CallKind, CallOptions, ToGet, ToDisconnect, kind_asked}
@@ -97,16 +97,22 @@ silence_leaves : (place : ℕ) (config wellknown : Parts) (prevented gated : Boo
 silence_leaves place config wellknown true gated = refl
 silence_leaves place config wellknown false gated = gate_leaves place config wellknown gated
 
-scheme_leaves : (place : ℕ) (scheme : Scheme) (config : Parts) (wellknown : Answer Parts ProviderStep) (prevented gated : Bool)
-    → LeavesKept (by_scheme place scheme config wellknown prevented gated)
-scheme_leaves place Http config wellknown prevented gated = refl
-scheme_leaves place Https config (Err step) prevented gated = refl
-scheme_leaves place Https config (Ok wellknown) prevented gated = silence_leaves place config wellknown prevented gated
+activation_leaves : (place : ℕ) (config : Parts) (wellknown : Answer Parts ProviderStep) (lacking prevented gated : Bool)
+    → LeavesKept (by_activation place config wellknown lacking prevented gated)
+activation_leaves place config wellknown true prevented gated = refl
+activation_leaves place config (Err step) false prevented gated = refl
+activation_leaves place config (Ok wellknown) false prevented gated = silence_leaves place config wellknown prevented gated
+
+scheme_leaves : (place : ℕ) (scheme : Scheme) (config : Parts) (wellknown : Answer Parts ProviderStep) (lacking prevented gated : Bool)
+    → LeavesKept (by_scheme place scheme config wellknown lacking prevented gated)
+scheme_leaves place Http config wellknown lacking prevented gated = refl
+scheme_leaves place Https config wellknown lacking prevented gated =
+    activation_leaves place config wellknown lacking prevented gated
 
 start_leaves : (world : World) (origin : Origin) (options : GetOptions) (provider : Option ProviderOptions)
     → LeavesKept (start_at world origin options only_place provider)
 start_leaves world origin options None = refl
-start_leaves world origin options (Some provider) = scheme_leaves _ _ provider.config _ _ _
+start_leaves world origin options (Some provider) = scheme_leaves _ _ provider.config _ _ _ _
 
 site_leaves : (config : Parts) (wellknown : Answer Parts ProviderStep) (kept : Bool)
     → LeavesKept (disconnect.by_site config wellknown kept)

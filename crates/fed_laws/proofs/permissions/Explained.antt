@@ -41,7 +41,9 @@ use Rattle.fed_trace.specs.OfCall.{Has}
 use Rattle.fed_trace.specs.Row.{IsRun, cookie_effects, cookies_from, cookies_with, effects_of, have_cookies, have_states, input_effects}
 use Rattle.fed_trace.specs.Row.{is_busy, outcome_effects, set_cookies, set_logins}
 use Rattle.fed_trace.specs.Trace.{Trace, gets, kept, now_at, page_at, pending_of}
+use Rattle.fed_trace.specs.Windows.{windows_of}
 use Rattle.fed_trace.proofs.calls.Pending.{load_silent}
+use Rattle.fed_trace.proofs.calls.Resumed.{idpclose_silent}
 use Rattle.fed_trace.proofs.effects.Silent.{AllSilent, silent_append, silent_map}
 use Rattle.fed_trace.proofs.events.Aside.{says_silent}
 use Rattle.fed_trace.proofs.happens.Ends.{event_for}
@@ -397,6 +399,14 @@ explained T (events.GoOn call) triple stays run has =
     by_input T (events.GoOn call) call inputs.GoOn triple stays run refl refl refl has
 explained T (events.Cancel call) triple stays run has =
     by_input T (events.Cancel call) call inputs.Cancel triple stays run refl refl refl has
+explained T (events.SignIn call) triple stays run has =
+    by_input T (events.SignIn call) call inputs.SignIn triple stays run refl refl refl has
+explained T (events.ShutWindow call) triple stays run has =
+    by_input T (events.ShutWindow call) call inputs.Shut triple stays run refl refl refl has
+explained T (events.IdpClose page) triple stays run has =
+    unchanged _ triple stays
+    (idpclose_silent kept_change (record { ignored = λ w. refl; sent = λ n c p t k. refl; move = λ n c. refl }) (world_at T)
+    (cookies_with T) (known_at T) (windows_of T) (page_at T page)) has
 
 pub comes_lem : OfRuns ComesByToken
 comes_lem T run after before row triple is has =

@@ -6,10 +6,11 @@ use Rattle.std.specs.Prelude.{option_map, unwrap_or}
 use Rattle.std.specs.List.{filter_map, list_any}
 use Rattle.fed_origin.specs.declared.origin.Origin.{Origin}
 use Rattle.fed_origin.specs.declared.stage.Stage.{Stage}
-use Rattle.fed_origin.specs.declared.stage.Stage.TheVariants.{Reading, Asserting, Ended}
+use Rattle.fed_origin.specs.declared.stage.Stage.TheVariants.{Reading, Window, Asserting, Ended}
 use Rattle.fed_status.specs.Shared.{World}
 use Rattle.fed_call.specs.Facts.{Facts}
 use Rattle.fed_call.specs.Facts as get
+use Rattle.fed_call.specs.WindowRows.{resumed}
 use Rattle.fed_consent.specs.declared.table.ask.Ask.TheVariants as asks
 use Rattle.fed_consent.specs.declared.table.finish.Finish.{Finish}
 use Rattle.fed_consent.specs.declared.table.input.Input.{Input}
@@ -28,11 +29,12 @@ use Rattle.fed_trace.specs.Known.{known_at, known_in, world_at}
 use Rattle.fed_trace.specs.OfCall.{given}
 use Rattle.fed_trace.specs.Row.{IsNew, IsRun, cookies_with, effects_of, outcome_effects, row_of, with_event}
 use Rattle.fed_trace.specs.Trace.{Row, Trace}
-use Rattle.fed_trace.proofs.happens.Ends.{Happens, Left, Ends as EndsNow, Started, Took, Leaves, Starts}
+use Rattle.fed_trace.proofs.happens.Ends.{Happens, Left, Ends as EndsNow, Started, Took, Resumed, Leaves, Starts}
 use Rattle.fed_trace.proofs.happens.First.{FirstTurn, FailsFirst, ReadsFirst, HasOne, first_turn, is_beginning, is_first, known_begun}
 use Rattle.fed_trace.proofs.happens.Gets.{Taking, ByGet, ByDisconnect, ByNone, taking}
 use Rattle.fed_trace.proofs.happens.Happens.{happens}
 use Rattle.fed_trace.proofs.happens.Over.{still_over}
+use Rattle.fed_trace.proofs.happens.Resumed.{known_resumed}
 use Rattle.fed_trace.proofs.happens.Says.{finish_of, outcome_begins, outcome_gives, outcome_pending}
 use Rattle.fed_trace.proofs.happens.Taken.{Knows, does_it, knows, known_taken}
 use Rattle.fed_trace.proofs.known.Known.{known_moved, known_same, over, said_of}
@@ -278,6 +280,9 @@ sending_row T line event call f new earlier is = go (happens T event call)
         ∙ over (option_map (said_of T event call) (known_in T.header T.rows call))) is
     go (Started s) = sending_begun T line event call f new s is
     go (Took t) = taken (taking T event call t)
+    go (Resumed r) =
+        not_of_get (get.at_stage (unwrap_or (resumed r.facts Window).stage Window) r.facts) f
+        (sym (known_resumed T line event call r) ∙ is)
 
 pub sending : (header : Header) (rows : List Row) (call : ℕ) → IsRun header rows → (f : DisconnectFacts)
     → known_at (record { header = header; rows = rows }) call ≡ Some (OfDisconnect f)

@@ -1,6 +1,7 @@
 -- A token that a reply holds reaches the page that awaits it.
 use Rattle.fed_call.specs.AssertingRows.{asserting_reply, assertion_reply, by_token, clears, keeps, token_refused}
 use Rattle.fed_call.specs.DialogRows.{chose, went_on, cancelled}
+use Rattle.fed_call.specs.WindowRows.{asked_to_sign_in, resumed, window_shut}
 use Rattle.fed_consent.specs.Outcomes as outcomes
 use Rattle.fed_call.specs.Facts.{Facts, at_stage, provider_at, with_input}
 use Rattle.fed_consent.specs.Outcomes.{Outcome, finishes}
@@ -19,14 +20,14 @@ use Rattle.fed_origin.specs.declared.options.ProviderOptions.{ProviderOptions}
 use Rattle.fed_origin.specs.declared.origin.Origin.{Origin}
 use Rattle.fed_origin.specs.declared.stage.ReplyKind.TheVariants as kinds
 use Rattle.fed_origin.specs.declared.stage.ReplyKind.{ReplyKind}
-use Rattle.fed_origin.specs.declared.stage.Stage.TheVariants.{Asserting, Ended}
+use Rattle.fed_origin.specs.declared.stage.Stage.TheVariants.{Window, Asserting, Ended}
 use Rattle.fed_script.specs.declared.event.Event.TheVariants.{Reply}
 use Rattle.fed_script.specs.declared.event.Event.{Event}
 use Rattle.fed_script.specs.declared.event.Header.{Header}
 use Rattle.fed_laws.proofs.pending.Asked.{invariant, row_is}
 use Rattle.fed_laws.proofs.pending.Begun.{first_asks_none}
 use Rattle.fed_trace.proofs.happens.First.{first_turn, is_first}
-use Rattle.fed_trace.proofs.happens.Ends.{Happens, Left, Ends, Started, Took, EndsWithPage, Starts, Takes}
+use Rattle.fed_trace.proofs.happens.Ends.{Happens, Left, Ends, Started, Took, Resumed, EndsWithPage, Starts, Takes}
 use Rattle.fed_trace.proofs.known.Facts.{get_page, same_origin_of}
 use Rattle.fed_trace.proofs.happens.Happens.{happens}
 use Rattle.fed_trace.proofs.keyed.Keyed.{IsAbsent, AreDistinct, distinct_standing, lookup-standing}
@@ -35,6 +36,7 @@ use Rattle.fed_trace.proofs.happens.Gets.{facts_same, others_ask}
 use Rattle.fed_trace.proofs.calls.Pending.{is_among}
 use Rattle.fed_laws.proofs.pending.Stood.{Invariant, Stood, get_at}
 use Rattle.fed_trace.proofs.happens.Taken.{Meets, is_get, facts_taken, outcome_of}
+use Rattle.fed_laws.proofs.pending.Resumed.{stage_resumed}
 use Rattle.fed_laws.proofs.pending.Taken.{asks_at, gives_at}
 use Rattle.fed_laws.proofs.tokens.Token.{row_of_trace, says_none, says_one}
 use Rattle.fed_laws.proofs.turns.Turn.{Turn, Asks, Gives, Goes, gives_token, requests_asks, requests_stage, turn_at}
@@ -140,9 +142,9 @@ stays_or_gives world f (inputs.Choose place id) at = subst (λ st. StaysOrGives 
 stays_or_gives world f inputs.GoOn at = subst (λ st. StaysOrGives (went_on f st)) (sym at) (inl refl)
 stays_or_gives world f inputs.Cancel at = subst (λ st. StaysOrGives (cancelled st)) (sym at) (inl refl)
 stays_or_gives world f inputs.Abort at = inr (_, refl)
-stays_or_gives world f inputs.SignIn at = inl refl
-stays_or_gives world f inputs.Shut at = inl refl
-stays_or_gives world f inputs.Resume at = inl refl
+stays_or_gives world f inputs.SignIn at = subst (λ st. StaysOrGives (asked_to_sign_in f st)) (sym at) (inl refl)
+stays_or_gives world f inputs.Shut at = subst (λ st. StaysOrGives (window_shut st)) (sym at) (inl refl)
+stays_or_gives world f inputs.Resume at = subst (λ st. StaysOrGives (resumed f st)) (sym at) (inl refl)
 
 -- a row that gives the call a result disturbs it
 pub result_disturbs : (call : ℕ) (effects : List Effect) (x : ℕ × Finish) (xs : List (ℕ × Finish))
@@ -232,6 +234,7 @@ awaits_on T line event call page origin new h a calm = go (happens T event call)
     go (Took t) =
         let m : Meets T event call a.facts = record { takes = t; found = a.found } in
         taken m (stays_or_gives (world_at T) a.facts t.input a.at)
+    go (Resumed r) = let no : Window ≡ Asserting = sym (stage_resumed T event call a.facts r a.found) ∙ a.at in absurd (cc)
 
 -- it awaits its token after the row that asks for it
 awaits_first : (T : Trace) (line : ℕ) (event : Event) (kind : CallKind) (call provider : ℕ) (ask : AssertionFields) (cookies : List ℕ)
@@ -289,6 +292,7 @@ awaits_first T line event kind call provider ask cookies b new h began has = go 
     go (Ends e) = never e.asks
     go (Started s) = begins_with s
     go (Took t) = taken t (facts_at T call) refl
+    go (Resumed r) = never r.asks
 
 -- it awaits its token after the rows since
 awaits_since : (header : Header) (since before : List Row) (asking : Row) (kind : CallKind) (call provider : ℕ) (ask : AssertionFields)

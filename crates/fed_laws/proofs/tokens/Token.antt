@@ -32,7 +32,7 @@ use Rattle.fed_trace.specs.Call.{OfDisconnect, kind_of, first_row, input_row}
 use Rattle.fed_laws.proofs.pending.Stood.{Stood, Invariant}
 use Rattle.fed_trace.proofs.happens.Taken.{Meets, Knows, does_it, outcome_of}
 use Rattle.fed_laws.proofs.pending.Taken.{gives_at}
-use Rattle.fed_trace.proofs.happens.Ends.{Happens, Left, Ends, Started, Took, Starts, Takes, event_for}
+use Rattle.fed_trace.proofs.happens.Ends.{Happens, Left, Ends, Started, Took, Resumed, Starts, Takes, event_for}
 use Rattle.fed_trace.proofs.happens.Happens.{happens}
 use Rattle.fed_trace.proofs.happens.Says.{own, outcome_gives, finish_of}
 use Rattle.fed_laws.proofs.turns.Turn.{Turn, Asks, Gives, Goes, IfToken, InReply, requests_gives, turn_at}
@@ -188,6 +188,7 @@ delivered T event call page provider auto token new h has = go (happens T event 
         begins_with s (first_turn (world_at T) s.busy s.begun.origin s.begun.options
         (is_first T event s.begun.page s.begun.call s.begun.options new s.is_event).one)
     go (Took t) = taken t (facts_at T call) refl
+    go (Resumed r) = never r.gives
 
 pub token_lem : OfRuns ReachesItsPage
 token_lem T run after before row call page provider auto token is has =

@@ -10,7 +10,7 @@ use Rattle.fed_origin.specs.declared.options.ProviderOptions.{ProviderOptions}
 use Rattle.fed_origin.specs.declared.stage.ReplyKind.{ReplyKind}
 use Rattle.fed_origin.specs.declared.stage.ReplyKind.TheVariants as kinds
 use Rattle.fed_origin.specs.declared.stage.Stage.{Stage}
-use Rattle.fed_origin.specs.declared.stage.Stage.TheVariants.{Reading, Listing, Mismatch, Choosing, Prompting, Asserting, Ended}
+use Rattle.fed_origin.specs.declared.stage.Stage.TheVariants.{Reading, Listing, Mismatch, Window, Choosing, Prompting, Asserting, Ended}
 use Rattle.fed_provider.specs.declared.config.Config.{Config as Configuration}
 use Rattle.fed_provider.specs.declared.step.ProviderStep.{ProviderStep}
 use Rattle.fed_accounts.specs.declared.account.Account.{Account}
@@ -21,6 +21,7 @@ use Rattle.fed_consent.specs.declared.table.input.Input.TheVariants as inputs
 use Rattle.fed_consent.specs.Consent.{Candidate, Pick, chosen}
 use Rattle.fed_call.specs.Accounts.{accounts_of}
 use Rattle.fed_call.specs.DialogRows.{chose, went_on, cancelled}
+use Rattle.fed_call.specs.WindowRows.{asked_to_sign_in, resumed, window_shut}
 use Rattle.fed_call.specs.Facts.{Facts, by_account, provider_at, reselected, with_choice, with_input, with_list, with_listing, with_offer}
 use Rattle.fed_provider.specs.FirstReplies.{config_read, wellknown_of}
 use Rattle.fed_consent.specs.Outcomes.{Outcome, is_ignored}
@@ -104,6 +105,7 @@ has_at : (world : World) (f : Facts) (stage : Stage) (place : ℕ) (raw : List �
 has_at world f Reading place raw taken = has_by f place raw f.heard f.config (provider_at place f.options) refl taken
 has_at world f Listing place raw taken = absurd (cc)
 has_at world f Mismatch place raw taken = absurd (cc)
+has_at world f Window place raw taken = absurd (cc)
 has_at world f Choosing place raw taken = absurd (cc)
 has_at world f Prompting place raw taken = absurd (cc)
 has_at world f Asserting place raw taken = absurd (cc)
@@ -164,9 +166,21 @@ has_its_provider world f inputs.Cancel = none (list_any is_ignored (input_row wo
     none true = tt
     none false = tt
 has_its_provider world f inputs.Abort = tt
-has_its_provider world f inputs.SignIn = tt
-has_its_provider world f inputs.Shut = tt
-has_its_provider world f inputs.Resume = tt
+has_its_provider world f inputs.SignIn = none (list_any is_ignored (input_row world f inputs.SignIn).effects)
+  where
+    none : (b : Bool) → HasItsProvider b inputs.SignIn f
+    none true = tt
+    none false = tt
+has_its_provider world f inputs.Shut = none (list_any is_ignored (input_row world f inputs.Shut).effects)
+  where
+    none : (b : Bool) → HasItsProvider b inputs.Shut f
+    none true = tt
+    none false = tt
+has_its_provider world f inputs.Resume = none (list_any is_ignored (input_row world f inputs.Resume).effects)
+  where
+    none : (b : Bool) → HasItsProvider b inputs.Resume f
+    none true = tt
+    none false = tt
 
 -- the configuration after an input of a call with one provider is that of the reply that was taken last
 pub config_told : (world : World) (ignored : Bool) (input : Input) (f : Facts) (taken : Option (List ℕ)) → length f.options.providers ≡ 1
@@ -247,6 +261,7 @@ later_config : (world : World) (f : Facts) (stage : Stage) (place : ℕ) (raw : 
 later_config world f Reading place raw later = absurd (later refl)
 later_config world f Listing place raw later = refl
 later_config world f Mismatch place raw later = refl
+later_config world f Window place raw later = refl
 later_config world f Choosing place raw later = refl
 later_config world f Prompting place raw later = refl
 later_config world f Asserting place raw later = refl
@@ -266,6 +281,7 @@ is_reading : (stage : Stage) → (stage ≡ Reading) ⊎ (stage ≡ Reading → 
 is_reading Reading = inl refl
 is_reading Listing = inr (λ h. cc)
 is_reading Mismatch = inr (λ h. cc)
+is_reading Window = inr (λ h. cc)
 is_reading Choosing = inr (λ h. cc)
 is_reading Prompting = inr (λ h. cc)
 is_reading Asserting = inr (λ h. cc)
@@ -300,9 +316,6 @@ keeps_config world f (inputs.Choose place id) h = other_keeps world f (inputs.Ch
 keeps_config world f inputs.GoOn h = other_keeps world f inputs.GoOn (λ st. went_on f st) refl refl h
 keeps_config world f inputs.Cancel h = other_keeps world f inputs.Cancel (λ st. cancelled st) refl refl h
 keeps_config world f inputs.Abort h = AtEnd refl
-keeps_config world f inputs.SignIn (inl at) = AtReading at
-keeps_config world f inputs.SignIn (inr some) = HasOne some
-keeps_config world f inputs.Shut (inl at) = AtReading at
-keeps_config world f inputs.Shut (inr some) = HasOne some
-keeps_config world f inputs.Resume (inl at) = AtReading at
-keeps_config world f inputs.Resume (inr some) = HasOne some
+keeps_config world f inputs.SignIn h = other_keeps world f inputs.SignIn (λ st. asked_to_sign_in f st) refl refl h
+keeps_config world f inputs.Shut h = other_keeps world f inputs.Shut (λ st. window_shut st) refl refl h
+keeps_config world f inputs.Resume h = other_keeps world f inputs.Resume (λ st. resumed f st) refl refl h

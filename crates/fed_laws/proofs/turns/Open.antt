@@ -3,6 +3,7 @@ use Rattle.fed_call.specs.AssertingRows.{asserts}
 use Rattle.fed_call.specs.DialogRows.{agreed_to, chose, choice, settles, goes_on, went_on, cancelled, prompting_reply, metadata_reply}
 use Rattle.fed_call.specs.DialogRows.{links_shown}
 use Rattle.fed_call.specs.Facts.{Facts, provider_at}
+use Rattle.fed_call.specs.WindowRows.{asked_to_sign_in, resumed, window_shut}
 use Rattle.fed_consent.specs.Outcomes.{Outcome, only_place}
 use Rattle.fed_call.specs.Row.{stage_reply, input_row}
 use Rattle.fed_consent.specs.Consent.{AssertionFields, Agreement, Candidate, chosen}
@@ -12,7 +13,7 @@ use Rattle.fed_consent.specs.declared.consent.manner.Manner.TheVariants.{Chosen,
 use Rattle.fed_origin.specs.declared.options.ProviderOptions.{ProviderOptions}
 use Rattle.fed_origin.specs.declared.stage.ReplyKind.{ReplyKind}
 use Rattle.fed_origin.specs.declared.stage.Stage.{Stage}
-use Rattle.fed_origin.specs.declared.stage.Stage.TheVariants.{Reading, Listing, Mismatch, Choosing, Prompting, Asserting, Ended}
+use Rattle.fed_origin.specs.declared.stage.Stage.TheVariants.{Reading, Listing, Mismatch, Window, Choosing, Prompting, Asserting, Ended}
 use Rattle.fed_provider.specs.Metadata.{MetadataOf}
 use Rattle.fed_provider.specs.declared.config.Config.{Config as Configuration}
 use Rattle.fed_provider.specs.declared.metadata.PolicyLinks.{PolicyLinks}
@@ -66,6 +67,7 @@ open_reply world f Prompting at place kind raw opened = open_prompting world f p
 open_reply world f Reading at place kind raw opened = not_open f Reading at refl opened
 open_reply world f Listing at place kind raw opened = not_open f Listing at refl opened
 open_reply world f Mismatch at place kind raw opened = not_open f Mismatch at refl opened
+open_reply world f Window at place kind raw opened = not_open f Window at refl opened
 open_reply world f Asserting at place kind raw opened = not_open f Asserting at refl opened
 open_reply world f Ended at place kind raw opened = not_open f Ended at refl opened
 
@@ -96,6 +98,7 @@ open_chose world f Prompting at place id opened some = Open opened
 open_chose world f Reading at place id opened some = not_open f Reading at refl opened
 open_chose world f Listing at place id opened some = not_open f Listing at refl opened
 open_chose world f Mismatch at place id opened some = not_open f Mismatch at refl opened
+open_chose world f Window at place id opened some = not_open f Window at refl opened
 open_chose world f Asserting at place id opened some = not_open f Asserting at refl opened
 open_chose world f Ended at place id opened some = not_open f Ended at refl opened
 
@@ -119,6 +122,7 @@ open_went_on f Choosing at opened = Open opened
 open_went_on f Reading at opened = not_open f Reading at refl opened
 open_went_on f Listing at opened = not_open f Listing at refl opened
 open_went_on f Mismatch at opened = not_open f Mismatch at refl opened
+open_went_on f Window at opened = not_open f Window at refl opened
 open_went_on f Asserting at opened = not_open f Asserting at refl opened
 open_went_on f Ended at opened = not_open f Ended at refl opened
 
@@ -128,8 +132,39 @@ open_cancelled f Prompting at opened = GivesNow _ refl
 open_cancelled f Reading at opened = not_open f Reading at refl opened
 open_cancelled f Listing at opened = not_open f Listing at refl opened
 open_cancelled f Mismatch at opened = not_open f Mismatch at refl opened
+open_cancelled f Window at opened = not_open f Window at refl opened
 open_cancelled f Asserting at opened = not_open f Asserting at refl opened
 open_cancelled f Ended at opened = not_open f Ended at refl opened
+
+open_sign_in : (f : Facts) (stage : Stage) → f.stage ≡ stage → is_open f.stage ≡ true → StaysOpen f (asked_to_sign_in f stage)
+open_sign_in f Choosing at opened = Open opened
+open_sign_in f Prompting at opened = Open opened
+open_sign_in f Reading at opened = not_open f Reading at refl opened
+open_sign_in f Listing at opened = not_open f Listing at refl opened
+open_sign_in f Mismatch at opened = not_open f Mismatch at refl opened
+open_sign_in f Window at opened = not_open f Window at refl opened
+open_sign_in f Asserting at opened = not_open f Asserting at refl opened
+open_sign_in f Ended at opened = not_open f Ended at refl opened
+
+open_resumed : (f : Facts) (stage : Stage) → f.stage ≡ stage → is_open f.stage ≡ true → StaysOpen f (resumed f stage)
+open_resumed f Choosing at opened = Open opened
+open_resumed f Prompting at opened = Open opened
+open_resumed f Reading at opened = not_open f Reading at refl opened
+open_resumed f Listing at opened = not_open f Listing at refl opened
+open_resumed f Mismatch at opened = not_open f Mismatch at refl opened
+open_resumed f Window at opened = not_open f Window at refl opened
+open_resumed f Asserting at opened = not_open f Asserting at refl opened
+open_resumed f Ended at opened = not_open f Ended at refl opened
+
+open_shut : (f : Facts) (stage : Stage) → f.stage ≡ stage → is_open f.stage ≡ true → StaysOpen f (window_shut stage)
+open_shut f Choosing at opened = Open opened
+open_shut f Prompting at opened = Open opened
+open_shut f Reading at opened = not_open f Reading at refl opened
+open_shut f Listing at opened = not_open f Listing at refl opened
+open_shut f Mismatch at opened = not_open f Mismatch at refl opened
+open_shut f Window at opened = not_open f Window at refl opened
+open_shut f Asserting at opened = not_open f Asserting at refl opened
+open_shut f Ended at opened = not_open f Ended at refl opened
 
 pub open_at : (world : World) (f : Facts) (input : Input) → is_open f.stage ≡ true
     → (f.stage ≡ Choosing → is_some f.config ≡ true)
@@ -139,9 +174,9 @@ open_at world f (inputs.Choose place id) opened some = open_chose world f f.stag
 open_at world f inputs.GoOn opened some = open_went_on f f.stage refl opened
 open_at world f inputs.Cancel opened some = open_cancelled f f.stage refl opened
 open_at world f inputs.Abort opened some = GivesNow _ refl
-open_at world f inputs.SignIn opened some = Open opened
-open_at world f inputs.Shut opened some = Open opened
-open_at world f inputs.Resume opened some = Open opened
+open_at world f inputs.SignIn opened some = open_sign_in f f.stage refl opened
+open_at world f inputs.Shut opened some = open_shut f f.stage refl opened
+open_at world f inputs.Resume opened some = open_resumed f f.stage refl opened
 
 -- ---- metadata make a prompt ready
 

@@ -9,8 +9,8 @@ use Rattle.fed_origin.specs.declared.options.ProviderOptions.{ProviderOptions}
 use Rattle.fed_origin.specs.declared.origin.Origin.{Origin}
 use Rattle.fed_origin.specs.declared.stage.ReplyKind.{ReplyKind}
 use Rattle.fed_origin.specs.declared.stage.Stage.{Stage}
-use Rattle.fed_origin.specs.declared.stage.Stage.TheVariants.{Reading, Listing, Mismatch, Choosing, Prompting, Asserting, Ended}
-use Rattle.fed_origin.specs.declared.status.LoginStatus.TheVariants.{LoggedIn}
+use Rattle.fed_origin.specs.declared.stage.Stage.TheVariants.{Reading, Listing, Mismatch, Window, Choosing, Prompting, Asserting, Ended}
+use Rattle.fed_origin.specs.declared.status.LoginStatus.TheVariants.{LoggedIn, LoggedOut}
 use Rattle.fed_origin.specs.Origin.{origin_text}
 use Rattle.fed_origin.specs.WebUrl.{origin_of}
 use Rattle.fed_provider.specs.declared.config.Config.{Config as Configuration}
@@ -42,9 +42,10 @@ use Rattle.fed_call.specs.Facts.{Facts, provider_at, metadata_endpoint, reselect
 use Rattle.fed_provider.specs.FirstReplies.{config_read, wellknown_of}
 use Rattle.fed_consent.specs.Outcomes.{Outcome, finishes, fails, ignored, stays, moves, after, only_place, is_ignored}
 use Rattle.fed_consent.specs.Failures.{plain, provider_failure, accounts_failure}
-use Rattle.fed_call.specs.ListingRows.{listing_reply, by_accounts, offers, prompt_effect, choice_dialog, by_mismatch}
+use Rattle.fed_call.specs.ListingRows.{listing_reply, by_accounts, offers, prompt_effect, choice_dialog, by_mismatch, by_window}
 use Rattle.fed_call.specs.ListingRows.{is_mismatch, site_of, accepted, accounts_reply, by_reselected, unless_silent}
 use Rattle.fed_call.specs.ReadingRows.{reading_reply, wellknown_reply, config_reply, asks_accounts}
+use Rattle.fed_call.specs.WindowRows.{may_sign_in, opens_window, asked_to_sign_in, asks_again, resumed, window_shut}
 use Rattle.fed_call.specs.Row.{stage_reply, input_row}
 use Rattle.fed_origin.specs.declared.stage.ReplyKind.TheVariants as kinds
 use Rattle.fed_token.specs.declared.step.TokenStep.TheVariants as token_steps
@@ -210,6 +211,9 @@ not_listing h = cc
 not_mismatch : Mismatch ≡ Asserting → ⊥
 not_mismatch h = cc
 
+not_window : Window ≡ Asserting → ⊥
+not_window h = cc
+
 not_choosing : Choosing ≡ Asserting → ⊥
 not_choosing h = cc
 
@@ -262,6 +266,16 @@ turn_refused : (world : World) (f : Facts) (input : Input) (first : CallEffect) 
 turn_refused world f input first place site failure true a =
     turn_moves_after world f input first _ Mismatch a (record { asks = refl; gives = refl; leaves = refl }) not_mismatch
 turn_refused world f input first place site failure false a = turn_after world f input first failure a
+
+-- the login window opens, where the call has its configuration
+turn_window : (world : World) (f : Facts) (input : Input) (first : CallEffect) (place : ℕ) (config : Option Configuration)
+    (other : Outcome) (active : Bool) → IsPlain first → Turn world f input (after first other)
+    → Turn world f input (after first (by_window place config other active))
+turn_window world f input first place None other true a turn = turn_stays_after world f input first a
+turn_window world f input first place (Some config) other true a turn =
+    turn_moves_after world f input first (does.Window place config.login) Window a (record { asks = refl; gives = refl; leaves = refl })
+    not_window
+turn_window world f input first place config other false a turn = turn
 
 -- what comes first of a prompt is plain
 prompt_plain : (world : World) (f : Facts) (place : ℕ) (provider : ProviderOptions) (candidate : Candidate) (connected : Bool)
@@ -332,9 +346,13 @@ turn_accounts : (world : World) (f : Facts) (place : ℕ) (raw : List ℕ) (prov
     → provider_at place f.options ≡ Some provider → (read : Answer (List Account) AccountsStep) → accounts_of raw provider ≡ read
     → Turn world f (inputs.Reply place kinds.Accounts raw) (by_accounts world f place provider read)
 turn_accounts world f place raw provider at has (Err step) reads =
-    turn_refused world f _ _ place (site_of world f.origin) (accounts_failure step)
-    (is_mismatch f.options.mode f.options.mediation (status_of world.login (origin_of provider.config)))
-    (record { asks = refl; gives = refl; leaves = refl })
+    let origin = origin_of provider.config in
+    let mismatch = is_mismatch f.options.mode f.options.mediation (status_of world.login origin) in
+    let site = site_of world f.origin in
+    let leaves : IsPlain (does.SetLogin origin LoggedOut) = record { asks = refl; gives = refl; leaves = refl } in
+    turn_window world f _ (does.SetLogin origin LoggedOut) place f.config (by_mismatch place site (accounts_failure step) mismatch)
+    (may_sign_in f.options.mode f.options.mediation) leaves
+    (turn_refused world f _ (does.SetLogin origin LoggedOut) place site (accounts_failure step) mismatch leaves)
 turn_accounts world f place raw provider at has (Ok accounts) reads =
     turn_reselected world f place raw provider accounts at has reads (reselected world f place provider accounts) refl
 
@@ -446,6 +464,7 @@ turn_reply : (world : World) (f : Facts) (stage : Stage) → f.stage ≡ stage �
 turn_reply world f Reading at place kind raw = turn_reading world f _ place (provider_at place f.options) kind raw
 turn_reply world f Listing at place kind raw = turn_listing world f place kind raw at
 turn_reply world f Mismatch at place kind raw = turn_ignored world f _ NotWaited
+turn_reply world f Window at place kind raw = turn_ignored world f _ NotWaited
 turn_reply world f Choosing at place kind raw = turn_ignored world f _ NotWaited
 turn_reply world f Prompting at place kind raw = turn_prompting world f _ place (provider_at place f.options) kind raw
 turn_reply world f Asserting at place kind raw = turn_asserting world f place kind raw at
@@ -510,6 +529,7 @@ turn_chose world f Choosing at place id =
 turn_chose world f Reading at place id = turn_ignored world f _ NotOffered
 turn_chose world f Listing at place id = turn_ignored world f _ NotOffered
 turn_chose world f Mismatch at place id = turn_ignored world f _ NotOffered
+turn_chose world f Window at place id = turn_ignored world f _ NotOffered
 turn_chose world f Prompting at place id = turn_ignored world f _ NotOffered
 turn_chose world f Asserting at place id = turn_ignored world f _ NotOffered
 turn_chose world f Ended at place id = turn_ignored world f _ NotOffered
@@ -537,6 +557,7 @@ turn_went_on world f Prompting at = turn_goes_on world f at f.waits refl f.picke
 turn_went_on world f Reading at = turn_ignored world f _ NotOffered
 turn_went_on world f Listing at = turn_ignored world f _ NotOffered
 turn_went_on world f Mismatch at = turn_ignored world f _ NotOffered
+turn_went_on world f Window at = turn_ignored world f _ NotOffered
 turn_went_on world f Choosing at = turn_ignored world f _ NotOffered
 turn_went_on world f Asserting at = turn_ignored world f _ NotOffered
 turn_went_on world f Ended at = turn_ignored world f _ NotOffered
@@ -545,10 +566,54 @@ turn_cancelled : (world : World) (f : Facts) (stage : Stage) → Turn world f in
 turn_cancelled world f Reading = turn_ignored world f _ NotOffered
 turn_cancelled world f Listing = turn_ignored world f _ NotOffered
 turn_cancelled world f Mismatch = turn_fails world f _ (plain steps.UserCancelled)
+turn_cancelled world f Window = turn_ignored world f _ NotOffered
 turn_cancelled world f Choosing = turn_fails world f _ (plain steps.UserCancelled)
 turn_cancelled world f Prompting = turn_fails world f _ (plain steps.UserCancelled)
 turn_cancelled world f Asserting = turn_ignored world f _ NotOffered
 turn_cancelled world f Ended = turn_ignored world f _ NotOffered
+
+-- ---- signing in at the provider
+
+turn_opens : (world : World) (f : Facts) (input : Input) (place : ℕ) (config : Option Configuration)
+    → Turn world f input (opens_window place config)
+turn_opens world f input place None = turn_stays world f input
+turn_opens world f input place (Some config) =
+    turn_moves world f input Window (does.Window place config.login) (record { asks = refl; gives = refl; leaves = refl }) not_window
+
+turn_sign_in : (world : World) (f : Facts) (stage : Stage) → Turn world f inputs.SignIn (asked_to_sign_in f stage)
+turn_sign_in world f Mismatch = turn_opens world f _ only_place f.config
+turn_sign_in world f Reading = turn_ignored world f _ NotOffered
+turn_sign_in world f Listing = turn_ignored world f _ NotOffered
+turn_sign_in world f Window = turn_ignored world f _ NotOffered
+turn_sign_in world f Choosing = turn_ignored world f _ NotOffered
+turn_sign_in world f Prompting = turn_ignored world f _ NotOffered
+turn_sign_in world f Asserting = turn_ignored world f _ NotOffered
+turn_sign_in world f Ended = turn_ignored world f _ NotOffered
+
+turn_again : (world : World) (f : Facts) (input : Input) (place : ℕ) (config : Option Configuration)
+    → Turn world f input (asks_again place config)
+turn_again world f input place None = turn_stays world f input
+turn_again world f input place (Some config) = turn_asks_accounts world f input place config
+
+turn_resumed : (world : World) (f : Facts) (stage : Stage) → Turn world f inputs.Resume (resumed f stage)
+turn_resumed world f Window = turn_again world f _ only_place f.config
+turn_resumed world f Reading = turn_ignored world f _ NotOffered
+turn_resumed world f Listing = turn_ignored world f _ NotOffered
+turn_resumed world f Mismatch = turn_ignored world f _ NotOffered
+turn_resumed world f Choosing = turn_ignored world f _ NotOffered
+turn_resumed world f Prompting = turn_ignored world f _ NotOffered
+turn_resumed world f Asserting = turn_ignored world f _ NotOffered
+turn_resumed world f Ended = turn_ignored world f _ NotOffered
+
+turn_shut : (world : World) (f : Facts) (stage : Stage) → Turn world f inputs.Shut (window_shut stage)
+turn_shut world f Window = turn_fails world f _ (plain steps.WindowShut)
+turn_shut world f Reading = turn_ignored world f _ NotOffered
+turn_shut world f Listing = turn_ignored world f _ NotOffered
+turn_shut world f Mismatch = turn_ignored world f _ NotOffered
+turn_shut world f Choosing = turn_ignored world f _ NotOffered
+turn_shut world f Prompting = turn_ignored world f _ NotOffered
+turn_shut world f Asserting = turn_ignored world f _ NotOffered
+turn_shut world f Ended = turn_ignored world f _ NotOffered
 
 pub turn_at : (world : World) (f : Facts) (input : Input) → Turn world f input (input_row world f input)
 turn_at world f (inputs.Reply place kind raw) = turn_reply world f f.stage refl place kind raw
@@ -556,6 +621,6 @@ turn_at world f (inputs.Choose place id) = turn_chose world f f.stage refl place
 turn_at world f inputs.GoOn = turn_went_on world f f.stage refl
 turn_at world f inputs.Cancel = turn_cancelled world f f.stage
 turn_at world f inputs.Abort = turn_fails world f inputs.Abort (plain steps.Aborted)
-turn_at world f inputs.SignIn = turn_ignored world f inputs.SignIn NotOffered
-turn_at world f inputs.Shut = turn_ignored world f inputs.Shut NotOffered
-turn_at world f inputs.Resume = turn_ignored world f inputs.Resume NotOffered
+turn_at world f inputs.SignIn = turn_sign_in world f f.stage
+turn_at world f inputs.Shut = turn_shut world f f.stage
+turn_at world f inputs.Resume = turn_resumed world f f.stage

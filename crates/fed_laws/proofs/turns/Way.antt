@@ -11,7 +11,7 @@ use Rattle.fed_origin.specs.declared.options.ProviderOptions.{ProviderOptions}
 use Rattle.fed_origin.specs.declared.stage.ReplyKind.{ReplyKind}
 use Rattle.fed_origin.specs.declared.stage.ReplyKind.TheVariants as kinds
 use Rattle.fed_origin.specs.declared.stage.Stage.{Stage}
-use Rattle.fed_origin.specs.declared.stage.Stage.TheVariants.{Reading, Listing, Mismatch, Choosing, Prompting, Asserting, Ended}
+use Rattle.fed_origin.specs.declared.stage.Stage.TheVariants.{Reading, Listing, Mismatch, Window, Choosing, Prompting, Asserting, Ended}
 use Rattle.fed_origin.specs.declared.status.LoginStatus.TheVariants.{LoggedIn}
 use Rattle.fed_origin.specs.Origin.{origin_text}
 use Rattle.fed_origin.specs.WebUrl.{origin_of}
@@ -43,8 +43,9 @@ use Rattle.fed_provider.specs.FirstReplies.{config_read, wellknown_of}
 use Rattle.fed_consent.specs.Outcomes.{Outcome, ignored, after, only_place, is_ignored}
 use Rattle.fed_consent.specs.Failures.{accounts_failure}
 use Rattle.fed_call.specs.ListingRows.{listing_reply, accounts_reply, by_accounts, offers, prompt_effect, choice_dialog, by_mismatch}
-use Rattle.fed_call.specs.ListingRows.{is_mismatch, site_of, by_reselected, unless_silent}
+use Rattle.fed_call.specs.ListingRows.{by_window, is_mismatch, site_of, by_reselected, unless_silent}
 use Rattle.fed_call.specs.ReadingRows.{reading_reply, wellknown_reply, config_reply}
+use Rattle.fed_call.specs.WindowRows.{may_sign_in, asked_to_sign_in, opens_window, asks_again, resumed, window_shut}
 use Rattle.fed_call.specs.Row.{stage_reply, input_row}
 use Rattle.fed_laws.proofs.turns.Turn.{gives_token}
 
@@ -55,6 +56,7 @@ is_open Prompting = true
 is_open Reading = false
 is_open Listing = false
 is_open Mismatch = false
+is_open Window = false
 is_open Asserting = false
 is_open Ended = false
 
@@ -167,6 +169,13 @@ way_refused : (world : World) (f : Facts) (input : Input) (first : CallEffect) (
 way_refused world f input first place site failure true = Elsewhere refl
 way_refused world f input first place site failure false = Elsewhere refl
 
+way_window : (world : World) (f : Facts) (input : Input) (first : CallEffect) (place : ℕ) (config : Option Configuration)
+    (other : Outcome) (active : Bool) → is_open f.stage ≡ false → Way world f input (after first other)
+    → Way world f input (after first (by_window place config other active))
+way_window world f input first place None other true at way = Elsewhere at
+way_window world f input first place (Some config) other true at way = Elsewhere refl
+way_window world f input first place config other false at way = way
+
 pub prompt_taken : (world : World) (f : Facts) (place : ℕ) (provider : ProviderOptions) (candidate : Candidate) (connected : Bool)
     (endpoint : Option Parts)
     → is_ignored (prompt_effect world f place provider candidate connected endpoint) ≡ false
@@ -240,8 +249,9 @@ way_accounts : (world : World) (f : Facts) (place : ℕ) (raw : List ℕ) (provi
     → provider_at place f.options ≡ Some provider → accounts_of raw provider ≡ read
     → Way world f (inputs.Reply place kinds.Accounts raw) (by_accounts world f place provider read)
 way_accounts world f place raw provider (Err step) at has reads =
-    way_refused world f _ _ place (site_of world f.origin) (accounts_failure step)
-    (is_mismatch f.options.mode f.options.mediation (status_of world.login (origin_of provider.config)))
+    way_window world f _ _ place f.config _ (may_sign_in f.options.mode f.options.mediation) (ap is_open at)
+    (way_refused world f _ _ place (site_of world f.origin) (accounts_failure step)
+    (is_mismatch f.options.mode f.options.mediation (status_of world.login (origin_of provider.config))))
 way_accounts world f place raw provider (Ok accounts) at has reads =
     way_reselected world f place raw provider accounts at has reads (reselected world f place provider accounts) refl
 
@@ -324,6 +334,7 @@ way_reply : (world : World) (f : Facts) (stage : Stage) → f.stage ≡ stage �
 way_reply world f Reading at place kind raw = way_reading world f _ place (provider_at place f.options) kind raw (ap is_open at)
 way_reply world f Listing at place kind raw = way_listing world f place kind raw at
 way_reply world f Mismatch at place kind raw = Elsewhere (ap is_open at)
+way_reply world f Window at place kind raw = Elsewhere (ap is_open at)
 way_reply world f Choosing at place kind raw = open_ignored world f _ _ (ap is_open at) (λ other. reply_chooses_none f place kind raw)
 way_reply world f Prompting at place kind raw = way_prompting world f place kind raw at
 way_reply world f Asserting at place kind raw = way_asserting world f _ place (provider_at place f.options) kind raw at
@@ -387,6 +398,7 @@ way_chose world f Prompting at some place id = open_ignored world f _ _ (ap is_o
 way_chose world f Reading at some place id = Elsewhere (ap is_open at)
 way_chose world f Listing at some place id = Elsewhere (ap is_open at)
 way_chose world f Mismatch at some place id = Elsewhere (ap is_open at)
+way_chose world f Window at some place id = Elsewhere (ap is_open at)
 way_chose world f Asserting at some place id = Elsewhere (ap is_open at)
 way_chose world f Ended at some place id = Elsewhere (ap is_open at)
 
@@ -416,6 +428,7 @@ way_went_on world f Choosing at = open_ignored world f _ _ (ap is_open at) (λ o
 way_went_on world f Reading at = Elsewhere (ap is_open at)
 way_went_on world f Listing at = Elsewhere (ap is_open at)
 way_went_on world f Mismatch at = Elsewhere (ap is_open at)
+way_went_on world f Window at = Elsewhere (ap is_open at)
 way_went_on world f Asserting at = Elsewhere (ap is_open at)
 way_went_on world f Ended at = Elsewhere (ap is_open at)
 
@@ -423,17 +436,58 @@ way_cancelled : (world : World) (f : Facts) (stage : Stage) → f.stage ≡ stag
 way_cancelled world f Reading at = Elsewhere (ap is_open at)
 way_cancelled world f Listing at = Elsewhere (ap is_open at)
 way_cancelled world f Mismatch at = Elsewhere refl
+way_cancelled world f Window at = Elsewhere (ap is_open at)
 way_cancelled world f Choosing at = Elsewhere refl
 way_cancelled world f Prompting at = Elsewhere refl
 way_cancelled world f Asserting at = Elsewhere (ap is_open at)
 way_cancelled world f Ended at = Elsewhere (ap is_open at)
 
--- an input that no event brings yet is ignored
-way_none : (world : World) (f : Facts) (input : Input) (why : Why) → ChoosesNone f input → (open_now : Bool)
-    → is_open f.stage ≡ open_now
-    → Way world f input (ignored why)
-way_none world f input why none true at = open_ignored world f input why at (λ other. none)
-way_none world f input why none false at = Elsewhere at
+-- ---- signing in at the provider
+
+-- at a dialog the user is not asked to sign in
+way_none : (world : World) (f : Facts) (stage : Stage) (input : Input) (why : Why) → f.stage ≡ stage → is_open stage ≡ true
+    → ChoosesNone f input → Way world f input (ignored why)
+way_none world f stage input why at opened none = open_ignored world f input why (ap is_open at ∙ opened) (λ other. none)
+
+way_opens : (world : World) (f : Facts) (input : Input) (place : ℕ) (config : Option Configuration) → is_open f.stage ≡ false
+    → Way world f input (opens_window place config)
+way_opens world f input place None at = Elsewhere at
+way_opens world f input place (Some config) at = Elsewhere refl
+
+way_sign_in : (world : World) (f : Facts) (stage : Stage) → f.stage ≡ stage → Way world f inputs.SignIn (asked_to_sign_in f stage)
+way_sign_in world f Mismatch at = way_opens world f _ only_place f.config (ap is_open at)
+way_sign_in world f Choosing at = way_none world f Choosing _ _ at refl (λ place id is. absurd (cc))
+way_sign_in world f Prompting at = way_none world f Prompting _ _ at refl (λ place id is. absurd (cc))
+way_sign_in world f Reading at = Elsewhere (ap is_open at)
+way_sign_in world f Listing at = Elsewhere (ap is_open at)
+way_sign_in world f Window at = Elsewhere (ap is_open at)
+way_sign_in world f Asserting at = Elsewhere (ap is_open at)
+way_sign_in world f Ended at = Elsewhere (ap is_open at)
+
+way_again : (world : World) (f : Facts) (input : Input) (place : ℕ) (config : Option Configuration) → is_open f.stage ≡ false
+    → Way world f input (asks_again place config)
+way_again world f input place None at = Elsewhere at
+way_again world f input place (Some config) at = Elsewhere refl
+
+way_resumed : (world : World) (f : Facts) (stage : Stage) → f.stage ≡ stage → Way world f inputs.Resume (resumed f stage)
+way_resumed world f Window at = way_again world f _ only_place f.config (ap is_open at)
+way_resumed world f Choosing at = way_none world f Choosing _ _ at refl (λ place id is. absurd (cc))
+way_resumed world f Prompting at = way_none world f Prompting _ _ at refl (λ place id is. absurd (cc))
+way_resumed world f Reading at = Elsewhere (ap is_open at)
+way_resumed world f Listing at = Elsewhere (ap is_open at)
+way_resumed world f Mismatch at = Elsewhere (ap is_open at)
+way_resumed world f Asserting at = Elsewhere (ap is_open at)
+way_resumed world f Ended at = Elsewhere (ap is_open at)
+
+way_shut : (world : World) (f : Facts) (stage : Stage) → f.stage ≡ stage → Way world f inputs.Shut (window_shut stage)
+way_shut world f Window at = Elsewhere refl
+way_shut world f Choosing at = way_none world f Choosing _ _ at refl (λ place id is. absurd (cc))
+way_shut world f Prompting at = way_none world f Prompting _ _ at refl (λ place id is. absurd (cc))
+way_shut world f Reading at = Elsewhere (ap is_open at)
+way_shut world f Listing at = Elsewhere (ap is_open at)
+way_shut world f Mismatch at = Elsewhere (ap is_open at)
+way_shut world f Asserting at = Elsewhere (ap is_open at)
+way_shut world f Ended at = Elsewhere (ap is_open at)
 
 pub way_at : (world : World) (f : Facts) (input : Input) → (f.stage ≡ Choosing → is_some f.config ≡ true)
     → Way world f input (input_row world f input)
@@ -442,6 +496,6 @@ way_at world f (inputs.Choose place id) some = way_chose world f f.stage refl so
 way_at world f inputs.GoOn some = way_went_on world f f.stage refl
 way_at world f inputs.Cancel some = way_cancelled world f f.stage refl
 way_at world f inputs.Abort some = Elsewhere refl
-way_at world f inputs.SignIn some = way_none world f inputs.SignIn _ (λ place id is. absurd (cc)) (is_open f.stage) refl
-way_at world f inputs.Shut some = way_none world f inputs.Shut _ (λ place id is. absurd (cc)) (is_open f.stage) refl
-way_at world f inputs.Resume some = way_none world f inputs.Resume _ (λ place id is. absurd (cc)) (is_open f.stage) refl
+way_at world f inputs.SignIn some = way_sign_in world f f.stage refl
+way_at world f inputs.Shut some = way_shut world f f.stage refl
+way_at world f inputs.Resume some = way_resumed world f f.stage refl

@@ -6,13 +6,15 @@ use Rattle.fed_origin.specs.declared.options.Context.{Context}
 use Rattle.fed_origin.specs.declared.options.Context.TheVariants.{SignIn, SignUp, UseHere, GoOn}
 use Rattle.fed_origin.specs.declared.options.Mediation.{Mediation}
 use Rattle.fed_origin.specs.declared.options.Mediation.TheVariants.{Silent, Optional, Required}
+use Rattle.fed_origin.specs.declared.options.Mode.{Mode}
+use Rattle.fed_origin.specs.declared.options.Mode.TheVariants.{Passive, Active}
 use Rattle.fed_origin.specs.declared.stage.ReplyKind.{ReplyKind}
 use Rattle.fed_origin.specs.declared.stage.ReplyKind.TheVariants.{WellKnown, Config, Accounts, Metadata, Assertion, Disconnect}
 use Rattle.fed_origin.specs.declared.status.LoginStatus.{LoginStatus}
 use Rattle.fed_origin.specs.declared.status.LoginStatus.TheVariants.{Unknown, LoggedIn, LoggedOut}
 use Rattle.fed_origin.specs.Laws.{WordsAgree}
-use Rattle.fed_origin.specs.Words.{mediation_text, mediation_of_word, context_text, context_of_word, kind_text, kind_of_word}
-use Rattle.fed_origin.specs.Words.{status_text, is_text, status_of_word}
+use Rattle.fed_origin.specs.Words.{mediation_text, mediation_of_word, mode_text, mode_of_word, context_text, context_of_word}
+use Rattle.fed_origin.specs.Words.{kind_text, kind_of_word, status_text, is_text, status_of_word}
 
 -- what is found passes the test
 passes : {A : Type 0} (p : A → Bool) (xs : List A) (x : A) → find p xs ≡ Some x → p x ≡ true
@@ -33,6 +35,15 @@ mediation_text-of_word : (mediation : Mediation) (word : List ℕ) → mediation
 mediation_text-of_word mediation word read =
     let test : Mediation → Bool = λ x. bytes_eq word (mediation_text x) in
     (bytes_eq-Decides word (mediation_text mediation)).0 (passes test (Silent ∷ Optional ∷ Required ∷ []) mediation read)
+
+mode_word : (mode : Mode) → mode_of_word (mode_text mode) ≡ Some mode
+mode_word Passive = refl
+mode_word Active = refl
+
+mode_text-of_word : (mode : Mode) (word : List ℕ) → mode_of_word word ≡ Some mode → word ≡ mode_text mode
+mode_text-of_word mode word read =
+    let test : Mode → Bool = λ x. bytes_eq word (mode_text x) in
+    (bytes_eq-Decides word (mode_text mode)).0 (passes test (Passive ∷ Active ∷ []) mode read)
 
 context_word : (context : Context) → context_of_word (context_text context) ≡ Some context
 context_word SignIn = refl
@@ -76,6 +87,7 @@ status_text-of_word status word read =
 pub words_agree : WordsAgree
 words_agree = record {
   mediations = λ mediation word. (mediation_text-of_word mediation word, λ is. ap mediation_of_word is ∙ mediation_word mediation);
+  modes = λ mode word. (mode_text-of_word mode word, λ is. ap mode_of_word is ∙ mode_word mode);
   contexts = λ context word. (context_text-of_word context word, λ is. ap context_of_word is ∙ context_word context);
   kinds = λ kind word. (kind_text-of_word kind word, λ is. ap kind_of_word is ∙ kind_word kind);
   statuses = λ status word. (status_text-of_word status word, status_word status word);

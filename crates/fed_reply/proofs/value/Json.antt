@@ -13,7 +13,7 @@ use Rattle.fed_reply.specs.declared.step.ReplyStep.{ReplyStep}
 use Rattle.fed_reply.specs.declared.step.ReplyStep.TheVariants.{Status, Mime}
 use Rattle.fed_reply.specs.Parts.{ReplyParts}
 use Rattle.fed_reply.specs.Fields.{fields_of, value_at}
-use Rattle.fed_reply.specs.Body.{framing_of, framed, body_of}
+use Rattle.fed_reply.specs.Body.{framed, body_of}
 use Rattle.fed_reply.specs.Steps.{and_then, with_ok}
 use Rattle.fed_reply.specs.Reply.{FrontOf, ReplyOf, reply_with}
 use Rattle.fed_reply.specs.Json.{is_success, is_json_type, JsonOf, ReplyJsonOf, refusal, body_value, IsJsonHeadOf}

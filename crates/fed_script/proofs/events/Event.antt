@@ -14,7 +14,8 @@ use Rattle.fed_script.specs.Member.{url_of}
 use Rattle.fed_script.specs.Raw.{optional_bytes, required_bytes}
 use Rattle.fed_script.specs.Status.{setstatus_of}
 use Rattle.fed_script.specs.Have.{login_of, kept_of, silent_of, cookie_of, said, have_of}
-use Rattle.fed_script.specs.Single.{at_of, closepage_of, abort_of, go_on_of, cancel_of, prevent_of}
+use Rattle.fed_script.specs.Single.{at_of, closepage_of, abort_of, go_on_of, cancel_of, signin_of, shutwindow_of}
+use Rattle.fed_script.specs.Single.{idpclose_of, prevent_of}
 use Rattle.fed_script.specs.Load.{load_of}
 use Rattle.fed_script.specs.Get.{get_members, get_of}
 use Rattle.fed_script.specs.Reply.{reply_of}
@@ -107,6 +108,15 @@ go_on_good d = always Good (required as_u32 names.Call d) _ (λ call. (tt, tt))
 cancel_good : (d : Data) → IfOk (cancel_of d) Good
 cancel_good d = always Good (required as_u32 names.Call d) _ (λ call. (tt, tt))
 
+signin_good : (d : Data) → IfOk (signin_of d) Good
+signin_good d = always Good (required as_u32 names.Call d) _ (λ call. (tt, tt))
+
+shutwindow_good : (d : Data) → IfOk (shutwindow_of d) Good
+shutwindow_good d = always Good (required as_u32 names.Call d) _ (λ call. (tt, tt))
+
+idpclose_good : (d : Data) → IfOk (idpclose_of d) Good
+idpclose_good d = always Good (required as_u32 names.Page d) _ (λ page. (tt, tt))
+
 prevent_good : (d : Data) → IfOk (prevent_of d) Good
 prevent_good d = always Good (required as_u32 names.Page d) _ (λ page. (tt, tt))
 
@@ -140,30 +150,35 @@ setstatus_good d =
     always Good (required as_u32 names.Page d) _
     (λ page. after IsKnown Good (required (as_word status_of_word) names.Status d) _ (known d) (λ status so. (tt, so)))
 
-one_good : (d : Data) (cause : LineCause) (a b c e f g h i j k l m n : Bool)
+one_good : (d : Data) (cause : LineCause) (a b c e f g h i j k l m n o p q : Bool)
     → IfOk (cond a (have_of d) (cond b (at_of d) (cond c (load_of d) (cond e (closepage_of d) (cond f (get_of d)
-    (cond g (abort_of d) (cond h (go_on_of d) (cond i (cancel_of d) (cond j (reply_of d) (cond k (choose_of d)
-    (cond l (prevent_of d) (cond m (setstatus_of d) (cond n (disconnect_of d) (Err cause)))))))))))))) Good
-one_good d cause true b c e f g h i j k l m n = have_good d
-one_good d cause false true c e f g h i j k l m n = at_good d
-one_good d cause false false true e f g h i j k l m n = load_good d
-one_good d cause false false false true f g h i j k l m n = closepage_good d
-one_good d cause false false false false true g h i j k l m n = get_good d
-one_good d cause false false false false false true h i j k l m n = abort_good d
-one_good d cause false false false false false false true i j k l m n = go_on_good d
-one_good d cause false false false false false false false true j k l m n = cancel_good d
-one_good d cause false false false false false false false false true k l m n = reply_good d
-one_good d cause false false false false false false false false false true l m n = choose_good d
-one_good d cause false false false false false false false false false false true m n = prevent_good d
-one_good d cause false false false false false false false false false false false true n = setstatus_good d
-one_good d cause false false false false false false false false false false false false true = disconnect_good d
-one_good d cause false false false false false false false false false false false false false = tt
+    (cond g (abort_of d) (cond h (go_on_of d) (cond i (cancel_of d) (cond j (signin_of d) (cond k (shutwindow_of d)
+    (cond l (reply_of d) (cond m (choose_of d) (cond n (idpclose_of d) (cond o (prevent_of d) (cond p (setstatus_of d)
+    (cond q (disconnect_of d) (Err cause))))))))))))))))) Good
+one_good d cause true b c e f g h i j k l m n o p q = have_good d
+one_good d cause false true c e f g h i j k l m n o p q = at_good d
+one_good d cause false false true e f g h i j k l m n o p q = load_good d
+one_good d cause false false false true f g h i j k l m n o p q = closepage_good d
+one_good d cause false false false false true g h i j k l m n o p q = get_good d
+one_good d cause false false false false false true h i j k l m n o p q = abort_good d
+one_good d cause false false false false false false true i j k l m n o p q = go_on_good d
+one_good d cause false false false false false false false true j k l m n o p q = cancel_good d
+one_good d cause false false false false false false false false true k l m n o p q = signin_good d
+one_good d cause false false false false false false false false false true l m n o p q = shutwindow_good d
+one_good d cause false false false false false false false false false false true m n o p q = reply_good d
+one_good d cause false false false false false false false false false false false true n o p q = choose_good d
+one_good d cause false false false false false false false false false false false false true o p q = idpclose_good d
+one_good d cause false false false false false false false false false false false false false true p q = prevent_good d
+one_good d cause false false false false false false false false false false false false false false true q = setstatus_good d
+one_good d cause false false false false false false false false false false false false false false false true = disconnect_good d
+one_good d cause false false false false false false false false false false false false false false false false = tt
 
 kind_good : (kind : List ℕ) (d : Data) → IfOk (event_of_kind kind d) Good
 kind_good kind d =
     one_good d _ (bytes_eq kind (codes "have")) (bytes_eq kind (codes "at")) (bytes_eq kind (codes "load"))
     (bytes_eq kind (codes "closepage")) (bytes_eq kind (codes "get")) (bytes_eq kind (codes "abort")) (bytes_eq kind (codes "continue"))
-    (bytes_eq kind (codes "cancel")) (bytes_eq kind (codes "reply")) (bytes_eq kind (codes "choose")) (bytes_eq kind (codes "prevent"))
+    (bytes_eq kind (codes "cancel")) (bytes_eq kind (codes "signin")) (bytes_eq kind (codes "shutwindow")) (bytes_eq kind (codes "reply"))
+    (bytes_eq kind (codes "choose")) (bytes_eq kind (codes "idpclose")) (bytes_eq kind (codes "prevent"))
     (bytes_eq kind (codes "setstatus")) (bytes_eq kind (codes "disconnect"))
 
 named_good : (line : List ℕ) → IfOk (event_named line) Good

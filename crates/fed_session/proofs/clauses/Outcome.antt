@@ -14,13 +14,15 @@ use Rattle.fed_consent.specs.declared.table.effect.Effect.TheVariants as does
 use Rattle.fed_consent.specs.declared.table.input.Input.{Input}
 use Rattle.fed_call.specs.Facts.{Facts, next_facts}
 use Rattle.fed_call.specs.Row.{call_row}
+use Rattle.fed_call.specs.WindowRows.{awaited_by}
+use Rattle.fed_disconnect.specs.Facts.{DisconnectFacts}
 use Rattle.fed_trace.specs.Begun.{CallKind}
-use Rattle.fed_trace.specs.Call.{OfGet}
+use Rattle.fed_trace.specs.Call.{OfGet, OfDisconnect}
 use Rattle.fed_trace.specs.Effect.{Effect, Sent, Shown, Window, Result, Ignored, login_change}
 use Rattle.fed_trace.specs.Keyed.{entries_after}
 use Rattle.fed_trace.specs.Records.{record_of, records_of}
 use Rattle.fed_trace.specs.Row.{call_effects, moves, outcome_effects}
-use Rattle.fed_session.specs.StepParts.{call_record, call_records, login_after, outcome_at, kept_next}
+use Rattle.fed_session.specs.StepParts.{call_record, call_records, login_after, awaited_in, outcome_at, kept_next}
 use Rattle.fed_trace.specs.declared.out.Out.{Out}
 use Rattle.fed_trace.proofs.keyed.Keyed.{entries_after-append}
 use Rattle.fed_trace.proofs.effects.Silent.{goes_silent, goes_changes_none}
@@ -124,6 +126,16 @@ pub get_does : (world : World) (facts : Option Facts) (input : Input)
     → (call_row world facts input).effects ≡ (outcome_at world true (option_map OfGet facts) input).effects
 get_does world None input = refl
 get_does world (Some facts) input = refl
+
+-- what it waits for is what is awaited by a call that is known so
+pub get_awaits : (facts : Option Facts) → awaited_by facts ≡ awaited_in (option_map OfGet facts)
+get_awaits None = refl
+get_awaits (Some facts) = refl
+
+-- a disconnect waits for nothing
+pub disconnect_awaits : (facts : Option DisconnectFacts) → awaited_in (option_map OfDisconnect facts) ≡ None
+disconnect_awaits None = refl
+disconnect_awaits (Some facts) = refl
 
 -- and what is known of it then is what is kept of that call
 pub get_becomes : (world : World) (facts : Option Facts) (input : Input)

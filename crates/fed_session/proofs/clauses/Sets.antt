@@ -42,11 +42,13 @@ use Rattle.fed_call.specs.Facts.{Facts, provider_at, metadata_endpoint, reselect
 use Rattle.fed_provider.specs.FirstReplies.{config_read, wellknown_of}
 use Rattle.fed_consent.specs.Outcomes.{Outcome, finishes, only_place}
 use Rattle.fed_call.specs.ListingRows.{is_mismatch, by_mismatch, prompt_effect, prompts, offers, by_accounts, accounts_reply, listing_reply}
-use Rattle.fed_call.specs.ListingRows.{site_of, unless_silent, by_reselected}
-use Rattle.fed_call.specs.ReadingRows.{start_at, by_scheme, by_silence, by_gate, is_gated, is_prevented, first_wellknown}
+use Rattle.fed_call.specs.ListingRows.{site_of, by_window, unless_silent, by_reselected}
+use Rattle.fed_call.specs.ReadingRows.{start_at, by_scheme, by_site, by_silence, by_gate, is_gated, is_prevented, lacks_activation}
+use Rattle.fed_call.specs.ReadingRows.{first_wellknown}
 use Rattle.fed_call.specs.ReadingRows.{first_config, wellknown_reply, config_reply, reading_reply}
 use Rattle.fed_call.specs.Row.{stage_reply}
 use Rattle.fed_call.specs.Row as get
+use Rattle.fed_call.specs.WindowRows.{may_sign_in, opens_window, asked_to_sign_in, asks_again, resumed, window_shut}
 use Rattle.fed_origin.specs.Origin.{origin_text}
 use Rattle.fed_origin.specs.declared.status.Triple.{Triple}
 use Rattle.fed_token.specs.declared.step.TokenStep.{TokenStep}
@@ -94,18 +96,23 @@ silence_sets : (place : ℕ) (config wellknown : Parts) (prevented gated : Bool)
 silence_sets place config wellknown true gated = (tt, tt)
 silence_sets place config wellknown false gated = gate_sets place config wellknown gated
 
-scheme_sets : (place : ℕ) (scheme : Scheme) (config : Parts) (wellknown : Result Parts ProviderStep) (prevented gated : Bool)
-    → Sets (by_scheme place scheme config wellknown prevented gated)
-scheme_sets place Http config wellknown prevented gated = (tt, tt)
-scheme_sets place Https config (Err step) prevented gated = (tt, tt)
-scheme_sets place Https config (Ok wellknown) prevented gated = silence_sets place config wellknown prevented gated
+site_sets : (place : ℕ) (config : Parts) (wellknown : Result Parts ProviderStep) (prevented gated : Bool)
+    → Sets (by_site place config wellknown prevented gated)
+site_sets place config (Err step) prevented gated = (tt, tt)
+site_sets place config (Ok wellknown) prevented gated = silence_sets place config wellknown prevented gated
+
+scheme_sets : (place : ℕ) (scheme : Scheme) (config : Parts) (wellknown : Result Parts ProviderStep) (lacking prevented gated : Bool)
+    → Sets (by_scheme place scheme config wellknown lacking prevented gated)
+scheme_sets place Http config wellknown lacking prevented gated = (tt, tt)
+scheme_sets place Https config wellknown true prevented gated = (tt, tt)
+scheme_sets place Https config wellknown false prevented gated = site_sets place config wellknown prevented gated
 
 start_sets : (world : World) (origin : Origin) (options : GetOptions) (place : ℕ) (provider : Option ProviderOptions)
     → Sets (start_at world origin options place provider)
 start_sets world origin options place None = tt
 start_sets world origin options place (Some provider) =
     scheme_sets place (scheme_of provider.config) provider.config (WellKnownUrlOf world.rules provider.config)
-    (is_prevented options.mediation (has_flag world.flags origin))
+    (lacks_activation options.mode options.activation) (is_prevented options.mediation (has_flag world.flags origin))
     (is_gated options.mode (status_of world.login (origin_of provider.config)))
 
 get_sets : (world : World) (busy : Bool) (origin : Origin) (options : GetOptions) → Sets (get_outcome world busy origin options)
@@ -155,6 +162,15 @@ mismatch_sets : (provider : Origin) (place : ℕ) (site : List ℕ) (failure : F
 mismatch_sets provider place site failure true = (tt, tt)
 mismatch_sets provider place site failure false = (tt, tt)
 
+opens_next : (place : ℕ) (config : Option Config) → AllByRecursion Next (opens_window place config).effects
+opens_next place None = tt
+opens_next place (Some config) = (tt, tt)
+
+window_sets : (place : ℕ) (config : Option Config) (other : Outcome) (signs_in : Bool) → AllByRecursion Next other.effects
+    → AllByRecursion Next (by_window place config other signs_in).effects
+window_sets place config other true next = opens_next place config
+window_sets place config other false next = next
+
 prompt_sets : (world : World) (facts : Facts) (place : ℕ) (provider : ProviderOptions) (candidate : Candidate) (connected : Bool)
     (endpoint : Option Parts) → Next (prompt_effect world facts place provider candidate connected endpoint)
 prompt_sets world facts place provider candidate true endpoint = tt
@@ -198,8 +214,9 @@ by_accounts_sets : (world : World) (facts : Facts) (place : ℕ) (provider : Pro
     → Sets (by_accounts world facts place provider read)
 by_accounts_sets world facts place provider (Err step) = (
   out_known,
-  mismatch_sets (origin_of provider.config) place (site_of world facts.origin) _
-      (is_mismatch facts.options.mode facts.options.mediation (status_of world.login (origin_of provider.config))),
+  window_sets place facts.config _ (may_sign_in facts.options.mode facts.options.mediation)
+      (mismatch_sets (origin_of provider.config) place (site_of world facts.origin) _
+      (is_mismatch facts.options.mode facts.options.mediation (status_of world.login (origin_of provider.config)))),
 )
 by_accounts_sets world facts place provider (Ok accounts) =
     (in_known, reselected_sets world facts place provider accounts (reselected world facts place provider accounts))
@@ -269,6 +286,7 @@ chose_sets world facts stages.Choosing place id =
 chose_sets world facts stages.Reading place id = (tt, tt)
 chose_sets world facts stages.Listing place id = (tt, tt)
 chose_sets world facts stages.Mismatch place id = (tt, tt)
+chose_sets world facts stages.Window place id = (tt, tt)
 chose_sets world facts stages.Prompting place id = (tt, tt)
 chose_sets world facts stages.Asserting place id = (tt, tt)
 chose_sets world facts stages.Ended place id = (tt, tt)
@@ -285,9 +303,50 @@ went_on_sets facts stages.Prompting = goes_on_sets facts facts.waits facts.picke
 went_on_sets facts stages.Reading = (tt, tt)
 went_on_sets facts stages.Listing = (tt, tt)
 went_on_sets facts stages.Mismatch = (tt, tt)
+went_on_sets facts stages.Window = (tt, tt)
 went_on_sets facts stages.Choosing = (tt, tt)
 went_on_sets facts stages.Asserting = (tt, tt)
 went_on_sets facts stages.Ended = (tt, tt)
+
+-- ---- the login window
+
+opens_sets : (place : ℕ) (config : Option Config) → Sets (opens_window place config)
+opens_sets place None = tt
+opens_sets place (Some config) = (tt, tt)
+
+sign_in_sets : (facts : Facts) (stage : Stage) → Sets (asked_to_sign_in facts stage)
+sign_in_sets facts stages.Mismatch = opens_sets only_place facts.config
+sign_in_sets facts stages.Reading = (tt, tt)
+sign_in_sets facts stages.Listing = (tt, tt)
+sign_in_sets facts stages.Window = (tt, tt)
+sign_in_sets facts stages.Choosing = (tt, tt)
+sign_in_sets facts stages.Prompting = (tt, tt)
+sign_in_sets facts stages.Asserting = (tt, tt)
+sign_in_sets facts stages.Ended = (tt, tt)
+
+again_sets : (place : ℕ) (config : Option Config) → Sets (asks_again place config)
+again_sets place None = tt
+again_sets place (Some config) = (tt, tt)
+
+resumed_sets : (facts : Facts) (stage : Stage) → Sets (resumed facts stage)
+resumed_sets facts stages.Window = again_sets only_place facts.config
+resumed_sets facts stages.Reading = (tt, tt)
+resumed_sets facts stages.Listing = (tt, tt)
+resumed_sets facts stages.Mismatch = (tt, tt)
+resumed_sets facts stages.Choosing = (tt, tt)
+resumed_sets facts stages.Prompting = (tt, tt)
+resumed_sets facts stages.Asserting = (tt, tt)
+resumed_sets facts stages.Ended = (tt, tt)
+
+shut_sets : (stage : Stage) → Sets (window_shut stage)
+shut_sets stages.Window = (tt, tt)
+shut_sets stages.Reading = (tt, tt)
+shut_sets stages.Listing = (tt, tt)
+shut_sets stages.Mismatch = (tt, tt)
+shut_sets stages.Choosing = (tt, tt)
+shut_sets stages.Prompting = (tt, tt)
+shut_sets stages.Asserting = (tt, tt)
+shut_sets stages.Ended = (tt, tt)
 
 -- ---- the token
 
@@ -325,6 +384,7 @@ cancel_sets : (stage : Stage) → Sets (cancelled stage)
 cancel_sets stages.Reading = (tt, tt)
 cancel_sets stages.Listing = (tt, tt)
 cancel_sets stages.Mismatch = (tt, tt)
+cancel_sets stages.Window = (tt, tt)
 cancel_sets stages.Choosing = (tt, tt)
 cancel_sets stages.Prompting = (tt, tt)
 cancel_sets stages.Asserting = (tt, tt)
@@ -338,6 +398,7 @@ reply_sets world facts stages.Reading place kind raw =
     reading_sets world.rules facts.heard facts.config place (provider_at place facts.options) kind raw
 reply_sets world facts stages.Listing place kind raw = listing_sets world facts place (provider_at place facts.options) kind raw
 reply_sets world facts stages.Mismatch place kind raw = (tt, tt)
+reply_sets world facts stages.Window place kind raw = (tt, tt)
 reply_sets world facts stages.Choosing place kind raw = (tt, tt)
 reply_sets world facts stages.Prompting place kind raw = prompting_sets world facts place (provider_at place facts.options) kind raw
 reply_sets world facts stages.Asserting place kind raw = asserting_sets facts place (provider_at place facts.options) kind raw
@@ -349,9 +410,9 @@ input_sets world facts inputs.Cancel = cancel_sets facts.stage
 input_sets world facts inputs.Abort = (tt, tt)
 input_sets world facts (inputs.Choose place account) = chose_sets world facts facts.stage place account
 input_sets world facts inputs.GoOn = went_on_sets facts facts.stage
-input_sets world facts inputs.SignIn = (tt, tt)
-input_sets world facts inputs.Shut = (tt, tt)
-input_sets world facts inputs.Resume = (tt, tt)
+input_sets world facts inputs.SignIn = sign_in_sets facts facts.stage
+input_sets world facts inputs.Shut = shut_sets facts.stage
+input_sets world facts inputs.Resume = resumed_sets facts facts.stage
 
 -- ---- a disconnect
 
@@ -401,6 +462,7 @@ disconnect_stage_sets world facts stages.Reading kind raw =
 disconnect_stage_sets world facts stages.Asserting kind raw = sending_sets world.kept facts.origin (provider_origin facts.options) kind raw
 disconnect_stage_sets world facts stages.Listing kind raw = (tt, tt)
 disconnect_stage_sets world facts stages.Mismatch kind raw = (tt, tt)
+disconnect_stage_sets world facts stages.Window kind raw = (tt, tt)
 disconnect_stage_sets world facts stages.Choosing kind raw = (tt, tt)
 disconnect_stage_sets world facts stages.Prompting kind raw = (tt, tt)
 disconnect_stage_sets world facts stages.Ended kind raw = (tt, tt)

@@ -30,7 +30,7 @@ use Rattle.fed_consent.specs.declared.table.ask.Ask.{Ask}
 use Rattle.fed_consent.specs.declared.table.why.Why.{Why}
 use Rattle.fed_consent.specs.declared.table.why.Why.TheVariants.{NoPage, PageInsecure}
 use Rattle.fed_consent.specs.Outcomes.{Outcome, only_place}
-use Rattle.fed_call.specs.ReadingRows.{start_at, by_gate, is_gated, is_prevented}
+use Rattle.fed_call.specs.ReadingRows.{start_at, by_gate, is_gated, is_prevented, lacks_activation}
 use Rattle.fed_call.specs.ReadingRows as get
 use Rattle.fed_disconnect.specs.Facts.{provider_origin}
 use Rattle.fed_disconnect.specs.Rows as disconnect
@@ -38,22 +38,24 @@ use Rattle.fed_script.specs.declared.event.Event.{Event}
 use Rattle.fed_trace.specs.Begun.{Begun, CallKind, GetCall, DisconnectCall, CallOptions, ToGet, ToDisconnect, is_get, kind_asked}
 use Rattle.fed_trace.specs.Call.{Known, OfGet, OfDisconnect, kind_of, at_stage, fresh, known_first, first_row, started}
 use Rattle.fed_trace.specs.Effect.{PendingCall, pending_from, Begin, Ignored, last_of, page_change, login_change, kept_change, flag_change}
-use Rattle.fed_trace.specs.Effect.{call_change, stage_change, begun_by, begins, written_by, time_of}
+use Rattle.fed_trace.specs.Effect.{call_change, stage_change, begun_by, begins, written_by, time_of, loaded_change, is_window}
 use Rattle.fed_trace.specs.Keyed.{entries_after, last_said}
 use Rattle.fed_trace.specs.Known.{world_at, known_by, known_at}
 use Rattle.fed_trace.specs.Records.{records_of}
 use Rattle.fed_trace.specs.Row.{effects_of, with_event, cookies_with, is_busy, begin_effects, standing_call, outcome_effects, moves}
 use Rattle.fed_trace.specs.Trace as trace
+use Rattle.fed_trace.specs.Windows.{provider_asked}
 use Rattle.fed_trace.specs.Trace.{Trace, standing, logins, pages, pending, page_at, stage_at, begun, gets}
-use Rattle.fed_session.specs.Session.{State, TabsParts, Stands, load_change, item_known, pending_as, pending_call, pending_calls}
+use Rattle.fed_session.specs.Session.{State, TabsParts, Stands, windows, item_known, pending_as, pending_call, pending_calls}
 use Rattle.fed_session.specs.StepParts.{sight_of, world_in, cookies_of, call_records, sight_after, kept_after, flags_after}
-use Rattle.fed_session.specs.StepParts.{begin_kept, begun_as, standing_kept}
+use Rattle.fed_session.specs.StepParts.{begin_kept, begun_as, standing_kept, awaited_in}
 use Rattle.fed_session.specs.Tabs.{ChangesGet, ChangesKnown, Enters, Begins, BeginsIf}
 use Rattle.fed_session.specs.declared.sight.Sight.{Sight}
 use Rattle.fed_trace.proofs.keyed.Keyed.{IsAbsent, remove-insert_entry}
 use Rattle.fed_trace.proofs.effects.Outcome.{option_or-none, outcome_calls, moves_call, moves_no_other}
 use Rattle.fed_trace.proofs.effects.Same.{same_begin}
 use Rattle.fed_trace.proofs.effects.Silent.{AllSilent, entries_silent, said_silent, last_silent, silent_is}
+use Rattle.fed_trace.proofs.known.Asked.{asked}
 use Rattle.fed_trace.proofs.known.Facts.{staged}
 use Rattle.fed_trace.proofs.known.Stages.{Goes, goes_or_ends}
 use Rattle.fed_trace.proofs.known.Known.{said_of, known_moved, known_same}
@@ -64,6 +66,9 @@ use Rattle.fed_trace.proofs.happens.First.{HasOne}
 use Rattle.fed_session.proofs.kept.Calls.{changes, pending_same, absent_pending_calls, pending_new, pending_over}
 use Rattle.fed_session.proofs.kept.Held.{IsFree, Holds, holds_new}
 use Rattle.fed_session.proofs.kept.Loaded.{loads_silent}
+use Rattle.fed_session.proofs.waits.Moves.{OpensNone, lists_after, outcome_lists, outcome_closed}
+use Rattle.fed_session.proofs.waits.Unmoved.{never_moved}
+use Rattle.fed_session.proofs.waits.Windows.{awaits_at, windows_begin}
 use Rattle.fed_session.proofs.clauses.Outcome.{outcome_logins, outcome_records}
 use Rattle.fed_session.proofs.clauses.Permissions.{outcome_keeps, outcome_flags}
 use Rattle.fed_session.proofs.clauses.Sets.{SetsAll, first_sets}
@@ -102,7 +107,7 @@ begins-stands s T event page call options h by =
 
 -- ---- a call that is not taken
 
-owes_ignored : (s s' : State) (T : Trace) (line : ℕ) (event : Event) (why : Why) → Stands s T
+pub owes_ignored : (s s' : State) (T : Trace) (line : ℕ) (event : Event) (why : Why) → Stands s T
     → effects_of T event ≡ Ignored why ∷ []
     → ((q : ℕ) (k : Known) → said_of T event q k ≡ k)
     → sight_of s' ≡ sight_of s → s'.tabs ≡ s.tabs → Owes s s' T line event
@@ -223,14 +228,14 @@ taken_at call v known stage old new es same free fresh unbegun none held is begi
 owes_taken : (s s' : State) (T : Trace) (line : ℕ) (event : Event) (b : Begun) (outcome : Outcome) (stage : Stage)
     → Stands s T
     → effects_of T event ≡ Begin b ∷ outcome_effects (world_at T) (cookies_with T) (kind_asked b.options) b.call b.page outcome
-    → ((q : ℕ) (k : Known) → said_of T event q k ≡ k) → outcome.stage ≡ Some stage → SetsAll outcome.effects
+    → ((q : ℕ) (k : Known) → said_of T event q k ≡ k) → outcome.stage ≡ Some stage → is_window stage ≡ false → SetsAll outcome.effects
     → (stage ≡ Ended) ⊎ IsFree (kind_asked b.options) (lookup (nat_eq b.page) s.tabs.gets)
     → list_any (nat_eq b.call) s.tabs.taken ≡ false
     → sight_after outcome.effects (sight_of s) ≡ sight_of s
     → sight_of s' ≡ sight_of s
     → Begins b.page b.call (at_stage stage (known_first b)) s.tabs s'.tabs
     → Owes s s' T line event
-owes_taken s s' T line event b outcome stage h effects inputs moved sets free fresh_call still sight begins_call =
+owes_taken s s' T line event b outcome stage h effects inputs moved closed sets free fresh_call still sight begins_call =
     let seen = sees s' _ sight in
     let stays = sees s (sight_after outcome.effects (sight_of s)) (sym still) in
     let world = world_at T in
@@ -286,11 +291,21 @@ owes_taken s s' T line event b outcome stage h effects inputs moved sets free fr
           ∙ outcome_logins world (cookies_with T) kind b.call b.page outcome s.login);
       pages = take.pages ∙ h.pages ∙ sym (entries_silent nat_eq page_change (effects_of T event) (pages T) no_page);
       loaded =
-          take.loaded ∙ h.loaded ∙ ap keys_of (sym (entries_silent nat_eq load_change (effects_of T event)
-          (standing nat_eq load_change T.rows)
+          take.loaded ∙ h.loaded ∙ ap keys_of (sym (entries_silent nat_eq loaded_change (effects_of T event)
+          (standing nat_eq loaded_change T.rows)
           (loads_silent (effects_of T event) no_page)));
       held = subst (Holds s'.tabs.table.pages s'.tabs.gets) (sym calls_is) take.held;
-      waits = take.waits ∙ h.waits;
+      waits = take.waits ∙ h.waits ∙ sym (windows_begin T line event b.call
+          (λ q ne. begins_of q ∙ (let other : nat_eq q b.call ≡ false =
+          grind (arith, nat_tests, ne) in ap (λ t. cond t (Some b) None) other))
+          (never_moved T.header T.rows b.call h.run (sym (ap (list_any (nat_eq b.call)) h.taken) ∙ fresh_call))
+          (subst OpensNone (sym effects) (
+            refl,
+            outcome_closed world (cookies_with T) kind b.call b.page outcome
+                (subst (λ o. OpensNone (moves kind b.call o)) (sym moved) (closed, tt)),
+          ))
+          (ap (λ es. lists_after es (windows T)) effects ∙ outcome_lists world (cookies_with T) kind b.call b.page outcome (windows T)
+          ∙ ap (λ o. lists_after (moves kind b.call o) (windows T)) moved));
       taken = take.taken
           ∙ ap (λ xs. s.tabs.taken ++ xs) (sym (ap (filter_map begun_by) effects
           ∙ ap (λ xs. b.call ∷ xs) (said_silent begun_by does
@@ -331,50 +346,60 @@ owes_taken s s' T line event b outcome stage h effects inputs moved sets free fr
 
 -- ---- a call, whole
 
--- a call comes to a stage by its first row, at which it may be pending, and sets nothing
+-- a call comes to a stage by its first row, at which it may be pending and no window is open, and sets nothing
 record Comes (kind : CallKind) (get : Option ℕ) (outcome : Outcome) : Type 0 where
   stage : Stage
   is : outcome.stage ≡ Some stage
+  closed : is_window stage ≡ false
   free : (stage ≡ Ended) ⊎ IsFree kind get
   still : (sight : Sight) → sight_after outcome.effects sight ≡ sight
 
 gate_comes : (place : ℕ) (config wellknown : Parts) (gated : Bool) → Comes GetCall None (by_gate place config wellknown gated)
-gate_comes place config wellknown true = record { stage = Ended; is = refl; free = inl refl; still = λ sight. refl }
-gate_comes place config wellknown false = record { stage = Reading; is = refl; free = inr refl; still = λ sight. refl }
+gate_comes place config wellknown true = record { stage = Ended; is = refl; closed = refl; free = inl refl; still = λ sight. refl }
+gate_comes place config wellknown false = record { stage = Reading; is = refl; closed = refl; free = inr refl; still = λ sight. refl }
 
 silence_comes : (place : ℕ) (config wellknown : Parts) (prevented gated : Bool)
     → Comes GetCall None (get.by_silence place config wellknown prevented gated)
-silence_comes place config wellknown true gated = record { stage = Ended; is = refl; free = inl refl; still = λ sight. refl }
+silence_comes place config wellknown true gated = record { stage = Ended; is = refl; closed = refl; free = inl refl; still = λ sight. refl }
 silence_comes place config wellknown false gated = gate_comes place config wellknown gated
 
-scheme_comes : (place : ℕ) (scheme : Scheme) (config : Parts) (wellknown : Answer Parts ProviderStep) (prevented gated : Bool)
-    → Comes GetCall None (get.by_scheme place scheme config wellknown prevented gated)
-scheme_comes place Http config wellknown prevented gated = record { stage = Ended; is = refl; free = inl refl; still = λ sight. refl }
-scheme_comes place Https config (Err step) prevented gated = record { stage = Ended; is = refl; free = inl refl; still = λ sight. refl }
-scheme_comes place Https config (Ok wellknown) prevented gated = silence_comes place config wellknown prevented gated
+asked_comes : (place : ℕ) (config : Parts) (wellknown : Answer Parts ProviderStep) (prevented gated : Bool)
+    → Comes GetCall None (get.by_site place config wellknown prevented gated)
+asked_comes place config (Err step) prevented gated =
+    record { stage = Ended; is = refl; closed = refl; free = inl refl; still = λ sight. refl }
+asked_comes place config (Ok wellknown) prevented gated = silence_comes place config wellknown prevented gated
+
+scheme_comes : (place : ℕ) (scheme : Scheme) (config : Parts) (wellknown : Answer Parts ProviderStep) (lacking prevented gated : Bool)
+    → Comes GetCall None (get.by_scheme place scheme config wellknown lacking prevented gated)
+scheme_comes place Http config wellknown lacking prevented gated =
+    record { stage = Ended; is = refl; closed = refl; free = inl refl; still = λ sight. refl }
+scheme_comes place Https config wellknown true prevented gated =
+    record { stage = Ended; is = refl; closed = refl; free = inl refl; still = λ sight. refl }
+scheme_comes place Https config wellknown false prevented gated = asked_comes place config wellknown prevented gated
 
 start_comes : (world : World) (origin : Origin) (options : GetOptions) (providers : List ProviderOptions) → length providers ≡ 1
     → Comes GetCall None (start_at world origin options only_place (slice_get providers only_place))
 start_comes world origin options [] one = absurd (omega (arith, one))
 start_comes world origin options (provider ∷ others) one =
     scheme_comes only_place (scheme_of provider.config) provider.config (WellKnownUrlOf world.rules provider.config)
-    (is_prevented options.mediation (has_flag world.flags origin))
+    (lacks_activation options.mode options.activation) (is_prevented options.mediation (has_flag world.flags origin))
     (is_gated options.mode (status_of world.login (origin_of provider.config)))
 
 site_comes : (get : Option ℕ) (config : Parts) (wellknown : Answer Parts ProviderStep) (kept : Bool)
     → Comes DisconnectCall get (disconnect.by_site config wellknown kept)
-site_comes get config (Err step) kept = record { stage = Ended; is = refl; free = inl refl; still = λ sight. refl }
-site_comes get config (Ok wellknown) false = record { stage = Ended; is = refl; free = inl refl; still = λ sight. refl }
-site_comes get config (Ok wellknown) true = record { stage = Reading; is = refl; free = inr tt; still = λ sight. refl }
+site_comes get config (Err step) kept = record { stage = Ended; is = refl; closed = refl; free = inl refl; still = λ sight. refl }
+site_comes get config (Ok wellknown) false = record { stage = Ended; is = refl; closed = refl; free = inl refl; still = λ sight. refl }
+site_comes get config (Ok wellknown) true = record { stage = Reading; is = refl; closed = refl; free = inr tt; still = λ sight. refl }
 
 disconnect_comes : (get : Option ℕ) (scheme : Scheme) (config : Parts) (wellknown : Answer Parts ProviderStep) (kept : Bool)
     → Comes DisconnectCall get (disconnect.by_scheme scheme config wellknown kept)
-disconnect_comes get Http config wellknown kept = record { stage = Ended; is = refl; free = inl refl; still = λ sight. refl }
+disconnect_comes get Http config wellknown kept = record { stage = Ended; is = refl; closed = refl; free = inl refl; still = λ sight. refl }
 disconnect_comes get Https config wellknown kept = site_comes get config wellknown kept
 
 first_comes : (world : World) (get : Option ℕ) (origin : Origin) (options : CallOptions) → HasOne options
     → Comes (kind_asked options) get (first_row world (is_some get) origin options)
-first_comes world (Some other) origin (ToGet options) one = record { stage = Ended; is = refl; free = inl refl; still = λ sight. refl }
+first_comes world (Some other) origin (ToGet options) one =
+    record { stage = Ended; is = refl; closed = refl; free = inl refl; still = λ sight. refl }
 first_comes world None origin (ToGet options) one = start_comes world origin options options.providers one
 first_comes world get origin (ToDisconnect options) one =
     disconnect_comes get (scheme_of options.config) options.config (WellKnownUrlOf world.rules options.config)
@@ -384,6 +409,22 @@ first_comes world get origin (ToDisconnect options) one =
 started_is : (b : Begun) (outcome : Outcome) (stage : Stage) → outcome.stage ≡ Some stage
     → started b outcome ≡ at_stage stage (known_first b)
 started_is b outcome stage is = ap (λ o. at_stage (unwrap_or o Reading) (known_first b)) is
+
+-- no window of a call is open where it begins
+idle : (kind : CallKind) (get : Option ℕ) (b : Begun) (outcome : Outcome) → Comes kind get outcome → awaited_in (started b outcome) ≡ None
+idle kind get b outcome comes = ap awaited_in (started_is b outcome comes.stage comes.is) ∙ go (goes_or_ends comes.stage)
+  where
+    go : (comes.stage ≡ Ended) ⊎ Goes comes.stage → awaited_in (at_stage comes.stage (known_first b)) ≡ None
+    go (inl over) = ap (λ stage. awaited_in (at_stage stage (known_first b))) over ∙ ap awaited_in (over_none (known_first b))
+    go (inr going) =
+        ap awaited_in (going.kept (known_first b)) ∙ awaits_at comes.stage (known_first b)
+        ∙ ap (λ w. cond w (provider_asked (asked (known_first b))) None) comes.closed
+
+pub begun_idle : (world : World) (busy : Bool) (b : Begun) → HasOne b.options → awaited_in (begun_as world busy b) ≡ None
+begun_idle world true b one =
+    idle (kind_asked b.options) (Some 0) b (first_row world true b.origin b.options) (first_comes world (Some 0) b.origin b.options one)
+begun_idle world false b one =
+    idle (kind_asked b.options) None b (first_row world false b.origin b.options) (first_comes world None b.origin b.options one)
 
 pub owes_begin : (s s' : State) (T : Trace) (line : ℕ) (event : Event) (page call : ℕ) (options : CallOptions) → Stands s T
     → BeginsBy T event page call options
@@ -410,7 +451,7 @@ owes_begin s s' T line event page call options h by fresh_call one sight begins_
     taken origin effects begins_call =
         let outcome = first_row (world_at T) (is_some get) origin options in
         let comes = first_comes (world_at T) get origin options one in
-        owes_taken s s' T line event (of origin) outcome comes.stage h effects by.inputs comes.is
+        owes_taken s s' T line event (of origin) outcome comes.stage h effects by.inputs comes.is comes.closed
         (first_sets (world_at T) (is_some get) origin options) comes.free fresh_call (comes.still (sight_of s)) sight
         (subst (λ known. Begins page call known s.tabs s'.tabs) (started_is (of origin) outcome comes.stage comes.is) begins_call)
 

@@ -16,16 +16,15 @@ use Rattle.fed_origin.specs.declared.status.LoginStatus.{LoginStatus}
 use Rattle.fed_jar.specs.Cookie.{cookies_after}
 use Rattle.fed_status.specs.Login.{Logins}
 use Rattle.fed_table.specs.Lists.{has, all_without_calls, with_key, emptied}
-use Rattle.fed_table.specs.Table.{page_calls}
 use Rattle.fed_script.specs.declared.event.Event.{Event}
-use Rattle.fed_script.specs.declared.event.Event.TheVariants.{Load, ClosePage, Prevent, SetStatus}
+use Rattle.fed_script.specs.declared.event.Event.TheVariants.{At, Load, ClosePage, Prevent, SetStatus}
 use Rattle.fed_script.specs.declared.event.Have.{Have}
 use Rattle.fed_consent.specs.declared.table.why.Why.TheVariants.{NoPage}
 use Rattle.fed_script.specs.declared.event.Event.TheVariants as events
 use Rattle.fed_script.specs.declared.event.Have.TheVariants as haves
 use Rattle.fed_trace.specs.Effect.{Effect, Page, Closed, Login, Flag, Move, Ignored, page_change, login_change}
 use Rattle.fed_trace.specs.Effect.{kept_change, flag_change}
-use Rattle.fed_trace.specs.Effect.{call_change, stage_change, begun_by, begins, written_by, time_of}
+use Rattle.fed_trace.specs.Effect.{call_change, stage_change, begun_by, begins, written_by, time_of, loaded_change}
 use Rattle.fed_trace.specs.Keyed.{entries_after, last_said}
 use Rattle.fed_trace.specs.Known.{known_in, known_at}
 use Rattle.fed_trace.specs.Records.{record_of, records_of}
@@ -33,7 +32,7 @@ use Rattle.fed_trace.specs.Row.{effects_of, with_event, cookies_from, have_cooki
 use Rattle.fed_trace.specs.Row.{login_effects, ends_of, load_effects, close_effects, page_says}
 use Rattle.fed_trace.specs.Begun.{CallKind}
 use Rattle.fed_trace.specs.Call.{Known}
-use Rattle.fed_session.specs.Session.{State, Stands, load_change, numbers_in, item_known, pending_call, pending_calls}
+use Rattle.fed_session.specs.Session.{State, Stands, windows, numbers_in, item_known, pending_call, pending_calls}
 use Rattle.fed_session.specs.StepParts.{sight_of, with_statuses, have_statuses, have_kept, have_flags, flags_set, close_records}
 use Rattle.fed_session.specs.Tabs.{Ends, Closes}
 use Rattle.fed_trace.specs.Trace.{Trace, standing, pages, pending, pending_of, page_at, calls_of, now_at}
@@ -41,6 +40,7 @@ use Rattle.fed_trace.proofs.calls.Begins.{AreApart, apart_begun}
 use Rattle.fed_session.proofs.kept.Calls.{loses, pending_same, pending_loses}
 use Rattle.fed_session.proofs.kept.Held.{Holds, holds_keyed, holds_ended}
 use Rattle.fed_session.proofs.kept.Loaded.{load_loads, keys_emptied, keys_loaded}
+use Rattle.fed_session.proofs.waits.Windows.{windows_end}
 use Rattle.fed_trace.proofs.keyed.Keyed.{distinct_standing, lookup-standing}
 use Rattle.fed_trace.proofs.keyed.Keyed.{entries_after-append}
 use Rattle.fed_trace.proofs.happens.Ends.{last_said_front, ends_apart, ends_hit}
@@ -103,6 +103,24 @@ owes_have s s' T line have h sight tabs =
     (seen.cookies ∙ ap (cookies_after s.cookies) (same ∙ sym (written_then found (have_states have) (states_write_none have))))
     (seen.login ∙ sym (set_after found (have_states have) s.login ∙ have_sets have s.login))
     tabs
+
+-- ---- the time
+
+pub owes_at : (s s' : State) (T : Trace) (line time : ℕ) → Stands s T
+    → sight_of s' ≡ record (sight_of s) { time = time } → s'.tabs ≡ s.tabs → Owes s s' T line (At time)
+owes_at s s' T line time h sight tabs =
+    let seen = sees s' _ sight in
+    owes_aside s s' T line (At time) h
+    (record {
+      pages = (refl, tt);
+      calls = (refl, tt);
+      begun = (refl, tt);
+      stages = (refl, tt);
+      begins_none = λ q. (refl, tt);
+      inputs = λ q k. refl;
+    })
+    seen.rules (kept_still s s' T (At time) h (refl, tt) seen.kept) (flags_still s s' T (At time) h (refl, tt) seen.flags) seen.time
+    seen.cookies seen.login tabs
 
 -- ---- a page sets a status
 
@@ -208,7 +226,7 @@ taken_apart s T h = subst AreApart (sym h.taken) (apart_begun T.header T.rows h.
 
 -- what an event owes by which the calls of a page end, and then something else comes
 record EndsOwe (s s' : State) (T : Trace) (line : ℕ) (event : Event) : Type 0 where
-  waits : s'.tabs.table.waits ≡ []
+  waits : s'.tabs.table.waits ≡ windows (with_event T line event)
   taken : s'.tabs.taken ≡ s.tabs.taken ++ filter_map begun_by (effects_of T event)
   pending : pending_calls (item_known s'.tabs.table.items) s'.tabs.taken
       ≡ entries_after nat_eq call_change (effects_of T event) (pending T)
@@ -225,7 +243,10 @@ ends_owe s s' T line event page standing listed rest h ends effects calls stages
     let lost : (q : ℕ) → item_known s'.tabs.table.items q ≡ loses (numbers_in gone) before q =
     λ q. ends.known q ∙ ap (λ xs. cond (has q xs) None (before q)) (h.held page) in
     record {
-      waits = ends.waits ∙ ap (all_without_calls (page_calls s.tabs.table.pages page)) h.waits;
+      waits =
+          ends.waits ∙ ap (λ calls. all_without_calls calls s.tabs.table.waits) (h.held page)
+          ∙ ap (all_without_calls (numbers_in gone)) h.waits
+          ∙ sym (windows_end T line event gone rest (λ q. last_silent (begins q) (effects_of T event) (begins_none q)) effects stages);
       taken = ends.taken ∙ sym (append-nil s.tabs.taken) ∙ ap (λ xs. s.tabs.taken ++ xs) (sym (said_silent begun_by (effects_of
           T event) begun));
       pending =
@@ -284,8 +305,8 @@ owes_load s s' T line page url raw h sight ends =
           ends.pages ∙ ap (λ os. insert_entry nat_eq os page (origin_of url)) h.pages
           ∙ sym (load_pages calls page url found statuses (pages T));
       loaded =
-          ap keys_of ends.listed ∙ keys_loaded page s.tabs.table.pages (standing nat_eq load_change T.rows) h.loaded
-          ∙ ap keys_of (sym (load_loads calls page url found statuses (standing nat_eq load_change T.rows)));
+          ap keys_of ends.listed ∙ keys_loaded page s.tabs.table.pages (standing nat_eq loaded_change T.rows) h.loaded
+          ∙ ap keys_of (sym (load_loads calls page url found statuses (standing nat_eq loaded_change T.rows)));
       held =
           subst (Holds s'.tabs.table.pages s'.tabs.gets)
           (sym (load_calls page url found statuses es (distinct_standing call_change T.rows)))
@@ -332,8 +353,8 @@ owes_close_standing s s' T line page origin found h sight ends =
           ∙ ap (shift_remove_entry (nat_eq page)) (entries_silent nat_eq page_change (ends_of calls) (pages T)
           (ends_silent page_change (λ n c. refl) calls)));
       loaded = ap keys_of ends.listed ∙ keys_emptied page s.tabs.table.pages ∙ h.loaded
-          ∙ ap keys_of (sym (entries_silent nat_eq load_change (effects_of T (ClosePage page)) (standing nat_eq load_change T.rows)
-          (silent load_change (λ n c. refl) (λ p. refl))));
+          ∙ ap keys_of (sym (entries_silent nat_eq loaded_change (effects_of T (ClosePage page)) (standing nat_eq loaded_change T.rows)
+          (silent loaded_change (λ n c. refl) (λ p. refl))));
       held = subst (Holds s'.tabs.table.pages s'.tabs.gets)
           (sym (ap (λ xs. entries_after nat_eq call_change xs es) goes
           ∙ entries_after-append nat_eq call_change (ends_of calls) rest es

@@ -3,10 +3,11 @@ use Rattle.std.proofs.Common.{◌≡◌, ℕ, Bool, true, false, nat_eq, ◌||�
 use Rattle.std.proofs.Common.{None, refl, sym, ap}
 use Rattle.std.proofs.Common.{subst, ◌∙◌, arith, cond, append-nil}
 use Rattle.std.proofs.lemmas.Bool.Decides.{nat_tests}
-use Rattle.std.specs.Prelude.{Option, option_map, unwrap_or}
+use Rattle.std.specs.Prelude.{Option, is_some, option_and_then, option_map, unwrap_or, ⊤}
 use Rattle.std.specs.Map.{lookup, keys_of}
 use Rattle.std.specs.List.{filter_map, list_any, cons_option}
 use Rattle.indexmap.specs.IndexMap.{shift_remove_entry}
+use Rattle.fed_origin.specs.declared.origin.Origin.{Origin}
 use Rattle.fed_origin.specs.declared.stage.Stage.{Stage}
 use Rattle.fed_origin.specs.declared.stage.Stage.TheVariants.{Ended}
 use Rattle.fed_origin.specs.Origin.{same_origin}
@@ -21,25 +22,30 @@ use Rattle.fed_consent.specs.Outcomes.{Outcome}
 use Rattle.fed_script.specs.declared.event.Event.{Event}
 use Rattle.fed_consent.specs.Outcomes as outcomes
 use Rattle.fed_script.specs.declared.event.Event.TheVariants as events
-use Rattle.fed_table.specs.Lists.{all_without}
+use Rattle.fed_table.specs.Lists.{has, all_without, stands_in}
 use Rattle.fed_trace.specs.Call.{Known, kind_of, page_of, stage_of, at_stage, with_input, input_row, known_after}
 use Rattle.fed_trace.specs.Effect.{PendingCall, Ignored, last_of, page_change, login_change, kept_change, flag_change, call_change}
-use Rattle.fed_trace.specs.Effect.{stage_change, begun_by, begins, written_by, time_of, is_ignored}
+use Rattle.fed_trace.specs.Effect.{stage_change, begun_by, begins, written_by, time_of, loaded_change, is_ignored, is_window}
 use Rattle.fed_trace.specs.Keyed.{entries_after, last_said}
 use Rattle.fed_trace.specs.Known.{world_at, is_begun, input_of, for_call, input_to, with_said, known_in, known_by, known_at}
 use Rattle.fed_trace.specs.Records.{records_of}
 use Rattle.fed_trace.specs.Row.{IsNew, effects_of, with_event, cookies_with, outcome_effects, moves, input_effects, brought_effects}
-use Rattle.fed_session.specs.Session.{State, TabsParts, Stands, load_change, item_known, pending_as, pending_call, pending_calls}
+use Rattle.fed_session.specs.Session.{State, TabsParts, Stands, windows, item_known, pending_as, pending_call, pending_calls}
 use Rattle.fed_session.specs.StepParts.{sight_of, world_in, cookies_of, call_records, kept_after, flags_after, sight_after}
-use Rattle.fed_session.specs.StepParts.{get_but, outcome_at, kept_next, CanApplyAll}
-use Rattle.fed_session.specs.Tabs.{ChangesGet, ChangesKnown, Stays, Leaves, GoesOn, Takes}
+use Rattle.fed_session.specs.StepParts.{get_but, awaits, awaited_in, outcome_at, kept_next, CanApplyAll}
+use Rattle.fed_session.specs.Tabs.{ChangesGet, ChangesKnown, waits_next, Stays, Leaves, GoesOn, Takes}
 use Rattle.fed_trace.specs.Trace.{Trace, standing, pages, pending, stage_at}
 use Rattle.fed_session.specs.declared.sight.Sight.{Sight}
 use Rattle.fed_trace.proofs.calls.Begins.{AreApart}
 use Rattle.fed_trace.proofs.runs.Gets.{unbegun_unknown}
 use Rattle.fed_session.proofs.kept.Calls.{changes, pending_same, pending_stays, pending_ends}
 use Rattle.fed_session.proofs.kept.Loaded.{loads_silent, keys_without}
+use Rattle.fed_session.proofs.waits.Moves.{lists_next}
+use Rattle.fed_session.proofs.waits.Windows.{is_open, windows_input, lists_staged, awaits_at, asked_provider, waits_moved, waits_same}
 use Rattle.fed_session.proofs.events.Event.{taken_apart}
+use Rattle.fed_trace.specs.Windows.{open_windows, provider_asked, provider_of}
+use Rattle.fed_trace.proofs.calls.Windows.{open_at}
+use Rattle.fed_trace.proofs.known.Asked.{asked, said_asked, provider_known}
 use Rattle.fed_trace.proofs.known.Facts.{staged, same_page, same_kind}
 use Rattle.fed_session.proofs.events.Begin.{world_same, staged_as, over_none}
 use Rattle.fed_trace.proofs.keyed.Keyed.{AreDistinct, distinct_standing}
@@ -75,10 +81,13 @@ brings T (events.Reply c place kind raw) call input h = brought T (events.Reply 
 brings T (events.Choose c place account) call input h = brought T (events.Choose c place account) call input h refl tt
 brings T (events.GoOn c) call input h = brought T (events.GoOn c) call input h refl tt
 brings T (events.Cancel c) call input h = brought T (events.Cancel c) call input h refl tt
+brings T (events.SignIn c) call input h = brought T (events.SignIn c) call input h refl tt
+brings T (events.ShutWindow c) call input h = brought T (events.ShutWindow c) call input h refl tt
 brings T (events.Have have) call input h = absurd (cc)
 brings T (events.At time) call input h = absurd (cc)
 brings T (events.Load page url raw) call input h = absurd (cc)
 brings T (events.ClosePage page) call input h = absurd (cc)
+brings T (events.IdpClose page) call input h = absurd (cc)
 brings T (events.Prevent page) call input h = absurd (cc)
 brings T (events.SetStatus page status) call input h = absurd (cc)
 brings T (events.Disconnect page q config client hint) call input h = absurd (cc)
@@ -105,7 +114,7 @@ unbegun s T call h fresh =
 
 owes_refused : (s s' : State) (T : Trace) (line : ℕ) (event : Event) (call : ℕ) (why : Why) → Stands s T
     → effects_of T event ≡ Ignored why ∷ []
-    → sight_of s' ≡ sight_of s → Stays call None s.tabs s'.tabs → item_known s.tabs.table.items call ≡ None
+    → sight_of s' ≡ sight_of s → Stays call None s.tabs.table.waits s.tabs s'.tabs → item_known s.tabs.table.items call ≡ None
     → Owes s s' T line event
 owes_refused s s' T line event call why h is sight stays none =
     let seen = sees s' _ sight in
@@ -119,7 +128,7 @@ owes_refused s s' T line event call why h is sight stays none =
     (seen.time ∙ sym (ap (λ xs. unwrap_or (last_of time_of xs) s.time) is))
     (seen.cookies ∙ sym (ap (λ xs. cookies_after s.cookies (filter_map written_by xs)) is))
     (seen.login ∙ sym (ap (λ xs. entries_after same_origin login_change xs s.login) is))
-    stays.pages stays.listed stays.gets stays.taken stays.waits
+    stays.pages stays.listed stays.gets stays.taken stays.waiting
     (λ q. stays.known q ∙ same_known q (nat_eq call q) refl)
   where
     same_known : (q : ℕ) (b : Bool) → nat_eq call q ≡ b
@@ -161,7 +170,6 @@ pub record Leaving (call : ℕ) (known : Known) (moved : Option Stage) (old new 
   pub pages : new.pages ≡ old.pages
   pub loaded : keys_of new.table.pages ≡ keys_of old.table.pages
   pub held : Holds new.table.pages new.gets (entries_after nat_eq call_change (moves (kind_of known) call moved) es)
-  pub waits : new.table.waits ≡ []
   pub taken : new.taken ≡ old.taken
   pub pending : pending_calls (item_known new.table.items) new.taken
       ≡ entries_after nat_eq call_change (moves (kind_of known) call moved) es
@@ -173,22 +181,20 @@ record Before (call : ℕ) (known : Known) (old : TabsParts) (es : List (ℕ × 
   apart : AreApart old.taken
   distinct : AreDistinct es
   held : Holds old.table.pages old.gets es
-  waits : old.table.waits ≡ []
   is : pending_calls (item_known old.table.items) old.taken ≡ es
 
 -- the call goes on
 goes_on : (call : ℕ) (known after : Known) (moved : Option Stage) (old new : TabsParts) (es : List (ℕ × PendingCall))
     → Before call known old es → pending_as after ≡ pending_as known
     → entries_after nat_eq call_change (moves (kind_of known) call moved) es ≡ es
-    → Stays call (Some after) old new → Leaving call known moved old new es
-goes_on call known after moved old new es before same stays s =
+    → (waits : List (Origin × List ℕ)) → Stays call (Some after) waits old new → Leaving call known moved old new es
+goes_on call known after moved old new es before same stays waits s =
     record {
       pages = s.pages;
       loaded = ap keys_of s.listed;
       held = subst (Holds new.table.pages new.gets) (sym stays)
           (subst (λ gets. Holds new.table.pages gets es) (sym s.gets)
           (subst (λ lists. Holds lists old.gets es) (sym s.listed) before.held));
-      waits = s.waits ∙ before.waits;
       taken = s.taken;
       pending =
           ap (pending_calls (item_known new.table.items)) s.taken
@@ -209,7 +215,6 @@ goes call known old new es before l =
       loaded = ap keys_of l.listed ∙ keys_without call old.table.pages;
       held = subst (λ lists. Holds lists new.gets (shift_remove_entry (nat_eq call) es)) (sym l.listed)
           (holds_less call (pending_as known) old.table.pages old.gets new.gets es before.held before.distinct there l.gets);
-      waits = l.waits ∙ ap (all_without call) before.waits;
       taken = l.taken;
       pending =
           ap (pending_calls (item_known new.table.items)) l.taken
@@ -229,12 +234,14 @@ stays_as world stage ignored input known =
 
 leaves : (world : World) (call : ℕ) (known : Known) (input : Input) (ignored : Bool) (moved : Option Stage) (old new : TabsParts)
     (es : List (ℕ × PendingCall)) → Goes (stage_of known) → Before call known old es
-    → GoesOn (page_of known) call (at_stage (unwrap_or moved (stage_of known)) (with_input world ignored input known)) old new
+    → GoesOn (page_of known) call (is_some (awaits known))
+    (at_stage (unwrap_or moved (stage_of known)) (with_input world ignored input known))
+    old new
     → Leaving call known moved old new es
 leaves world call known input ignored None old new es going before on =
     let k = with_input world ignored input known in
-    goes_on call known (staged (stage_of known) k) None old new es before (stays_as world (stage_of known) ignored input known) refl
-    (subst (λ after. GoesOn (page_of known) call after old new) (going.kept k) on)
+    goes_on call known (staged (stage_of known) k) None old new es before (stays_as world (stage_of known) ignored input known) refl _
+    (subst (λ after. GoesOn (page_of known) call (is_some (awaits known)) after old new) (going.kept k) on)
 leaves world call known input ignored (Some stage) old new es going before on = go (goes_or_ends stage)
   where
     k : Known
@@ -243,18 +250,81 @@ leaves world call known input ignored (Some stage) old new es going before on = 
     go : (stage ≡ Ended) ⊎ Goes stage → Leaving call known (Some stage) old new es
     go (inl over) =
         subst (λ st. Leaving call known (Some st) old new es) (sym over)
-        (goes call known old new es before (subst (λ after. GoesOn (page_of known) call after old new)
+        (goes call known old new es before (subst (λ after. GoesOn (page_of known) call (is_some (awaits known)) after old new)
         (ap (λ st. at_stage st k) over ∙ over_none k) on))
     go (inr further) =
         goes_on call known (staged stage k) (Some stage) old new es before (stays_as world stage ignored input known)
-        (further.stays (kind_of known) call es)
-        (subst (λ after. GoesOn (page_of known) call after old new) (further.kept k) on)
+        (further.stays (kind_of known) call es) _
+        (subst (λ after. GoesOn (page_of known) call (is_some (awaits known)) after old new) (further.kept k) on)
+
+abbrev unit_if : Bool → Option ⊤
+unit_if b = cond b (Some tt) None
+
+-- the calls that wait then
+goes_waits : (T : Trace) (call : ℕ) (known : Known) (input : Input) (ignored : Bool) (moved : Option Stage) (old new : TabsParts)
+    → Found known (stage_at T call) (known_in T.header T.rows call) → old.table.waits ≡ windows T
+    → GoesOn (page_of known) call (is_some (awaits known))
+    (at_stage (unwrap_or moved (stage_of known)) (with_input (world_at T) ignored input known)) old new
+    → new.table.waits ≡ lists_staged (has call (open_windows T)) (provider_of T.rows call) moved call (windows T)
+goes_waits T call known input ignored moved old new about waits on = by moved on
+  where
+    k : Known
+    k = with_input (world_at T) ignored input known
+
+    provider : Option Origin
+    provider = provider_of T.rows call
+
+    asks : (stage : Stage) → awaits (staged stage k) ≡ cond (is_window stage) provider None
+    asks stage =
+        awaits_at stage k ∙ ap (λ x. cond (is_window stage) (provider_asked x) None) (said_asked (world_at T) ignored (Some input) known)
+        ∙ ap (λ x. cond (is_window stage) x None) (sym (asked_provider T call known about.before about.found_is about.is))
+
+    asked_before : awaits known ≡ cond (is_window (stage_of known)) provider None
+    asked_before =
+        ap awaits about.is ∙ awaits_at (stage_of known) about.before
+        ∙ ap (λ x. cond (is_window (stage_of known)) x None)
+        (sym (sym (provider_known T.header T.rows call) ∙ ap (option_and_then (λ x. provider_asked (asked x))) about.found_is))
+
+    was : has call (open_windows T) ≡ is_window (stage_of known)
+    was = is_open T call ∙ ap (λ stage. is_some (open_at stage)) about.stage_is ∙ opened (is_window (stage_of known))
+      where
+        opened : (b : Bool) → is_some (unit_if b) ≡ b
+        opened true = refl
+        opened false = refl
+
+    stays : (stage : Stage) → Goes stage
+        → GoesOn (page_of known) call (is_some (awaits known)) (at_stage stage k) old new
+        → new.table.waits
+        ≡ waits_next (is_some (cond (is_window (stage_of known)) provider None)) call (cond (is_window stage) provider None) (windows T)
+    stays stage going on =
+        let s = subst (λ after. GoesOn (page_of known) call (is_some (awaits known)) after old new) (going.kept k) on in
+        s.waiting ∙ ap (waits_next (is_some (awaits known)) call (awaits (staged stage k))) waits
+        ∙ ap (λ w. waits_next (is_some w) call (awaits (staged stage k)) (windows T)) asked_before
+        ∙ ap (λ w. waits_next (is_some (cond (is_window (stage_of known)) provider None)) call w (windows T)) (asks stage)
+
+    by : (moved : Option Stage) → GoesOn (page_of known) call (is_some (awaits known)) (at_stage (unwrap_or moved (stage_of known)) k) old
+        new
+        → new.table.waits ≡ lists_staged (has call (open_windows T)) provider moved call (windows T)
+    by None on =
+        stays (stage_of known) about.going on ∙ waits_same call (cond (is_window (stage_of known)) provider None) (windows T)
+    by (Some stage) on = go (goes_or_ends stage)
+      where
+        go : (stage ≡ Ended) ⊎ Goes stage
+            → new.table.waits ≡ lists_next (has call (open_windows T)) provider (is_window stage) call (windows T)
+        go (inl over) =
+            let l = subst (λ after. GoesOn (page_of known) call (is_some (awaits known)) after old new)
+            (ap (λ st. at_stage st k) over ∙ over_none k) on in
+            l.waits ∙ ap (all_without call) waits
+            ∙ ap (λ st. lists_next (has call (open_windows T)) provider (is_window st) call (windows T)) (sym over)
+        go (inr further) =
+            stays stage further on ∙ waits_moved T call provider (is_window (stage_of known)) (is_window stage) refl was
+            ∙ ap (λ b. lists_next b provider (is_window stage) call (windows T)) (sym was)
 
 -- what is known of each call then
-goes_known : (page call : ℕ) (after : Option Known) (old new : TabsParts) → GoesOn page call after old new
+goes_known : (page call : ℕ) (waited : Bool) (after : Option Known) (old new : TabsParts) → GoesOn page call waited after old new
     → ChangesKnown call after old.table.items new.table.items
-goes_known page call None old new leaves = leaves.known
-goes_known page call (Some after) old new stays = stays.known
+goes_known page call waited None old new leaves = leaves.known
+goes_known page call waited (Some after) old new stays = stays.known
 
 -- ---- what is known of a pending call after an input
 
@@ -263,7 +333,7 @@ owes_pending : (s s' : State) (T : Trace) (line : ℕ) (event : Event) (call : �
     → effects_of T event ≡ outcome_effects (world_at T) (cookies_with T) (kind_of known) call (page_of known) outcome
     → item_known s.tabs.table.items call ≡ Some known → list_any (nat_eq call) s.tabs.taken ≡ true
     → sight_of s' ≡ sight_after outcome.effects (sight_of s)
-    → GoesOn (page_of known) call (known_after (world_at T) known input outcome) s.tabs s'.tabs
+    → GoesOn (page_of known) call (is_some (awaits known)) (known_after (world_at T) known input outcome) s.tabs s'.tabs
     → Owes s s' T line event
 owes_pending s s' T line event call input known outcome h brings sets effects found begun_call sight on =
     let seen = sees s' _ sight in
@@ -280,7 +350,6 @@ owes_pending s s' T line event call input known outcome h brings sets effects fo
       apart = taken_apart s T h;
       distinct = distinct_standing call_change T.rows;
       held = stands_held s T h;
-      waits = h.waits;
       is = h.pending;
     } in
     let leave = leaves (world_at T) call known input ignored outcome.stage s.tabs s'.tabs (pending T) about.going before on in
@@ -323,17 +392,19 @@ owes_pending s s' T line event call input known outcome h brings sets effects fo
           ∙ outcome_logins (world_at T) (cookies_with T) kind call page outcome s.login);
       pages = leave.pages ∙ h.pages ∙ sym (entries_silent nat_eq page_change (effects_of T event) (pages T) no_page);
       loaded =
-          leave.loaded ∙ h.loaded ∙ ap keys_of (sym (entries_silent nat_eq load_change (effects_of T event)
-          (standing nat_eq load_change T.rows)
+          leave.loaded ∙ h.loaded ∙ ap keys_of (sym (entries_silent nat_eq loaded_change (effects_of T event)
+          (standing nat_eq loaded_change T.rows)
           (loads_silent (effects_of T event) no_page)));
       held = subst (Holds s'.tabs.table.pages s'.tabs.gets) (sym calls_is) leave.held;
-      waits = leave.waits;
+      waits =
+          goes_waits T call known input ignored outcome.stage s.tabs s'.tabs about h.waits on
+          ∙ sym (windows_input T line event kind call page outcome begins_none effects);
       taken = leave.taken ∙ sym (append-nil s.tabs.taken)
           ∙ ap (λ xs. s.tabs.taken ++ xs) (sym (said_silent begun_by (effects_of T event)
           (silent_is begun_by (effects_of T event) does effects
           (outcome_begins_none (world_at T) (cookies_with T) kind call page outcome))));
       pending = leave.pending ∙ sym calls_is;
-      known = λ q. goes_known page call after s.tabs s'.tabs on q
+      known = λ q. goes_known page call (is_some (awaits known)) after s.tabs s'.tabs on q
           ∙ known_input s T line event call input known outcome q h effects about begins_none said (nat_eq call q) refl;
     }
   where
@@ -386,12 +457,14 @@ brought_records line world cookies call page input begun (Some known) is of =
     ∙ ap (λ b. records_of line (input_effects world cookies b call (Some known) input)) (sym is)
 
 -- its pages and calls
-pub brought_takes : (call page : ℕ) (known after : Option Known) (old lent new : TabsParts) → Some page ≡ option_map page_of known
-    → Stays call None old lent → GoesOn page call after lent new → Takes call known after old new
-brought_takes call page None after old lent new of stays on = absurd (cc)
-brought_takes call page (Some known) after old lent new of stays on =
+pub brought_takes : (call page : ℕ) (waited : Bool) (known after : Option Known) (old lent new : TabsParts)
+    → Some page ≡ option_map page_of known → waited ≡ is_some (awaited_in known)
+    → Stays call None old.table.waits old lent → GoesOn page call waited after lent new → Takes call known after old new
+brought_takes call page waited None after old lent new of was stays on = absurd (cc)
+brought_takes call page waited (Some known) after old lent new of was stays on =
     let own : page ≡ page_of known = cc in
-    subst (λ p. GoesOn p call after old new) own (back after on)
+    subst (λ p. GoesOn p call (is_some (awaits known)) after old new) own
+    (subst (λ w. GoesOn page call w after old new) was (back after on))
   where
     again : (after : Option Known) → ChangesKnown call after lent.table.items new.table.items
         → ChangesKnown call after old.table.items new.table.items
@@ -401,13 +474,13 @@ brought_takes call page (Some known) after old lent new of stays on =
         twice q true = refl
         twice q false = refl
 
-    back : (after : Option Known) → GoesOn page call after lent new → GoesOn page call after old new
+    back : (after : Option Known) → GoesOn page call waited after lent new → GoesOn page call waited after old new
     back None l = record {
       pages = l.pages ∙ stays.pages;
       listed = l.listed ∙ ap (all_without call) stays.listed;
       gets = subst (λ gets. ChangesGet page (get_but call (lookup (nat_eq page) gets)) gets new.gets) stays.gets l.gets;
       taken = l.taken ∙ stays.taken;
-      waits = l.waits ∙ ap (all_without call) stays.waits;
+      waits = l.waits ∙ ap (all_without call) stays.waiting;
       known = again None l.known;
     }
     back (Some k) s = record {
@@ -415,9 +488,16 @@ brought_takes call page (Some known) after old lent new of stays on =
       listed = s.listed ∙ stays.listed;
       gets = s.gets ∙ stays.gets;
       taken = s.taken ∙ stays.taken;
-      waits = s.waits ∙ stays.waits;
+      waiting = s.waiting ∙ ap (waits_next waited call (awaits k)) stays.waiting;
       known = again (Some k) s.known;
     }
+
+-- that it was lent as a call that waits, or as one that does not
+pub waits_lent : (call : ℕ) (lent : TabsParts) (kept known : Option Known) (page : ℕ) (waited : Bool) → known ≡ kept
+    → Some page ≡ option_map page_of known → waited ≡ is_some (awaited_in known)
+    → ((k : Known) → kept ≡ Some k → stands_in call lent.table.waits ≡ is_some (awaits k)) → stands_in call lent.table.waits ≡ waited
+waits_lent call lent kept None page waited is of was waits = absurd (cc)
+waits_lent call lent kept (Some known) page waited is of was waits = waits known (sym is) ∙ sym was
 
 -- and that the session can do what it does
 pub brought_applies : (world : World) (known : Option Known) (input : Input) → CanApplyAll (outcome_at world true known input).effects

@@ -11,18 +11,17 @@ use Rattle.fed_jar.specs.Cookie.{StoredCookie}
 use Rattle.fed_table.specs.Lists.{all_without, with_last, with_key, emptied}
 use Rattle.fed_trace.specs.Begun.{CallKind}
 use Rattle.fed_trace.specs.Effect.{Effect, Time, Page, Closed, Cookie, Login, Begin, Move, Sent, Shown, Window, Kept, Flag, Result}
-use Rattle.fed_trace.specs.Effect.{Ignored, page_change}
+use Rattle.fed_trace.specs.Effect.{Ignored, page_change, loaded_change}
 use Rattle.fed_trace.specs.Keyed.{entries_after}
 use Rattle.fed_trace.specs.Row.{ends_of, cookie_effects, login_effects, load_effects}
 use Rattle.fed_trace.proofs.calls.Pending.{ends_silent, load_rest_silent}
 use Rattle.fed_trace.proofs.effects.Silent.{AllSilent, entries_silent}
 use Rattle.fed_trace.proofs.keyed.Keyed.{entries_after-append}
-use Rattle.fed_session.specs.Session.{load_change}
 
 -- ---- effects
 
 -- what says nothing of pages says nothing of loads
-load_none : (e : Effect) → page_change e ≡ None → load_change e ≡ None
+load_none : (e : Effect) → page_change e ≡ None → loaded_change e ≡ None
 load_none (Page page origin) h = absurd (cc)
 load_none (Closed page) h = refl
 load_none (Time time) h = refl
@@ -38,21 +37,21 @@ load_none (Flag origin stays) h = refl
 load_none (Result call page finish) h = refl
 load_none (Ignored why) h = refl
 
-pub loads_silent : (es : List Effect) → AllSilent page_change es → AllSilent load_change es
+pub loads_silent : (es : List Effect) → AllSilent page_change es → AllSilent loaded_change es
 loads_silent [] h = tt
 loads_silent (e ∷ es) h = (load_none e h.0, loads_silent es h.1)
 
 -- a load
 pub load_loads : (calls : List (ℕ × CallKind)) (page : ℕ) (url : Parts) (cookies : List StoredCookie) (statuses : List LoginStatus)
     (es : List (ℕ × ⊤))
-    → entries_after nat_eq load_change (load_effects calls page url cookies statuses) es ≡ insert_entry nat_eq es page tt
+    → entries_after nat_eq loaded_change (load_effects calls page url cookies statuses) es ≡ insert_entry nat_eq es page tt
 load_loads calls page url cookies statuses es =
     let rest = cookie_effects cookies ++ login_effects (origin_of url) statuses in
-    entries_after-append nat_eq load_change (ends_of calls) (Page page (origin_of url) ∷ rest) es
-    ∙ ap (λ xs. entries_after nat_eq load_change rest (insert_entry nat_eq xs page tt))
-    (entries_silent nat_eq load_change (ends_of calls) es (ends_silent load_change (λ n c. refl) calls))
-    ∙ entries_silent nat_eq load_change rest (insert_entry nat_eq es page tt)
-    (load_rest_silent load_change (λ c. refl) (λ o s. refl) cookies (origin_of url) statuses)
+    entries_after-append nat_eq loaded_change (ends_of calls) (Page page (origin_of url) ∷ rest) es
+    ∙ ap (λ xs. entries_after nat_eq loaded_change rest (insert_entry nat_eq xs page tt))
+    (entries_silent nat_eq loaded_change (ends_of calls) es (ends_silent loaded_change (λ n c. refl) calls))
+    ∙ entries_silent nat_eq loaded_change rest (insert_entry nat_eq es page tt)
+    (load_rest_silent loaded_change (λ c. refl) (λ o s. refl) cookies (origin_of url) statuses)
 
 -- ---- keys
 

@@ -10,17 +10,22 @@ use Rattle.std.specs.Map.{lookup, keys_of}
 use Rattle.indexmap.specs.IndexMap.{insert_entry, shift_remove_entry}
 use Rattle.indexmap.specs.IndexSet.{insert_key}
 use Rattle.fed_origin.specs.declared.origin.Origin.{Origin}
-use Rattle.fed_table.specs.Lists.{has, without, all_without, all_without_calls, with_last, with_key, emptied, total, calls_at}
+use Rattle.fed_origin.specs.Origin.{same_origin}
+use Rattle.fed_table.specs.Lists.{has, without, all_without, all_without_calls, with_last, with_key, emptied, stands_in, total, calls_at}
 use Rattle.fed_table.specs.Table.{TableParts, has_page, page_calls, item_of, has_call, present_item, lent_out, ChangesItem, LosesItems}
+use Rattle.fed_table.specs.Table.{IsCallTable}
 use Rattle.fed_table.proofs.homes.Sums.{total_loses, total_key}
 use Rattle.fed_trace.specs.Begun.{is_get}
-use Rattle.fed_trace.specs.Call.{Known, kind_of}
+use Rattle.fed_trace.specs.Call.{Known, kind_of, page_of}
 use Rattle.fed_trace.proofs.keyed.Entries.{lookup-set_value, insert_absent}
 use Rattle.fed_trace.proofs.keyed.Keyed.{lookup-insert_entry}
 use Rattle.fed_session.specs.Session.{TabsParts, item_known}
-use Rattle.fed_session.specs.StepParts.{get_but}
-use Rattle.fed_session.specs.Tabs.{AreTabs, ChangesGet, ChangesKnown, LosesKnown, Ends, Enters, Stays, Leaves}
+use Rattle.fed_session.specs.StepParts.{get_but, awaits, awaited_in}
+use Rattle.fed_session.specs.Tabs.{AreTabs, ChangesGet, ChangesKnown, LosesKnown, Ends, Enters, waits_next, Stays, Leaves, GoesOn}
 use Rattle.fed_session.proofs.kept.Loaded.{keys_last}
+use Rattle.fed_session.proofs.kept.Waiting.{stands_without, stands_without_calls, stands_last, length_without_calls, length_last}
+use Rattle.fed_session.proofs.kept.Waiting.{none_stands}
+use Rattle.fed_session.proofs.kept.Waiting.{length_without as waits_without}
 
 abbrev Items : Type 0
 Items = List (ℕ × Option (Option Known))
@@ -168,24 +173,38 @@ module _ {pages : List (ℕ × Origin)} {taken : List ℕ} {table : TableParts (
   -- another table, with no page less and no call more
   kept_table : (table' : TableParts (Option Known)) → ((q : ℕ) → has_page table.pages q ≡ true → has_page table'.pages q ≡ true)
       → ((call : ℕ) → has_call table'.items call ≡ true → has_call table.items call ≡ true)
-      → length table'.pages ≤ length table.pages → total table'.pages ≤ total table.pages → AreTabs pages taken table' changes
-  kept_table table' opened begun few_pages few_calls = record {
+      → length table'.pages ≤ length table.pages → total table'.pages ≤ total table.pages → length table'.waits ≡ length table.waits
+      → ((call : ℕ) (known : Known) → item_known table'.items call ≡ Some known → stands_in call table'.waits ≡ is_some (awaits known))
+      → AreTabs pages taken table' changes
+  kept_table table' opened begun few_pages few_calls few_origins waiting = record {
     opened = λ q stands. opened q (h.opened q stands);
     begun = λ call there. h.begun call (begun call there);
     few_pages = (let f = h.few_pages in omega (arith, f, few_pages));
     few_calls = (let f = h.few_calls in omega (arith, f, few_calls));
+    few_origins = (let f = h.few_origins in omega (arith, f, few_origins));
+    waiting = waiting;
   }
 
   -- the pending calls of a page go
   pub tabs_ended : (table' : TableParts (Option Known)) (page : ℕ) (gone : List ℕ) → table'.pages ≡ emptied (nat_eq page) table.pages
-      → LosesItems gone table.items table'.items → AreTabs pages taken table' changes
-  tabs_ended table' page gone is loses =
+      → LosesItems gone table.items table'.items → table'.waits ≡ all_without_calls gone table.waits → AreTabs pages taken table' changes
+  tabs_ended table' page gone is loses waits =
       kept_table table'
       (λ q there. ap (λ lists. has_page lists q) is ∙ page_emptied q page table.pages ∙ there)
       (λ call there. was_there (has call gone) None (item_of table.items call) (item_of table'.items call) (loses call) (λ e. absurd (cc))
       there)
       (let l = ap length is ∙ length-set_value (nat_eq page) table.pages [] in omega (arith, l))
       (let t = total_emptied page table.pages in let e = ap total is in omega (arith, t, e))
+      (ap length waits ∙ length_without_calls gone table.waits)
+      (λ call known found. at call known (has call gone) refl
+      (sym (ap (λ o. option_and_then (λ k. k) (option_and_then (λ k. k) o)) (loses call)) ∙ found))
+    where
+      at : (call : ℕ) (known : Known) (b : Bool) → has call gone ≡ b
+          → option_and_then (λ k. k) (option_and_then (λ k. k) (cond b None (item_of table.items call))) ≡ Some known
+          → stands_in call table'.waits ≡ is_some (awaits known)
+      at call known true there found = absurd (cc)
+      at call known false apart found =
+          ap (stands_in call) waits ∙ stands_without_calls call gone table.waits apart ∙ h.waiting call known found
 
   -- a page is added
   pub tabs_added : (table' : TableParts (Option Known)) (page changes' : ℕ)
@@ -196,6 +215,11 @@ module _ {pages : List (ℕ × Origin)} {taken : List ℕ} {table : TableParts (
     few_pages =
         (let l = length_keyed page table.pages in let e = ap length listed in let f = h.few_pages in omega (arith, l, e, f, more));
     few_calls = (let l = total_keyed page table.pages in let e = ap total listed in let f = h.few_calls in omega (arith, l, e, f, more));
+    few_origins =
+        (let e = ap (λ (t : TableParts (Option Known)). length t.waits) is in let f = h.few_origins in omega (arith, e, f, more));
+    waiting = λ call known found.
+        ap (λ (t : TableParts (Option Known)). stands_in call t.waits) is
+        ∙ h.waiting call known (sym (ap (λ (t : TableParts (Option Known)). item_known t.items call) is) ∙ found);
   }
     where
       listed : table'.pages ≡ with_key nat_eq page table.pages
@@ -208,6 +232,8 @@ module _ {pages : List (ℕ × Origin)} {taken : List ℕ} {table : TableParts (
     begun = h.begun;
     few_pages = (let f = h.few_pages in omega (arith, f, more));
     few_calls = (let f = h.few_calls in omega (arith, f, more));
+    few_origins = (let f = h.few_origins in omega (arith, f, more));
+    waiting = h.waiting;
   }
 
   -- a page that was loaded stands
@@ -218,6 +244,8 @@ module _ {pages : List (ℕ × Origin)} {taken : List ℕ} {table : TableParts (
     begun = h.begun;
     few_pages = h.few_pages;
     few_calls = h.few_calls;
+    few_origins = h.few_origins;
+    waiting = h.waiting;
   }
     where
       at : (q : ℕ) (b : Bool) → nat_eq q page ≡ b → is_some (cond b (Some origin) (lookup (nat_eq q) pages)) ≡ true
@@ -234,6 +262,8 @@ module _ {pages : List (ℕ × Origin)} {taken : List ℕ} {table : TableParts (
     begun = h.begun;
     few_pages = h.few_pages;
     few_calls = h.few_calls;
+    few_origins = h.few_origins;
+    waiting = h.waiting;
   }
     where
       stood : (q : ℕ) (ps : List (ℕ × Origin)) → is_some (lookup (nat_eq q) (shift_remove_entry (nat_eq page) ps)) ≡ true
@@ -264,22 +294,37 @@ module _ {pages : List (ℕ × Origin)} {taken : List ℕ} {table : TableParts (
     begun = λ other there. any_more other call taken (h.begun other there);
     few_pages = h.few_pages;
     few_calls = h.few_calls;
+    few_origins = h.few_origins;
+    waiting = h.waiting;
   }
 
   -- a call that was taken is added
-  pub tabs_entered : (table' : TableParts (Option Known)) (page call changes' : ℕ) (item : Option (Option Known))
-      → table'.pages ≡ with_last nat_eq page call table.pages → ChangesItem call (Some item) table.items table'.items
-      → changes' ≡ changes + 1 → AreTabs pages (taken ++ call ∷ []) table' changes'
-  tabs_entered table' page call changes' item is changed more = record {
+  pub tabs_entered : (table' : TableParts (Option Known)) (page call changes' : ℕ) (item : Option Known)
+      → table'.pages ≡ with_last nat_eq page call table.pages → ChangesItem call (Some (Some item)) table.items table'.items
+      → changes' ≡ changes + 1 → table'.waits ≡ table.waits → stands_in call table.waits ≡ false → awaited_in item ≡ None
+      → AreTabs pages (taken ++ call ∷ []) table' changes'
+  tabs_entered table' page call changes' item is changed more waits apart idle = record {
     opened = λ q stands. ap (λ lists. has_page lists q) is ∙ page_last page call q table.pages (h.opened q stands);
     begun = λ other there. at other (nat_eq call other) refl (sym (ap is_some (changed other)) ∙ there);
     few_pages =
         (let l = length_inserted page (page_calls table.pages page ++ call ∷ []) table.pages in let e = ap length is in let f =
         h.few_pages in omega (arith, l, e, f, more));
     few_calls = (let l = total_last page call table.pages in let e = ap total is in let f = h.few_calls in omega (arith, l, e, f, more));
+    few_origins = (let e = ap length waits in let f = h.few_origins in omega (arith, e, f, more));
+    waiting = λ other known found. waiting_at other known (nat_eq call other) refl
+        (sym (ap (λ o. option_and_then (λ k. k) (option_and_then (λ k. k) o)) (changed other)) ∙ found);
   }
     where
-      at : (other : ℕ) (b : Bool) → nat_eq call other ≡ b → is_some (cond b (Some item) (item_of table.items other)) ≡ true
+      waiting_at : (other : ℕ) (known : Known) (b : Bool) → nat_eq call other ≡ b
+          → option_and_then (λ k. k) (option_and_then (λ k. k) (cond b (Some (Some item)) (item_of table.items other))) ≡ Some known
+          → stands_in other table'.waits ≡ is_some (awaits known)
+      waiting_at other known true same found =
+          let key : call ≡ other = grind (arith, nat_tests, same) in
+          ap (stands_in other) waits ∙ ap (λ k. stands_in k table.waits) (sym key) ∙ apart
+          ∙ sym (ap is_some (ap awaited_in (sym found) ∙ idle))
+      waiting_at other known false same found = ap (stands_in other) waits ∙ h.waiting other known found
+
+      at : (other : ℕ) (b : Bool) → nat_eq call other ≡ b → is_some (cond b (Some (Some item)) (item_of table.items other)) ≡ true
           → list_any (nat_eq other) (taken ++ call ∷ []) ≡ true
       at other true same there =
           let key : call ≡ other = grind (arith, nat_tests, same) in
@@ -288,13 +333,25 @@ module _ {pages : List (ℕ × Origin)} {taken : List ℕ} {table : TableParts (
 
   -- what is kept of a call changes
   pub tabs_items : (table' : TableParts (Option Known)) (call : ℕ) (known : Option (Option (Option Known)))
-      → table'.pages ≡ table.pages → ChangesItem call known table.items table'.items
-      → (is_some known ≡ true → has_call table.items call ≡ true) → AreTabs pages taken table' changes
-  tabs_items table' call known is changed only =
+      → table'.pages ≡ table.pages → table'.waits ≡ table.waits → ChangesItem call known table.items table'.items
+      → (is_some known ≡ true → has_call table.items call ≡ true)
+      → ((k : Known) → option_and_then (λ k. k) (option_and_then (λ k. k) known) ≡ Some k → stands_in call table.waits ≡ is_some (awaits k))
+      → AreTabs pages taken table' changes
+  tabs_items table' call known is waits changed only waiting =
       kept_table table' (λ q there. ap (λ lists. has_page lists q) is ∙ there)
       (λ other there. at other (nat_eq call other) refl (sym (ap is_some (changed other)) ∙ there))
-      (let e = ap length is in omega (arith, e)) (let e = ap total is in omega (arith, e))
+      (let e = ap length is in omega (arith, e)) (let e = ap total is in omega (arith, e)) (ap length waits)
+      (λ other k found. waiting_at other k (nat_eq call other) refl
+      (sym (ap (λ o. option_and_then (λ k. k) (option_and_then (λ k. k) o)) (changed other)) ∙ found))
     where
+      waiting_at : (other : ℕ) (k : Known) (b : Bool) → nat_eq call other ≡ b
+          → option_and_then (λ k. k) (option_and_then (λ k. k) (cond b known (item_of table.items other))) ≡ Some k
+          → stands_in other table'.waits ≡ is_some (awaits k)
+      waiting_at other k true same found =
+          let key : call ≡ other = grind (arith, nat_tests, same) in
+          ap (stands_in other) waits ∙ ap (λ q. stands_in q table.waits) (sym key) ∙ waiting k found
+      waiting_at other k false same found = ap (stands_in other) waits ∙ h.waiting other k found
+
       at : (other : ℕ) (b : Bool) → nat_eq call other ≡ b → is_some (cond b known (item_of table.items other)) ≡ true
           → has_call table.items other ≡ true
       at other true same there =
@@ -304,13 +361,60 @@ module _ {pages : List (ℕ × Origin)} {taken : List ℕ} {table : TableParts (
 
   -- a call leaves
   pub tabs_dropped : (table' : TableParts (Option Known)) (call : ℕ) → table'.pages ≡ all_without call table.pages
-      → ChangesItem call None table.items table'.items → AreTabs pages taken table' changes
-  tabs_dropped table' call is changed =
+      → table'.waits ≡ all_without call table.waits → ChangesItem call None table.items table'.items → AreTabs pages taken table' changes
+  tabs_dropped table' call is waits changed =
       kept_table table' (λ q there. ap (λ lists. has_page lists q) is ∙ page_without call q table.pages ∙ there)
       (λ other there. was_there (nat_eq call other) None (item_of table.items other) (item_of table'.items other) (changed other)
       (λ e. absurd (cc)) there)
       (let l = ap length is ∙ length_without call table.pages in omega (arith, l))
       (let t = total_loses call table.pages in let e = ap total is in omega (arith, t, e))
+      (ap length waits ∙ waits_without call table.waits)
+      (λ other k found. waiting_at other k (nat_eq call other) refl
+      (sym (ap (λ o. option_and_then (λ k. k) (option_and_then (λ k. k) o)) (changed other)) ∙ found))
+    where
+      waiting_at : (other : ℕ) (k : Known) (b : Bool) → nat_eq call other ≡ b
+          → option_and_then (λ k. k) (option_and_then (λ k. k) (cond b None (item_of table.items other))) ≡ Some k
+          → stands_in other table'.waits ≡ is_some (awaits k)
+      waiting_at other k true same found = absurd (cc)
+      waiting_at other k false same found =
+          ap (stands_in other) waits ∙ stands_without other call table.waits same ∙ h.waiting other k found
+
+  -- a call that is lent out waits, or waits no longer
+  module _ (table' : TableParts (Option Known)) (call : ℕ) (lent : item_known table.items call ≡ None) where
+    waits_changed : (changes' : ℕ) (waits : List (Origin × List ℕ)) → table' ≡ record table { waits = waits }
+        → changes ≤ changes' → length waits ≤ changes'
+        → ((other : ℕ) → nat_eq call other ≡ false → stands_in other waits ≡ stands_in other table.waits)
+        → AreTabs pages taken table' changes'
+    waits_changed changes' waits is more few same =
+        subst (λ (t : TableParts (Option Known)). AreTabs pages taken t changes') (sym is) (record {
+          opened = h.opened;
+          begun = h.begun;
+          few_pages = (let f = h.few_pages in omega (arith, f, more));
+          few_calls = (let f = h.few_calls in omega (arith, f, more));
+          few_origins = few;
+          waiting = λ other known found. same other (other_call other known found (nat_eq call other) refl) ∙ h.waiting other known found;
+        })
+      where
+        other_call : (other : ℕ) (known : Known) → item_known table.items other ≡ Some known → (b : Bool) → nat_eq call other ≡ b
+            → b ≡ false
+        other_call other known found true at =
+            let key : call ≡ other = grind (arith, nat_tests, at) in
+            let none : item_known table.items other ≡ None = ap (item_known table.items) (sym key) ∙ lent in
+            absurd (cc)
+        other_call other known found false at = refl
+
+    pub tabs_waits : (origin : Origin) (changes' : ℕ) → table' ≡ record table { waits = with_last same_origin origin call table.waits }
+        → changes' ≡ changes + 1 → AreTabs pages taken table' changes'
+    tabs_waits origin changes' is more =
+        waits_changed changes' (with_last same_origin origin call table.waits) is (omega (arith, more))
+        (let l = length_last call origin table.waits in let f = h.few_origins in omega (arith, l, f, more))
+        (λ other ne. stands_last other call origin table.waits ne)
+
+    pub tabs_unwaits : table' ≡ record table { waits = all_without call table.waits } → AreTabs pages taken table' changes
+    tabs_unwaits is =
+        waits_changed changes (all_without call table.waits) is (omega arith)
+        (let l = waits_without call table.waits in let f = h.few_origins in omega (arith, l, f))
+        (λ other ne. stands_without other call table.waits ne)
 
   -- a call that was never taken is not in the table
   pub not_there : (call : ℕ) → list_any (nat_eq call) taken ≡ false → has_call table.items call ≡ false
@@ -320,12 +424,27 @@ module _ {pages : List (ℕ × Origin)} {taken : List ℕ} {table : TableParts (
       at true is = let taken_it : list_any (nat_eq call) taken ≡ true = h.begun call is in absurd (cc)
       at false is = refl
 
+  -- and waits for nothing
+  pub not_waiting : IsCallTable table → (call : ℕ) → list_any (nat_eq call) taken ≡ false → stands_in call table.waits ≡ false
+  not_waiting lists call fresh =
+      none_stands call table.waits
+      (let w = lists.waiting call in let none = ap {B = ℕ} (λ b. cond b 1 0) (not_there call fresh) in omega (arith, w, none))
+
 -- ---- what is known
+
+-- of what is handed out nothing is known
+pub never_lent : {A : Type 0} (known : Option (Option (Option Known))) (k : Known)
+    → option_and_then (λ k. k) (option_and_then (λ k. k) (lent_out known)) ≡ Some k → A
+never_lent None k e = absurd (cc)
+never_lent (Some item) k e = absurd (cc)
 
 -- what is handed out is no longer known, and was in the table
 pub lent_known : (known : Option (Option (Option Known))) → option_and_then (λ k. k) (option_and_then (λ k. k) (lent_out known)) ≡ None
 lent_known None = refl
 lent_known (Some item) = refl
+
+pub lent_none : (items : Items) (call : ℕ) → item_of items call ≡ Some None → item_known items call ≡ None
+lent_none items call lent = ap (λ o. option_and_then (λ k. k) (option_and_then (λ k. k) o)) lent
 
 pub lent_there : (known : Option (Option (Option Known))) → is_some (lent_out known) ≡ true → is_some known ≡ true
 lent_there None e = e
@@ -418,10 +537,30 @@ ends_from page old inside gets table is listed waits items held =
 -- this is known of a call from now on
 pub stays_from : (call : ℕ) (after : Option Known) (old inside : TabsParts) (table : TableParts (Option Known)) → inside ≡ old
     → table.pages ≡ inside.table.pages → table.waits ≡ inside.table.waits
-    → ChangesKnown call after inside.table.items table.items → Stays call after old (record inside { table = table })
+    → ChangesKnown call after inside.table.items table.items → Stays call after old.table.waits old (record inside { table = table })
 stays_from call after old inside table is listed waits known =
-    subst (λ (o : TabsParts). Stays call after o (record inside { table = table })) is
-    (record { pages = refl; listed = listed; gets = refl; taken = refl; waits = waits; known = known })
+    subst (λ (o : TabsParts). Stays call after o.table.waits o (record inside { table = table })) is
+    (record { pages = refl; listed = listed; gets = refl; taken = refl; waiting = waits; known = known })
+
+-- and it waits, or waits no longer
+pub goes_on_from : (page call : ℕ) (waited : Bool) (kept : Option Known) (old mid new : TabsParts) → is_some kept ≡ true
+    → mid ≡ record old { table = record old.table { waits = waits_next waited call (awaited_in kept) old.table.waits } }
+    → Stays call kept mid.table.waits mid new → GoesOn page call waited kept old new
+goes_on_from page call waited None old mid new there is stays = absurd (cc)
+goes_on_from page call waited (Some known) old mid new there is stays = record {
+  pages = stays.pages ∙ ap (λ (t : TabsParts). t.pages) is;
+  listed = stays.listed ∙ ap (λ (t : TabsParts). t.table.pages) is;
+  gets = stays.gets ∙ ap (λ (t : TabsParts). t.gets) is;
+  taken = stays.taken ∙ ap (λ (t : TabsParts). t.taken) is;
+  waiting = stays.waiting ∙ ap (λ (t : TabsParts). t.table.waits) is;
+  known = subst (λ items. ChangesKnown call (Some known) items new.table.items) (ap (λ (t : TabsParts). t.table.items) is) stays.known;
+}
+
+-- a call that is over leaves its page
+pub leaves_then : (page call : ℕ) (waited : Bool) (kept : Option Known) (old new : TabsParts) → None ≡ option_map page_of kept
+    → Leaves page call old new → GoesOn page call waited kept old new
+leaves_then page call waited None old new over leaves = leaves
+leaves_then page call waited (Some known) old new over leaves = absurd (cc)
 
 -- a call leaves its page
 pub leaves_from : (page call : ℕ) (old inside : TabsParts) (gets : List (ℕ × ℕ)) (table : TableParts (Option Known)) → inside ≡ old
@@ -483,9 +622,22 @@ tabs_new pages taken table no_page empty = record {
       absurd (cc);
   few_pages = (let l = ap (λ (t : TableParts (Option Known)). length t.pages) empty in omega (arith, l));
   few_calls = (let l = ap (λ (t : TableParts (Option Known)). total t.pages) empty in omega (arith, l));
+  few_origins = (let l = ap (λ (t : TableParts (Option Known)). length t.waits) empty in omega (arith, l));
+  waiting = λ call known found.
+      let none : item_known table.items call ≡ None = ap (λ (t : TableParts (Option Known)). item_known t.items call) empty in
+      absurd (cc);
 }
 
 -- ---- what is handed out
+
+-- what is handed out waits where its window is open
+pub waits_after : {pages : List (ℕ × Origin)} {taken : List ℕ} {table : TableParts (Option Known)} {changes : ℕ}
+    → AreTabs pages taken table changes → (call : ℕ) (waits : List (Origin × List ℕ)) (handed : Option (Option Known))
+    → handed ≡ present_item table.items call → waits ≡ table.waits
+    → IfSome handed (λ kept. (known : Known) → kept ≡ Some known → stands_in call waits ≡ is_some (awaits known))
+waits_after h call waits None is same = tt
+waits_after h call waits (Some kept) is same = λ known found.
+    ap (stands_in call) same ∙ h.waiting call known (sym (ap (option_and_then (λ k. k)) is) ∙ found)
 
 pub lent_after : (call : ℕ) (old new : Items) (handed : Option (Option Known)) → handed ≡ present_item old call
     → ChangesItem call (lent_out (item_of old call)) old new → IfSome handed (λ kept. item_of new call ≡ Some None)

@@ -14,11 +14,11 @@ use Rattle.fed_script.specs.declared.event.Header.{Header}
 use Rattle.fed_jar.specs.Writes as jar
 use Rattle.fed_table.specs.Table.{page_calls}
 use Rattle.fed_trace.specs.Effect.{last_of, page_change, login_change, kept_change, flag_change, call_change, stage_change, begun_by}
-use Rattle.fed_trace.specs.Effect.{begins, written_by, time_of}
+use Rattle.fed_trace.specs.Effect.{begins, written_by, time_of, loaded_change}
 use Rattle.fed_trace.specs.Keyed.{entries_after}
 use Rattle.fed_trace.specs.Known.{known_at}
 use Rattle.fed_trace.specs.Row.{effects_of, with_event, IsNew}
-use Rattle.fed_session.specs.Session.{State, TabsParts, Stands, load_change, item_known, pending_call, pending_calls}
+use Rattle.fed_session.specs.Session.{State, TabsParts, Stands, windows, item_known, pending_call, pending_calls}
 use Rattle.fed_session.specs.StepParts.{sight_of}
 use Rattle.fed_trace.specs.Trace.{Trace, pages, pending, last_in, writes, standing}
 use Rattle.fed_trace.proofs.keyed.Keyed.{unwrap_or-option_or}
@@ -29,6 +29,7 @@ use Rattle.fed_session.proofs.clauses.Sight.{sees}
 use Rattle.fed_session.proofs.kept.Calls.{pending_same}
 use Rattle.fed_session.proofs.kept.Held.{Holds}
 use Rattle.fed_session.proofs.kept.Loaded.{loads_silent}
+use Rattle.fed_session.proofs.waits.Windows.{windows_still}
 
 -- ---- one event more
 
@@ -52,9 +53,9 @@ pub record Owes (s s' : State) (T : Trace) (line : ℕ) (event : Event) : Type 0
   pub login : s'.login ≡ entries_after same_origin login_change (effects_of T event) s.login
   pub pages : s'.tabs.pages ≡ entries_after nat_eq page_change (effects_of T event) (pages T)
   pub loaded : keys_of s'.tabs.table.pages
-      ≡ keys_of (entries_after nat_eq load_change (effects_of T event) (standing nat_eq load_change T.rows))
+      ≡ keys_of (entries_after nat_eq loaded_change (effects_of T event) (standing nat_eq loaded_change T.rows))
   pub held : Holds s'.tabs.table.pages s'.tabs.gets (entries_after nat_eq call_change (effects_of T event) (pending T))
-  pub waits : s'.tabs.table.waits ≡ []
+  pub waits : s'.tabs.table.waits ≡ windows (with_event T line event)
   pub taken : s'.tabs.taken ≡ s.tabs.taken ++ filter_map begun_by (effects_of T event)
   pub pending : pending_calls (item_known s'.tabs.table.items) s'.tabs.taken
       ≡ entries_after nat_eq call_change (effects_of T event) (pending T)
@@ -161,12 +162,12 @@ owes_as_known s s' T line event h aside rules kept_now flags_now time written lo
       login = login;
       pages = same_pages ∙ h.pages ∙ sym (entries_silent nat_eq page_change effects (pages T) aside.pages);
       loaded = ap keys_of listed ∙ h.loaded
-          ∙ ap keys_of (sym (entries_silent nat_eq load_change effects (standing nat_eq load_change T.rows)
+          ∙ ap keys_of (sym (entries_silent nat_eq loaded_change effects (standing nat_eq loaded_change T.rows)
           (loads_silent effects aside.pages)));
       held = subst (Holds s'.tabs.table.pages s'.tabs.gets) (sym no_call)
           (subst (λ gets. Holds s'.tabs.table.pages gets (pending T)) (sym gets)
           (subst (λ lists. Holds lists s.tabs.gets (pending T)) (sym listed) (stands_held s T h)));
-      waits = waits ∙ h.waits;
+      waits = waits ∙ h.waits ∙ sym (windows_still T line event (λ q. last_silent (begins q) effects (aside.begins_none q)) aside.stages);
       taken = taken ∙ sym (append-nil s.tabs.taken) ∙ ap (λ xs. s.tabs.taken ++ xs) (sym (said_silent begun_by effects aside.begun));
       pending =
           ap (pending_calls (item_known s'.tabs.table.items)) taken

@@ -1,5 +1,5 @@
 -- The accounts that are listed, as permissions come and go.
-use Rattle.std.proofs.Common.{◌≡◌, ℕ, Bool, true, false, cond, not, ◌&&◌, ◌||◌, nat_eq, List, [], ◌∷◌, ◌++◌}
+use Rattle.std.proofs.Common.{◌≡◌, ℕ, Bool, true, false, cond, not, ◌||◌, nat_eq, List, [], ◌∷◌, ◌++◌}
 use Rattle.std.proofs.Common.{filter, slice_get}
 use Rattle.std.proofs.Common.{is_some, Option, Some, None, eq-eqb, refl, sym, ap, ◌∙◌}
 use Rattle.std.specs.List.{AllByRecursion, IsDistinct, list_any}
@@ -10,9 +10,9 @@ use Rattle.fed_origin.specs.declared.status.Triple.{Triple}
 use Rattle.fed_status.specs.declared.place.Pair.{Pair}
 use Rattle.fed_status.specs.declared.place.Place.{Place}
 use Rattle.fed_status.specs.Pairs.{accounts_in, accounts_of, is_listed, ListsSame, ListsOne, ListsNone}
-use Rattle.fed_status.specs.Place.{same_place, same_pair, pair_at, is_at_pair, place_in}
+use Rattle.fed_status.specs.Place.{same_place, pair_at, is_at_pair, place_in}
 use Rattle.fed_status.specs.Table.{ArePairsOf}
-use Rattle.fed_status.proofs.numbers.Equal.{pair_laws, same_place_is, same_place_self, place_flips, place_laws, by_pair, pair_of_same}
+use Rattle.fed_status.proofs.numbers.Equal.{pair_laws, same_place_is, same_place_self, place_flips, place_laws, pair_of_same}
 
 module _ {S : Type 0} (pair : Pair) where
   pub same_accounts : (old : List (Pair × IndexSet ℕ S)) (place : Place) → is_at_pair pair place ≡ true

@@ -2,9 +2,10 @@
 use Rattle.std.proofs.Common.{◌≡◌, ℕ, Bool, true, false, cond, not, ◌&&◌, ◌||◌, nat_eq, List, [], ◌∷◌, filter}
 use Rattle.std.proofs.Common.{is_some, refl, sym, ap, ◌∙◌}
 use Rattle.std.specs.List.{AllByRecursion, IsDistinct, list_any}
-use Rattle.std.specs.Map.{keys_of, lookup, remove_entry}
+use Rattle.std.specs.Map.{keys_of, lookup}
 use Rattle.std.proofs.lemmas.Map.Made.{IsDistinct-keys_filter}
 use Rattle.indexmap.specs.IndexSet.{IndexSet}
+use Rattle.fed_entries.proofs.slots.Changes.{filter_all, removed_is_filter}
 use Rattle.fed_origin.specs.declared.status.Triple.{Triple}
 use Rattle.fed_status.specs.declared.place.Pair.{Pair}
 use Rattle.fed_status.specs.declared.place.Place.{Place}
@@ -20,10 +21,6 @@ filter_same : {X : Type 0} (p q : X → Bool) (xs : List X) → AllByRecursion (
 filter_same p q [] all = refl
 filter_same p q (x ∷ xs) all = (λ i. cond (all.0 i) (x ∷ filter_same p q xs all.1 i) (filter_same p q xs all.1 i))
 
-filter_all : {X : Type 0} (p : X → Bool) (xs : List X) → AllByRecursion (λ x. p x ≡ true) xs → filter p xs ≡ xs
-filter_all p [] all = refl
-filter_all p (x ∷ xs) all = (λ i. cond (all.0 i) (x ∷ filter_all p xs all.1 i) (filter_all p xs all.1 i))
-
 filter_twice : {X : Type 0} (p q r : X → Bool) → ((x : X) → (p x && q x) ≡ r x) → (xs : List X)
     → filter q (filter p xs) ≡ filter r xs
 filter_twice p q r is [] = refl
@@ -37,27 +34,6 @@ filter_twice {X} p q r is (x ∷ xs) = pick (p x) refl (filter_twice p q r is xs
     pick false t h =
         let e : false ≡ r x = ap (λ b. b && q x) (sym t) ∙ is x in
         h ∙ ap (λ b. cond b (x ∷ filter r xs) (filter r xs)) e
-
--- where none stands twice, all entries of a place go with the first
-pub removed_is_filter : (place : Place) (es : List (Place × Triple)) → IsDistinct same_place (keys_of es)
-    → remove_entry (same_place place) es ≡ filter (λ e. not (same_place place e.0)) es
-unfolding IsDistinct
-removed_is_filter place [] d = refl
-removed_is_filter place (e ∷ es) d = pick (same_place place e.0) refl (removed_is_filter place es d.1)
-  where
-    others : List (Place × Triple)
-    others = filter (λ e. not (same_place place e.0)) es
-
-    apart : same_place place e.0 ≡ true → (ds : List (Place × Triple))
-        → AllByRecursion (λ k. same_place e.0 k ≡ false) (keys_of ds)
-        → AllByRecursion (λ d. not (same_place place d.0) ≡ true) ds
-    apart t [] all = tt
-    apart t (d ∷ ds) all = (ap not (place_laws.congr place e.0 d.0 t ∙ all.0), apart t ds all.1)
-
-    pick : (b : Bool) → same_place place e.0 ≡ b → remove_entry (same_place place) es ≡ others
-        → cond b es (e ∷ remove_entry (same_place place) es) ≡ cond (not b) (e ∷ others) others
-    pick true t h = sym (filter_all (λ d. not (same_place place d.0)) es (apart t es d.0))
-    pick false t h = ap (λ l. e ∷ l) h
 
 -- a place of the pair, for one of these accounts
 abbrev is_gone : Pair → List ℕ → Place → Bool
@@ -75,7 +51,7 @@ each_goes pair [] es d = sym (filter_all (λ e. not (is_gone pair [] e.0)) es (s
     stay [] = tt
     stay (e ∷ ds) = (none (is_at_pair pair e.0), stay ds)
 each_goes pair (account ∷ accounts) es d =
-    ap (without_accounts pair accounts) (removed_is_filter place es d)
+    ap (without_accounts pair accounts) (removed_is_filter same_place place_laws place es d)
     ∙ each_goes pair accounts left (IsDistinct-keys_filter same_place (λ e. not (same_place place e.0)) es d)
     ∙ filter_twice (λ e. not (same_place place e.0)) (λ e. not (is_gone pair accounts e.0)) (λ e. not (is_gone pair
     (account ∷ accounts) e.0)) (λ e. here e.0) es

@@ -4,6 +4,8 @@ use Rattle.std.proofs.Common.{refl, sym, ap, ◌∙◌}
 use Rattle.std.specs.List.{AllByRecursion, IsDistinct}
 use Rattle.std.specs.Map.{keys_of, values_of, lookup, remove_entry}
 use Rattle.std.proofs.lemmas.Map.Made.{IsDistinct-keys_filter}
+use Rattle.indexmap.specs.IndexMap.{insert_entry}
+use Rattle.fed_entries.proofs.slots.Changes.{distinct_last, insert_new, none_of, removed_is_filter}
 use Rattle.fed_origin.specs.declared.origin.Origin.{Origin}
 use Rattle.fed_origin.specs.declared.status.Triple.{Triple}
 use Rattle.fed_origin.specs.Status.{same_triple}
@@ -18,9 +20,9 @@ use Rattle.fed_status.specs.Place.{same_place, place_of, pair_of, IsInPlace, Gro
 use Rattle.fed_status.proofs.lists.Entries.{each, any_agrees, found_agrees, removed_agrees, filtered_agrees, none_passes}
 use Rattle.fed_status.proofs.lists.Entries.{none_removed, none_filtered, each_put_last, each_removed, each_filtered}
 use Rattle.fed_status.proofs.lists.Entries.{distinct_values}
+use Rattle.fed_status.proofs.numbers.Equal.{place_laws}
 use Rattle.fed_status.proofs.numbers.Listed.{one_comes, one_goes, pair_listed}
 use Rattle.fed_status.proofs.numbers.Places.{place_agrees, place_absent, pair_agrees, pair_absent, stay_in_place}
-use Rattle.fed_status.proofs.numbers.Removed.{removed_is_filter}
 
 -- no two permissions are the same, where no two have the same numbers
 pub are_distinct : (names : Names) (entries : List (Place × Triple)) → AllByRecursion (IsInPlace names) entries
@@ -87,12 +89,16 @@ module _ (table : Table) (h : IsTable table) where
       let has : has_triple (triples_of table) triple ≡ true = sym (found triple place e) ∙ there in
       rw has refl
 
+  goes_last : (triple : Triple) (place : Place) → is_some (lookup (same_place place) table.kept) ≡ false
+      → insert_entry same_place table.kept place triple ≡ table.kept ++ (place, triple) ∷ []
+  goes_last triple place absent = sym (insert_new same_place place triple table.kept (none_of _ absent))
+
   pub put_last : (triple : Triple) (place : Place) → place_of table.names triple ≡ Some place
       → is_some (lookup (same_place place) table.kept) ≡ false
-      → values_of (table.kept ++ (place, triple) ∷ []) ≡ with_triple (triples_of table) triple
+      → values_of (insert_entry same_place table.kept place triple) ≡ with_triple (triples_of table) triple
   put_last triple place e absent =
       let has : has_triple (triples_of table) triple ≡ false = sym (found triple place e) ∙ absent in
-      last_value table.kept (place, triple) ∙ sym (rw has refl)
+      ap values_of (goes_last triple place absent) ∙ last_value table.kept (place, triple) ∙ sym (rw has refl)
     where
       last_value : (es : List (Place × Triple)) (e : Place × Triple) → values_of (es ++ e ∷ []) ≡ values_of es ++ e.1 ∷ []
       last_value [] e = refl
@@ -100,10 +106,14 @@ module _ (table : Table) (h : IsTable table) where
 
   -- the table with one more
   pub with_one : (triple : Triple) (place : Place) → place_of table.names triple ≡ Some place
-      → (new : Table) → new.names ≡ table.names → new.kept ≡ table.kept ++ (place, triple) ∷ []
-      → IsDistinct same_place (keys_of new.kept)
+      → is_some (lookup (same_place place) table.kept) ≡ false
+      → (new : Table) → new.names ≡ table.names → new.kept ≡ insert_entry same_place table.kept place triple
       → ListsOne place true table.pairs.entries new.pairs.entries → IsTable new
-  with_one triple place e new names last apart more =
+  with_one triple place e absent new names inserted more =
+      let last : new.kept ≡ table.kept ++ (place, triple) ∷ [] = inserted ∙ goes_last triple place absent in
+      let apart : IsDistinct same_place (keys_of new.kept) =
+      subst (λ es. IsDistinct same_place (keys_of es)) (sym last)
+      (distinct_last same_place place_laws place triple table.kept (none_of _ absent) h.apart) in
       let in_place : AllByRecursion (IsInPlace new.names) new.kept =
       subst (λ es. AllByRecursion (IsInPlace new.names) es) (sym last)
       (subst (λ ns. AllByRecursion (IsInPlace ns) (table.kept ++ (place, triple) ∷ [])) (sym names)
@@ -136,7 +146,7 @@ module _ (table : Table) (h : IsTable table) where
       (subst (λ ns. AllByRecursion (IsInPlace ns) (remove_entry (same_place place) table.kept)) (sym names)
       (each_removed (IsInPlace table.names) (same_place place) table.kept h.in_place)) in
       let apart : IsDistinct same_place (keys_of new.kept) =
-      subst (λ es. IsDistinct same_place (keys_of es)) (sym (left ∙ removed_is_filter place table.kept h.apart))
+      subst (λ es. IsDistinct same_place (keys_of es)) (sym (left ∙ removed_is_filter same_place place_laws place table.kept h.apart))
       (IsDistinct-keys_filter same_place (λ e. not (same_place place e.0)) table.kept h.apart) in
       record {
         in_place = in_place;

@@ -22,6 +22,8 @@ use Rattle.fed_trace.specs.Known.{world_at, is_begun, known_at}
 use Rattle.fed_trace.specs.Row.{effects_of, cookies_with, cookies_from, have_cookies, have_states, set_cookies, set_logins, cookie_effects}
 use Rattle.fed_trace.specs.Row.{ends_of, close_effects, standing_says, page_says, is_busy, IsNew, IsRun}
 use Rattle.fed_trace.specs.Trace.{Row, Trace, begun, pending_of, page_at, now_at, gets}
+use Rattle.fed_trace.specs.Windows.{windows_of}
+use Rattle.fed_trace.proofs.calls.Resumed.{idpclose_silent}
 use Rattle.fed_trace.proofs.calls.Pending.{BeginsAtMost, ends_silent, load_silent, call_begins, input_begins_none}
 use Rattle.fed_trace.proofs.effects.Silent.{AllSilent, said_silent, silent_map, silent_append}
 
@@ -112,6 +114,13 @@ event_begins T (events.GoOn call) =
     inl (input_begins_none (world_at T) (cookies_with T) (is_begun T call) call (known_at T call) inputs.GoOn)
 event_begins T (events.Cancel call) =
     inl (input_begins_none (world_at T) (cookies_with T) (is_begun T call) call (known_at T call) inputs.Cancel)
+event_begins T (events.SignIn call) =
+    inl (input_begins_none (world_at T) (cookies_with T) (is_begun T call) call (known_at T call) inputs.SignIn)
+event_begins T (events.ShutWindow call) =
+    inl (input_begins_none (world_at T) (cookies_with T) (is_begun T call) call (known_at T call) inputs.Shut)
+event_begins T (events.IdpClose page) =
+    inl (idpclose_silent begun_by (record { ignored = λ w. refl; sent = λ n c p t k. refl; move = λ n c. refl }) (world_at T)
+    (cookies_with T) (known_at T) (windows_of T) (page_at T page))
 event_begins T (Reply call provider kind raw) =
     inl (input_begins_none (world_at T) (cookies_with T) (is_begun T call) call (known_at T call) (inputs.Reply provider kind raw))
 

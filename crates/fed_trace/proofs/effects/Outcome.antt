@@ -1,8 +1,8 @@
 -- What an outcome of a call says.
-use Rattle.std.proofs.Common.{◌≡◌, ℕ, Bool, true, false, nat_eq, ◌||◌, List, [], ◌∷◌, ◌++◌, Some, None, refl, ap}
+use Rattle.std.proofs.Common.{◌≡◌, ℕ, Bool, true, false, nat_eq, ◌||◌, List, [], ◌∷◌, ◌++◌, Some, None, refl, sym, ap}
 use Rattle.std.proofs.Common.{◌∙◌, cond}
 use Rattle.std.proofs.lemmas.List.Folds.{list_any-append}
-use Rattle.std.specs.Prelude.{Option, option_map, map}
+use Rattle.std.specs.Prelude.{Option, option_map, map, ⊤}
 use Rattle.std.specs.Option.{option_or}
 use Rattle.std.specs.List.{list_any, flat_map}
 use Rattle.fed_origin.specs.declared.stage.Stage.{Stage}
@@ -12,7 +12,7 @@ use Rattle.fed_trace.specs.Begun.{CallKind}
 use Rattle.fed_consent.specs.Outcomes.{Outcome}
 use Rattle.fed_consent.specs.declared.table.effect.Effect.TheVariants as does
 use Rattle.fed_consent.specs.Outcomes as outcomes
-use Rattle.fed_trace.specs.Effect.{Effect, PendingCall, call_change, stage_change, is_ignored, Kept}
+use Rattle.fed_trace.specs.Effect.{Effect, PendingCall, call_change, stage_change, window_change, is_ignored, Kept}
 use Rattle.fed_trace.specs.Keyed.{Change, entries_after, last_said, says}
 use Rattle.fed_trace.specs.Row.{call_effects, moves, outcome_effects}
 use Rattle.fed_trace.proofs.keyed.Keyed.{entries_after-append}
@@ -34,6 +34,18 @@ last_said_after same change q (x ∷ xs) ys h =
     ap (λ c. option_or (last_said same change q (xs ++ ys)) (says same q c)) h.0 ∙ option_or-none (last_said same change q (xs ++ ys))
     ∙ last_said_after same change q xs ys h.1
 
+or_assoc : {A : Type 0} (later said before : Option A) → option_or (option_or later said) before ≡ option_or later (option_or said before)
+or_assoc None said before = refl
+or_assoc (Some x) said before = refl
+
+-- of effects and then others, what the others say counts first
+pub last_said-append : {K V : Type 0} (same : K → K → Bool) (change : Effect → Option (Change K V)) (q : K) (xs ys : List Effect)
+    → last_said same change q (xs ++ ys) ≡ option_or (last_said same change q ys) (last_said same change q xs)
+last_said-append same change q [] ys = sym (option_or-none (last_said same change q ys))
+last_said-append same change q (x ∷ xs) ys =
+    ap (λ o. option_or o (says same q (change x))) (last_said-append same change q xs ys)
+    ∙ or_assoc (last_said same change q ys) (last_said same change q xs) (says same q (change x))
+
 -- of pending calls an outcome says what its move says
 pub outcome_calls : (world : World) (cookies : Ask
     → List ℕ) (kind : CallKind) (call page : ℕ) (outcome : Outcome) (es : List (ℕ × PendingCall))
@@ -45,6 +57,18 @@ outcome_calls world cookies kind call page outcome es =
     ∙ ap (entries_after nat_eq call_change (moves kind call outcome.stage))
     (entries_silent nat_eq call_change does es (silent_call call_change (λ n c p a k. refl) (λ c d. refl) (λ c p u. refl) (λ o s. refl)
     (λ t k. refl) (λ o k. refl) (λ c p f. refl) (λ w. refl) world cookies kind call page outcome.effects))
+
+-- of calls in Window too
+pub outcome_windows : (world : World) (cookies : Ask
+    → List ℕ) (kind : CallKind) (call page : ℕ) (outcome : Outcome) (es : List (ℕ × ⊤))
+    → entries_after nat_eq window_change (outcome_effects world cookies kind call page outcome) es
+    ≡ entries_after nat_eq window_change (moves kind call outcome.stage) es
+outcome_windows world cookies kind call page outcome es =
+    let does = flat_map (call_effects world cookies kind call page) outcome.effects in
+    entries_after-append nat_eq window_change does (moves kind call outcome.stage) es
+    ∙ ap (entries_after nat_eq window_change (moves kind call outcome.stage))
+    (entries_silent nat_eq window_change does es (silent_call window_change (λ n c p a k. refl) (λ c d. refl) (λ c p u. refl)
+    (λ o s. refl) (λ t k. refl) (λ o k. refl) (λ c p f. refl) (λ w. refl) world cookies kind call page outcome.effects))
 
 -- of stages too
 outcome_moves : (world : World) (cookies : Ask → List ℕ) (kind : CallKind) (call page : ℕ) (outcome : Outcome) (q : ℕ)

@@ -91,6 +91,7 @@ stage_turn world facts stages.Reading kind raw =
 stage_turn world facts stages.Asserting kind raw = sending_turn world.kept facts.origin (provider_origin facts.options) kind raw
 stage_turn world facts stages.Listing kind raw = GivesNone refl refl refl
 stage_turn world facts stages.Mismatch kind raw = GivesNone refl refl refl
+stage_turn world facts stages.Window kind raw = GivesNone refl refl refl
 stage_turn world facts stages.Choosing kind raw = GivesNone refl refl refl
 stage_turn world facts stages.Prompting kind raw = GivesNone refl refl refl
 stage_turn world facts stages.Ended kind raw = GivesNone refl refl refl

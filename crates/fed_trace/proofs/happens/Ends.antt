@@ -3,20 +3,23 @@ use Rattle.std.proofs.Common.{◌≡◌, ℕ, Bool, true, false, nat_eq, ◌⊎�
 use Rattle.std.proofs.Common.{None, refl, sym, ap}
 use Rattle.std.proofs.Common.{subst, ◌∙◌, arith, cond}
 use Rattle.std.proofs.lemmas.Bool.Decides.{nat_tests}
+use Rattle.std.specs.Prelude.{option_map}
 use Rattle.std.specs.Option.{option_or}
 use Rattle.std.specs.List.{filter_map, list_any}
 use Rattle.url.specs.Parts.{Parts}
 use Rattle.fed_origin.specs.declared.origin.Origin.{Origin}
-use Rattle.fed_origin.specs.declared.stage.Stage.TheVariants.{Ended}
+use Rattle.fed_origin.specs.declared.stage.Stage.TheVariants.{Window, Ended}
 use Rattle.fed_origin.specs.WebUrl.{origin_of}
+use Rattle.fed_call.specs.Facts.{Facts}
+use Rattle.fed_call.specs.WindowRows.{resumed}
 use Rattle.fed_consent.specs.declared.table.input.Input.{Input}
 use Rattle.fed_consent.specs.declared.table.input.Input.TheVariants as inputs
 use Rattle.fed_consent.specs.declared.table.why.Why.{Why}
 use Rattle.fed_script.specs.declared.event.Event.{Event}
 use Rattle.fed_script.specs.declared.event.Event.TheVariants as events
-use Rattle.fed_script.specs.declared.event.Event.TheVariants.{Load, ClosePage, Get, Disconnect}
+use Rattle.fed_script.specs.declared.event.Event.TheVariants.{Load, ClosePage, Get, Disconnect, IdpClose}
 use Rattle.fed_trace.specs.Begun.{Begun, CallKind, CallOptions, ToGet, ToDisconnect, kind_asked}
-use Rattle.fed_trace.specs.Call.{Known, first_row}
+use Rattle.fed_trace.specs.Call.{Known, OfGet, first_row}
 use Rattle.fed_trace.specs.OfCall.{asked, given, replaces}
 use Rattle.fed_trace.specs.Effect.{Effect, Time, Page, Closed, Begin, Move, Ignored, last_of, page_change, call_change}
 use Rattle.fed_trace.specs.Effect.{stage_change, begins, is_ignored}
@@ -25,21 +28,22 @@ use Rattle.fed_trace.specs.Known.{world_at, is_begun, input_to, known_at}
 use Rattle.fed_trace.specs.Row.{effects_of, cookies_with, cookies_from, outcome_effects, input_effects, ends_of, close_effects}
 use Rattle.fed_trace.specs.Row.{cookie_effects, login_effects, set_cookies, set_logins}
 use Rattle.fed_trace.specs.Trace.{Trace, page_at, pending, pending_of, now_at}
+use Rattle.fed_trace.specs.Windows.{windows_of}
 use Rattle.fed_trace.proofs.calls.Pending.{is_among, ends_silent, load_rest_silent}
 use Rattle.fed_trace.proofs.events.Aside.{IsPlain}
 use Rattle.fed_trace.proofs.effects.Silent.{AllSilent, said_silent, last_silent, last_said_silent, silent_append}
 use Rattle.fed_trace.proofs.known.Known.{said_of}
 use Rattle.fed_trace.proofs.happens.Says.{Quiet, own}
 
--- the event that brings an input to the call, where there is one
+-- the event that brings an input to the call; none brings a Resume
 abbrev pub event_for : ℕ → Input → Option Event
 event_for call (inputs.Reply provider kind raw) = Some (events.Reply call provider kind raw)
 event_for call (inputs.Choose provider account) = Some (events.Choose call provider account)
 event_for call inputs.GoOn = Some (events.GoOn call)
 event_for call inputs.Cancel = Some (events.Cancel call)
 event_for call inputs.Abort = Some (events.Abort call)
-event_for call inputs.SignIn = None
-event_for call inputs.Shut = None
+event_for call inputs.SignIn = Some (events.SignIn call)
+event_for call inputs.Shut = Some (events.ShutWindow call)
 event_for call inputs.Resume = None
 
 -- the event takes an input to the call
@@ -87,11 +91,28 @@ pub record EndsWithPage (T : Trace) (event : Event) (call : ℕ) : Type 0 where
   pub replaced : replaces page event ≡ true
   pub there : is_among call (pending_of T page) ≡ true
 
+-- the call waits for the origin of the event's page, and goes on
+pub record Resumes (T : Trace) (event : Event) (call : ℕ) : Type 0 where
+  pub page : ℕ
+  pub is_event : event ≡ IdpClose page
+  pub origin : Origin
+  pub stands : page_at T page ≡ Some origin
+  pub waits : list_any (nat_eq call) (windows_of T origin) ≡ true
+  pub facts : Facts
+  pub found : known_at T call ≡ Some (OfGet facts)
+  pub at_window : facts.stage ≡ Window
+  pub stage : last_said nat_eq stage_change call (effects_of T event) ≡ option_map Some (resumed facts Window).stage
+  pub pending : last_said nat_eq call_change call (effects_of T event) ≡ None
+  pub begins_none : last_of (begins call) (effects_of T event) ≡ None
+  pub asks : filter_map (asked call) (effects_of T event) ≡ []
+  pub gives : filter_map (given call) (effects_of T event) ≡ []
+
 pub data Happens (T : Trace) (event : Event) (call : ℕ) : Type 0 where
   Left : Leaves T event call → Happens T event call
   Ends : EndsWithPage T event call → Happens T event call
   Started : Starts T event call → Happens T event call
   Took : Takes T event call → Happens T event call
+  Resumed : Resumes T event call → Happens T event call
 
 -- ---- events of no call
 

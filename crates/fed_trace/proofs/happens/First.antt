@@ -17,7 +17,7 @@ use Rattle.fed_status.specs.Shared.{World}
 use Rattle.fed_consent.specs.declared.table.failure.Failure.{Failure}
 use Rattle.fed_consent.specs.declared.table.finish.Finish.TheVariants.{Failed}
 use Rattle.fed_consent.specs.Outcomes.{Outcome, only_place}
-use Rattle.fed_call.specs.ReadingRows.{by_gate, by_silence, by_scheme, start_at}
+use Rattle.fed_call.specs.ReadingRows.{by_gate, by_silence, by_activation, by_scheme, start_at}
 use Rattle.fed_script.specs.declared.event.Event.{Event}
 use Rattle.fed_origin.specs.WebUrl.{scheme_of}
 use Rattle.fed_provider.specs.WellKnown.{WellKnownUrlOf}
@@ -53,16 +53,23 @@ first_by_silence : (place : ℕ) (config wellknown : Parts) (prevented gated : B
 first_by_silence place config wellknown true gated = FailsFirst _ refl refl refl
 first_by_silence place config wellknown false gated = first_by_gate place config wellknown gated
 
-first_by_scheme : (place : ℕ) (scheme : Scheme) (config : Parts) (wellknown : Answer Parts ProviderStep) (prevented gated : Bool)
-    → FirstTurn (by_scheme place scheme config wellknown prevented gated)
-first_by_scheme place Http config wellknown prevented gated = FailsFirst _ refl refl refl
-first_by_scheme place Https config (Err step) prevented gated = FailsFirst _ refl refl refl
-first_by_scheme place Https config (Ok wellknown) prevented gated = first_by_silence place config wellknown prevented gated
+first_by_activation : (place : ℕ) (config : Parts) (wellknown : Answer Parts ProviderStep) (lacking prevented gated : Bool)
+    → FirstTurn (by_activation place config wellknown lacking prevented gated)
+first_by_activation place config wellknown true prevented gated = FailsFirst _ refl refl refl
+first_by_activation place config (Err step) false prevented gated = FailsFirst _ refl refl refl
+first_by_activation place config (Ok wellknown) false prevented gated = first_by_silence place config wellknown prevented gated
+
+first_by_scheme : (place : ℕ) (scheme : Scheme) (config : Parts) (wellknown : Answer Parts ProviderStep)
+    (lacking prevented gated : Bool)
+    → FirstTurn (by_scheme place scheme config wellknown lacking prevented gated)
+first_by_scheme place Http config wellknown lacking prevented gated = FailsFirst _ refl refl refl
+first_by_scheme place Https config wellknown lacking prevented gated =
+    first_by_activation place config wellknown lacking prevented gated
 
 first_start : (world : World) (origin : Origin) (options : GetOptions) (providers : List ProviderOptions) → length providers ≡ 1
     → FirstTurn (start_at world origin options only_place (slice_get providers only_place))
 first_start world origin options [] one = absurd (omega (arith, one))
-first_start world origin options (provider ∷ more) one = first_by_scheme _ _ provider.config _ _ _
+first_start world origin options (provider ∷ more) one = first_by_scheme _ _ provider.config _ _ _ _
 
 get_turn : (world : World) (busy : Bool) (origin : Origin) (options : GetOptions) → length options.providers ≡ 1
     → FirstTurn (get_outcome world busy origin options)

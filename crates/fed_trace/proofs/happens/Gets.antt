@@ -1,10 +1,12 @@
 -- What is known of a get after an event.
 use Rattle.std.proofs.Common.{◌≡◌, ℕ, true, nat_eq, [], Option, Some, None, refl, sym, ap, ◌∙◌}
-use Rattle.std.specs.Prelude.{option_map, option_and_then}
+use Rattle.std.specs.Prelude.{option_map, option_and_then, unwrap_or}
 use Rattle.std.specs.List.{filter_map}
-use Rattle.fed_origin.specs.declared.stage.Stage.TheVariants.{Ended}
+use Rattle.fed_origin.specs.declared.stage.Stage.TheVariants.{Window, Ended}
 use Rattle.fed_consent.specs.Outcomes.{Outcome}
 use Rattle.fed_call.specs.Facts.{Facts}
+use Rattle.fed_call.specs.Facts as get
+use Rattle.fed_call.specs.WindowRows.{resumed}
 use Rattle.fed_disconnect.specs.Facts.{DisconnectFacts}
 use Rattle.fed_disconnect.specs.Facts as disconnect
 use Rattle.fed_script.specs.declared.event.Event.{Event}
@@ -17,10 +19,11 @@ use Rattle.fed_trace.specs.Row.{effects_of, with_event, cookies_with, input_effe
 use Rattle.fed_trace.specs.Trace.{Trace}
 use Rattle.fed_trace.proofs.known.Known.{said_of, known_same, known_moved, over}
 use Rattle.fed_trace.proofs.happens.Disconnects.{Turn, Gives, GivesNone, disconnect_turn}
-use Rattle.fed_trace.proofs.happens.Ends.{Takes}
+use Rattle.fed_trace.proofs.happens.Ends.{Takes, Resumes}
+use Rattle.fed_trace.proofs.happens.Resumed.{known_resumed}
 use Rattle.fed_trace.proofs.happens.Over.{over_quiet, still_over}
 use Rattle.fed_trace.proofs.happens.Says.{outcome_begins, outcome_asks, asks_token}
-use Rattle.fed_trace.proofs.happens.Taken.{Knows, Meets, does_it, known_taken}
+use Rattle.fed_trace.proofs.happens.Taken.{Knows, Meets, does_it, known_taken, facts_of_get}
 
 -- an event that says nothing of the call
 pub facts_same : (T : Trace) (line : ℕ) (event : Event) (q : ℕ) → last_said nat_eq stage_change q (effects_of T event) ≡ None
@@ -36,6 +39,13 @@ pub facts_ended : (T : Trace) (line : ℕ) (event : Event) (q : ℕ)
 facts_ended T line event q m b =
     ap (option_and_then get_facts) (known_moved T line event q (Some (Some Ended)) None m b
     ∙ over (option_map (said_of T event q) (known_in T.header T.rows q)))
+
+-- the call asks for its accounts again
+pub facts_resumed : (T : Trace) (line : ℕ) (event : Event) (call : ℕ) → (r : Resumes T event call)
+    → facts_at (with_event T line event) call ≡ get.at_stage (unwrap_or (resumed r.facts Window).stage Window) r.facts
+facts_resumed T line event call r =
+    ap (option_and_then get_facts) (known_resumed T line event call r)
+    ∙ facts_of_get (get.at_stage (unwrap_or (resumed r.facts Window).stage Window) r.facts)
 
 -- ---- a call that takes an input, by what is known of it
 

@@ -15,7 +15,7 @@ use Rattle.fed_consent.specs.declared.table.input.Input.TheVariants as inputs
 use Rattle.fed_consent.specs.Outcomes.{Outcome}
 use Rattle.fed_script.specs.declared.event.Event.{Event}
 use Rattle.fed_script.specs.declared.event.Event.TheVariants as events
-use Rattle.fed_script.specs.declared.event.Event.TheVariants.{At, Load, ClosePage, Get, Prevent, SetStatus, Disconnect}
+use Rattle.fed_script.specs.declared.event.Event.TheVariants.{At, Load, ClosePage, Get, IdpClose, Prevent, SetStatus, Disconnect}
 use Rattle.fed_disconnect.specs.Facts.{disconnect_options}
 use Rattle.fed_trace.specs.Begun.{Begun, CallKind, CallOptions, ToGet, ToDisconnect, kind_asked}
 use Rattle.fed_trace.specs.Call.{Known, kind_of, page_of, first_row, input_row}
@@ -28,6 +28,8 @@ use Rattle.fed_trace.specs.Row.{effects_of, cookies_with, cookies_from, outcome_
 use Rattle.fed_trace.specs.Row.{is_busy, ends_of, close_effects, cookie_effects, login_effects, have_cookies, have_states, page_says}
 use Rattle.fed_trace.specs.Row.{set_cookies, set_logins}
 use Rattle.fed_trace.specs.Trace.{Trace, page_at, pending_of, now_at, gets}
+use Rattle.fed_trace.specs.Windows.{windows_of}
+use Rattle.fed_trace.proofs.calls.Resumed.{idpclose_silent}
 use Rattle.fed_trace.proofs.effects.Outcome.{last_said_after}
 use Rattle.fed_trace.proofs.calls.Pending.{ends_silent, load_rest_silent}
 use Rattle.fed_trace.proofs.effects.Silent.{last_said_silent}
@@ -37,6 +39,7 @@ use Rattle.fed_trace.proofs.happens.Says.{Quiet, own, outcome_pages, quiet_other
 use Rattle.fed_trace.proofs.happens.Ends.{Takes, Happens, beginning, event_for, dull_stage, dull_call, dull_page, dull_begins}
 use Rattle.fed_trace.proofs.happens.Ends.{dull_asked, dull_given, quiet_silent, quiet_ignored, left, happens_load, happens_close, Started}
 use Rattle.fed_trace.proofs.happens.Ends.{Took}
+use Rattle.fed_trace.proofs.happens.Resumed.{happens_idpclose}
 
 -- ---- a call that begins
 
@@ -200,6 +203,10 @@ happens T (events.Choose call provider account) q =
     happens_input T (events.Choose call provider account) call (inputs.Choose provider account) q refl (λ other. refl) refl (λ other. refl)
 happens T (events.GoOn call) q = happens_input T (events.GoOn call) call inputs.GoOn q refl (λ other. refl) refl (λ other. refl)
 happens T (events.Cancel call) q = happens_input T (events.Cancel call) call inputs.Cancel q refl (λ other. refl) refl (λ other. refl)
+happens T (events.SignIn call) q = happens_input T (events.SignIn call) call inputs.SignIn q refl (λ other. refl) refl (λ other. refl)
+happens T (events.ShutWindow call) q =
+    happens_input T (events.ShutWindow call) call inputs.Shut q refl (λ other. refl) refl (λ other. refl)
+happens T (IdpClose page) q = happens_idpclose T page q (page_at T page) refl
 
 -- ---- pages that an event leaves
 
@@ -273,3 +280,9 @@ pages_left T (events.Choose call provider account) q h =
     input_pages T (events.Choose call provider account) call (inputs.Choose provider account) q refl
 pages_left T (events.GoOn call) q h = input_pages T (events.GoOn call) call inputs.GoOn q refl
 pages_left T (events.Cancel call) q h = input_pages T (events.Cancel call) call inputs.Cancel q refl
+pages_left T (events.SignIn call) q h = input_pages T (events.SignIn call) call inputs.SignIn q refl
+pages_left T (events.ShutWindow call) q h = input_pages T (events.ShutWindow call) call inputs.Shut q refl
+pages_left T (IdpClose page) q h =
+    last_said_silent nat_eq page_change q (effects_of T (IdpClose page))
+    (idpclose_silent page_change (record { ignored = λ w. refl; sent = λ n c p t k. refl; move = λ n c. refl }) (world_at T)
+    (cookies_with T) (known_at T) (windows_of T) (page_at T page))

@@ -6,7 +6,7 @@ use Rattle.std.proofs.lemmas.Bool.Decides.{nat_tests}
 use Rattle.std.proofs.lemmas.List.Elements.{filter_map-append}
 use Rattle.std.specs.List.{filter_map, cons_option, flat_map}
 use Rattle.fed_origin.specs.declared.stage.Stage.{Stage}
-use Rattle.fed_origin.specs.declared.stage.Stage.TheVariants.{Reading, Listing, Mismatch, Choosing, Prompting, Asserting, Ended}
+use Rattle.fed_origin.specs.declared.stage.Stage.TheVariants.{Reading, Listing, Mismatch, Window, Choosing, Prompting, Asserting, Ended}
 use Rattle.fed_consent.specs.declared.table.ask.Ask.{Ask}
 use Rattle.fed_consent.specs.declared.table.effect.Effect.{Effect as CallEffect}
 use Rattle.fed_consent.specs.Outcomes.{Outcome}
@@ -212,6 +212,7 @@ pending_no_other q kind call ne (Some Ended) = ap (λ b. cond b (Some None) None
 pending_no_other q kind call ne (Some Reading) = refl
 pending_no_other q kind call ne (Some Listing) = refl
 pending_no_other q kind call ne (Some Mismatch) = refl
+pending_no_other q kind call ne (Some Window) = refl
 pending_no_other q kind call ne (Some Choosing) = refl
 pending_no_other q kind call ne (Some Prompting) = refl
 pending_no_other q kind call ne (Some Asserting) = refl

@@ -5,6 +5,7 @@ use Rattle.std.specs.Prelude.{option_map, unwrap_or}
 use Rattle.std.specs.Option.{option_or}
 use Rattle.std.specs.List.{list_any}
 use Rattle.fed_origin.specs.declared.stage.Stage.TheVariants.{Reading, Listing, Mismatch, Choosing, Prompting, Asserting, Ended}
+use Rattle.fed_origin.specs.declared.stage.Stage.TheVariants as stages
 use Rattle.fed_consent.specs.declared.table.input.Input.{Input}
 use Rattle.fed_status.specs.Shared.{World}
 use Rattle.fed_script.specs.declared.event.Header.{Header}
@@ -75,6 +76,7 @@ says_of call (Move kind c Ended ∷ effects) = ends_front call c (Move kind c En
 says_of call (Move kind c Reading ∷ effects) = silent_front call (Move kind c Reading) effects refl refl (says_of call effects)
 says_of call (Move kind c Listing ∷ effects) = silent_front call (Move kind c Listing) effects refl refl (says_of call effects)
 says_of call (Move kind c Mismatch ∷ effects) = silent_front call (Move kind c Mismatch) effects refl refl (says_of call effects)
+says_of call (Move kind c stages.Window ∷ effects) = silent_front call (Move kind c stages.Window) effects refl refl (says_of call effects)
 says_of call (Move kind c Choosing ∷ effects) = silent_front call (Move kind c Choosing) effects refl refl (says_of call effects)
 says_of call (Move kind c Prompting ∷ effects) = silent_front call (Move kind c Prompting) effects refl refl (says_of call effects)
 says_of call (Move kind c Asserting ∷ effects) = silent_front call (Move kind c Asserting) effects refl refl (says_of call effects)

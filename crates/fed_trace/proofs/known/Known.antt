@@ -34,7 +34,7 @@ known_moved T line event q moved began m b =
     ∙ ap (λ x. known_by (unwrap_or moved (stage_at T q))
     (option_or (option_map known_first x) (option_map (said_of T event q) (known_in T.header T.rows q)))) b
 
-map_same : {A : Type 0} (f : A → A) → ((x : A) → f x ≡ x) → (o : Option A) → option_map f o ≡ o
+pub map_same : {A : Type 0} (f : A → A) → ((x : A) → f x ≡ x) → (o : Option A) → option_map f o ≡ o
 map_same f same None = refl
 map_same f same (Some x) = ap Some (same x)
 

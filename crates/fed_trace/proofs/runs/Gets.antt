@@ -9,6 +9,7 @@ use Rattle.std.specs.Map.{lookup}
 use Rattle.indexmap.specs.IndexMap.{insert_entry}
 use Rattle.fed_origin.specs.declared.origin.Origin.{Origin}
 use Rattle.fed_origin.specs.declared.stage.Stage.{Stage}
+use Rattle.fed_origin.specs.declared.stage.Stage.TheVariants.{Listing}
 use Rattle.fed_origin.specs.Origin.{is_trustworthy}
 use Rattle.fed_origin.specs.WebUrl.{origin_of}
 use Rattle.fed_status.specs.Shared.{World}
@@ -20,7 +21,7 @@ use Rattle.fed_script.specs.declared.event.Event.{Event}
 use Rattle.fed_script.specs.declared.event.Event.TheVariants as events
 use Rattle.fed_script.specs.declared.event.Header.{Header}
 use Rattle.fed_disconnect.specs.Facts.{disconnect_options}
-use Rattle.fed_trace.specs.Begun.{Begun, CallKind, CallOptions, ToGet, ToDisconnect, kind_asked}
+use Rattle.fed_trace.specs.Begun.{Begun, CallKind, GetCall, DisconnectCall, CallOptions, ToGet, ToDisconnect, kind_asked}
 use Rattle.fed_trace.specs.Call.{Known, OfGet, OfDisconnect, kind_of, page_of, stage_of, known_first, first_row, input_row}
 use Rattle.fed_trace.specs.Effect.{Effect, PendingCall, pending_from, Time, Page, Closed, Cookie, Login, Begin, Move, Sent, Shown, Window}
 use Rattle.fed_trace.specs.Effect.{Kept, Flag, Result, Ignored, is_ignored, last_of, begins, call_change, get_change, begun_by}
@@ -30,10 +31,12 @@ use Rattle.fed_trace.specs.Row.{effects_of, cookies_with, outcome_effects, call_
 use Rattle.fed_trace.specs.Row.{is_busy, ends_of, cookie_effects, login_effects, have_cookies, have_states, cookies_from, set_cookies}
 use Rattle.fed_trace.specs.Row.{set_logins, page_says, close_effects, IsNew, IsRun}
 use Rattle.fed_trace.specs.Trace.{Row, Trace, calls_of, begun, pending, pending_of, gets, page_at, stage_at, now_at, last_value, standing}
+use Rattle.fed_trace.specs.Windows.{windows_of}
 use Rattle.fed_trace.proofs.keyed.Keyed.{IsAbsent, AreDistinct, entries_after-append, distinct_standing, lookup-standing}
 use Rattle.fed_trace.proofs.keyed.Keyed.{lookup-insert_entry}
 use Rattle.fed_trace.proofs.effects.Silent.{AllSilent, entries_silent, silent_call}
 use Rattle.fed_trace.proofs.calls.Pending.{others, ended, any_append, load_rest_silent}
+use Rattle.fed_trace.proofs.calls.Resumed.{idpclose_silent}
 use Rattle.fed_trace.proofs.calls.Gets.{gets_among, IsOfKind, gets_insert, gets_moved, gets_ended}
 use Rattle.fed_trace.proofs.known.Known.{found_by}
 use Rattle.fed_trace.proofs.known.Facts.{staged}
@@ -242,6 +245,18 @@ keeps_row T (events.Choose call provider account) new =
     keeps_input T (events.Choose call provider account) call (inputs.Choose provider account) refl
 keeps_row T (events.GoOn call) new = keeps_input T (events.GoOn call) call inputs.GoOn refl
 keeps_row T (events.Cancel call) new = keeps_input T (events.Cancel call) call inputs.Cancel refl
+keeps_row T (events.SignIn call) new = keeps_input T (events.SignIn call) call inputs.SignIn refl
+keeps_row T (events.ShutWindow call) new = keeps_input T (events.ShutWindow call) call inputs.Shut refl
+keeps_row T (events.IdpClose page) new =
+    keeps_silent (pending T) (effects_of T (events.IdpClose page))
+    (idpclose_silent call_change (record { ignored = λ w. refl; sent = λ n c p t k. refl; move = λ n c. refl }) (world_at T)
+    (cookies_with T) (known_at T) (windows_of T) (page_at T page))
+    (idpclose_silent get_change (record { ignored = λ w. refl; sent = λ n c p t k. refl; move = still }) (world_at T)
+    (cookies_with T) (known_at T) (windows_of T) (page_at T page))
+  where
+    still : (kind : CallKind) (call : ℕ) → get_change (Move kind call Listing) ≡ None
+    still GetCall call = refl
+    still DisconnectCall call = refl
 
 pub gets_are : (header : Header) (rows : List Row) → IsRun header rows
     → gets_among (standing nat_eq call_change rows) ≡ standing nat_eq get_change rows

@@ -56,5 +56,9 @@ untaken_after T line (events.Choose call provider account) used h =
     untaken_same used.calls (begun T.rows) _ (begins_none T (events.Choose call provider account) refl) h
 untaken_after T line (events.GoOn call) used h = untaken_same used.calls (begun T.rows) _ (begins_none T (events.GoOn call) refl) h
 untaken_after T line (events.Cancel call) used h = untaken_same used.calls (begun T.rows) _ (begins_none T (events.Cancel call) refl) h
+untaken_after T line (events.SignIn call) used h = untaken_same used.calls (begun T.rows) _ (begins_none T (events.SignIn call) refl) h
+untaken_after T line (events.ShutWindow call) used h =
+    untaken_same used.calls (begun T.rows) _ (begins_none T (events.ShutWindow call) refl) h
+untaken_after T line (events.IdpClose page) used h = untaken_same used.calls (begun T.rows) _ (begins_none T (events.IdpClose page) refl) h
 untaken_after T line (events.SetStatus page status) used h =
     untaken_same used.calls (begun T.rows) _ (begins_none T (events.SetStatus page status) refl) h

@@ -11,7 +11,7 @@ use Rattle.fed_origin.specs.declared.options.ProviderOptions.{ProviderOptions}
 use Rattle.fed_origin.specs.declared.origin.Origin.{Origin}
 use Rattle.fed_origin.specs.declared.stage.ReplyKind.TheVariants as kinds
 use Rattle.fed_origin.specs.declared.stage.Stage.{Stage}
-use Rattle.fed_origin.specs.declared.stage.Stage.TheVariants.{Reading, Listing, Mismatch, Choosing, Prompting, Asserting, Ended}
+use Rattle.fed_origin.specs.declared.stage.Stage.TheVariants.{Reading, Listing, Mismatch, Window, Choosing, Prompting, Asserting, Ended}
 use Rattle.fed_origin.specs.WebUrl.{host_of, origin_of}
 use Rattle.fed_provider.specs.declared.config.Config.{Config as Configuration}
 use Rattle.fed_provider.specs.declared.step.ProviderStep.{ProviderStep}
@@ -107,6 +107,8 @@ after_at p g g' Listing d l =
     record { stage = refl; goes_on = refl; past = has_config Listing g.config l (λ h. cc); said = restage p g g' Listing Listing d }
 after_at p g g' Mismatch d l =
     record { stage = refl; goes_on = refl; past = has_config Mismatch g.config l (λ h. cc); said = restage p g g' Mismatch Mismatch d }
+after_at p g g' Window d l =
+    record { stage = refl; goes_on = refl; past = has_config Window g.config l (λ h. cc); said = restage p g g' Window Window d }
 after_at p g g' Choosing d l =
     record { stage = refl; goes_on = refl; past = has_config Choosing g.config l (λ h. cc); said = restage p g g' Choosing Choosing d }
 after_at p g g' Prompting d l =
@@ -139,6 +141,7 @@ open_at : (stage : Stage) (f : Facts) → is_open stage ≡ true → at_stage st
 open_at Reading f opened = refl
 open_at Listing f opened = refl
 open_at Mismatch f opened = refl
+open_at Window f opened = refl
 open_at Choosing f opened = refl
 open_at Prompting f opened = refl
 open_at Asserting f opened = absurd (cc)
@@ -312,7 +315,7 @@ pub providers_both : (p : Providers) (a b : GetOptions) → SameOptions p a b �
 providers_both p a b h place = get_both (SameProvider p) a.providers b.providers h.providers place
 
 -- what hangs on the configuration URL alone
-by_config : {A : Type 0} (p : Providers) (g : Parts → A) (q q' : Option ProviderOptions) → IfBoth (SameProvider p) q q'
+pub by_config : {A : Type 0} (p : Providers) (g : Parts → A) (q q' : Option ProviderOptions) → IfBoth (SameProvider p) q q'
     → option_map (λ x. g x.config) q ≡ option_map (λ x. g x.config) q'
 by_config p g None None h = refl
 by_config p g (Some q) (Some q') h = ap (λ c. Some (g c)) h.shares.config

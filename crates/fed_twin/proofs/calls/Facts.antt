@@ -18,7 +18,7 @@ use Rattle.fed_consent.specs.declared.table.why.Why.{Why}
 use Rattle.fed_consent.specs.Outcomes.{Outcome}
 use Rattle.fed_call.specs.Facts.{Facts}
 use Rattle.fed_script.specs.declared.event.Event.{Event}
-use Rattle.fed_script.specs.declared.event.Event.TheVariants.{Load, ClosePage, Get, Disconnect}
+use Rattle.fed_script.specs.declared.event.Event.TheVariants.{Load, ClosePage, Get, Disconnect, IdpClose}
 use Rattle.fed_trace.specs.Begun.{DisconnectCall, CallOptions, ToGet, ToDisconnect}
 use Rattle.fed_trace.specs.Call.{Known, OfDisconnect, get_facts, input_row}
 use Rattle.fed_trace.specs.OfCall.{replaces}
@@ -31,7 +31,8 @@ use Rattle.fed_trace.specs.Trace.{Trace, page_at, stage_at, pending_of, now_at}
 use Rattle.fed_trace.proofs.calls.Pending.{is_among, ends_silent, load_rest_silent}
 use Rattle.fed_trace.proofs.effects.Silent.{AllSilent, last_silent, silent_append, goes_silent}
 use Rattle.fed_trace.proofs.happens.Disconnects.{Turn, Gives, GivesNone, sets_login, disconnect_turn}
-use Rattle.fed_trace.proofs.happens.Ends.{Happens, Left, Ends, Started, Took, Takes, beginning, last_said_front, ends_apart, ends_hit}
+use Rattle.fed_trace.proofs.happens.Ends.{Happens, Left, Ends, Started, Took, Resumed, Takes, beginning, last_said_front, ends_apart}
+use Rattle.fed_trace.proofs.happens.Ends.{ends_hit}
 use Rattle.fed_trace.proofs.happens.Gets.{Taking, ByGet, ByDisconnect, ByNone, taking, facts_same, facts_ended}
 use Rattle.fed_trace.proofs.happens.Happens.{happens}
 use Rattle.fed_trace.proofs.happens.Over.{over_ignored}
@@ -41,20 +42,21 @@ use Rattle.fed_trace.proofs.runs.Gets.{unbegun_unknown}
 use Rattle.fed_twin.specs.Providers.{Providers}
 use Rattle.fed_twin.specs.Seen.{seen}
 
--- the event begins a call
-abbrev pub begins_call : Event → Bool
-begins_call (Get page call options) = true
-begins_call (Disconnect page call config client hint) = true
-begins_call _ = false
+-- the event begins a call, or lets calls that wait go on
+abbrev pub begins_or_resumes : Event → Bool
+begins_or_resumes (Get page call options) = true
+begins_or_resumes (Disconnect page call config client hint) = true
+begins_or_resumes (IdpClose page) = true
+begins_or_resumes _ = false
 
 begins_one : (event : Event) (page call : ℕ) (options : CallOptions) → event ≡ beginning page call options
-    → begins_call event ≡ true
-begins_one event page call (ToGet options) is = ap begins_call is
-begins_one event page call (ToDisconnect options) is = ap begins_call is
+    → begins_or_resumes event ≡ true
+begins_one event page call (ToGet options) is = ap begins_or_resumes is
+begins_one event page call (ToDisconnect options) is = ap begins_or_resumes is
 
--- an event that begins no call, ends no page and brings the call nothing leaves it
+-- an event that begins no call, lets none go on, ends no page and brings the call nothing leaves it
 pub facts_left : (T : Trace) (line : ℕ) (event : Event) (q : ℕ) → input_to q event ≡ None
-    → ((page : ℕ) → replaces page event ≡ false) → begins_call event ≡ false
+    → ((page : ℕ) → replaces page event ≡ false) → begins_or_resumes event ≡ false
     → facts_at (with_event T line event) q ≡ facts_at T q
 facts_left T line event q unsaid stands no_get = go (happens T event q)
   where
@@ -64,6 +66,7 @@ facts_left T line event q unsaid stands no_get = go (happens T event q)
     go (Started s) =
         absurd (let no : false ≡ true = sym no_get ∙ begins_one event s.begun.page s.begun.call s.begun.options s.is_event in cc)
     go (Took t) = absurd (let no : None ≡ Some t.input = sym unsaid ∙ t.input_is in cc)
+    go (Resumed r) = absurd (let no : false ≡ true = sym no_get ∙ ap begins_or_resumes r.is_event in cc)
 
 -- an event that is ignored leaves every call
 pub facts_ignored : (T : Trace) (line : ℕ) (event : Event) (q : ℕ) (why : Why) → effects_of T event ≡ Ignored why ∷ []

@@ -49,11 +49,14 @@ use Rattle.fed_call.specs.AssertingRows.{asserts, clears, keeps, by_token, asser
 use Rattle.fed_call.specs.DialogRows.{links_shown, metadata_reply, prompting_reply, agreed_to, settles, choice, chose, goes_on, went_on}
 use Rattle.fed_call.specs.DialogRows.{cancelled}
 use Rattle.fed_call.specs.Facts.{Facts, provider_at, metadata_endpoint, reselected}
-use Rattle.fed_call.specs.ListingRows.{is_mismatch, by_mismatch, prompt_effect, prompts, offers, unless_silent, by_reselected, by_accounts}
+use Rattle.fed_call.specs.ListingRows.{is_mismatch, by_mismatch, by_window, prompt_effect, prompts, offers, unless_silent, by_reselected}
+use Rattle.fed_call.specs.ListingRows.{by_accounts}
 use Rattle.fed_call.specs.ListingRows.{accounts_reply, listing_reply, site_of}
-use Rattle.fed_call.specs.ReadingRows.{start_at, by_scheme, by_silence, by_gate, is_prevented, is_gated, first_wellknown, first_config}
+use Rattle.fed_call.specs.ReadingRows.{start_at, by_scheme, by_activation, by_silence, by_gate, lacks_activation, is_prevented, is_gated}
+use Rattle.fed_call.specs.ReadingRows.{first_wellknown, first_config}
 use Rattle.fed_call.specs.ReadingRows.{wellknown_reply, config_reply, reading_reply}
 use Rattle.fed_call.specs.Row.{stage_reply, input_row}
+use Rattle.fed_call.specs.WindowRows.{may_sign_in, opens_window, asked_to_sign_in, asks_again, resumed, window_shut}
 use Rattle.fed_trace.specs.Call.{get_outcome}
 use Rattle.fed_twin.specs.Same.{is_open}
 
@@ -78,18 +81,23 @@ small_silence : (place : ℕ) (config wellknown : Parts) (prevented gated : Bool
 small_silence place config wellknown true gated = record { few = lit≤ tt; flags = refl }
 small_silence place config wellknown false gated = small_gate place config wellknown gated
 
-small_scheme : (place : ℕ) (scheme : Scheme) (config : Parts) (wellknown : Result Parts ProviderStep) (prevented gated : Bool)
-    → IsSmall (by_scheme place scheme config wellknown prevented gated)
-small_scheme place Http config wellknown prevented gated = record { few = lit≤ tt; flags = refl }
-small_scheme place Https config (Err step) prevented gated = record { few = lit≤ tt; flags = refl }
-small_scheme place Https config (Ok wellknown) prevented gated = small_silence place config wellknown prevented gated
+small_activation : (place : ℕ) (config : Parts) (wellknown : Result Parts ProviderStep) (lacking prevented gated : Bool)
+    → IsSmall (by_activation place config wellknown lacking prevented gated)
+small_activation place config wellknown true prevented gated = record { few = lit≤ tt; flags = refl }
+small_activation place config (Err step) false prevented gated = record { few = lit≤ tt; flags = refl }
+small_activation place config (Ok wellknown) false prevented gated = small_silence place config wellknown prevented gated
+
+small_scheme : (place : ℕ) (scheme : Scheme) (config : Parts) (wellknown : Result Parts ProviderStep) (lacking prevented gated : Bool)
+    → IsSmall (by_scheme place scheme config wellknown lacking prevented gated)
+small_scheme place Http config wellknown lacking prevented gated = record { few = lit≤ tt; flags = refl }
+small_scheme place Https config wellknown lacking prevented gated = small_activation place config wellknown lacking prevented gated
 
 small_start : (world : World) (origin : Origin) (options : GetOptions) (place : ℕ) (provider : Option ProviderOptions)
     → IsSmall (start_at world origin options place provider)
 small_start world origin options place None = record { few = lit≤ tt; flags = refl }
 small_start world origin options place (Some provider) =
     small_scheme place (scheme_of provider.config) provider.config (WellKnownUrlOf world.rules provider.config)
-    (is_prevented options.mediation (has_flag world.flags origin))
+    (lacks_activation options.mode options.activation) (is_prevented options.mediation (has_flag world.flags origin))
     (is_gated options.mode (status_of world.login (origin_of provider.config)))
 
 pub small_get : (world : World) (busy : Bool) (origin : Origin) (options : GetOptions) → IsSmall (get_outcome world busy origin options)
@@ -152,6 +160,13 @@ small_refused : (effect : CallEffect) → clears_flag effect ≡ None → (place
 small_refused effect none place site failure true = small_after effect none _ (lit≤ tt) refl
 small_refused effect none place site failure false = small_after effect none _ (lit≤ tt) refl
 
+-- a login window that opens, where there is a configuration
+small_window : (effect : CallEffect) → clears_flag effect ≡ None → (place : ℕ) (config : Option Config) (other : Outcome)
+    (active : Bool) → IsSmall (after effect other) → IsSmall (after effect (by_window place config other active))
+small_window effect none place None other true small = small_after effect none _ (lit≤ tt) refl
+small_window effect none place (Some config) other true small = small_after effect none _ (lit≤ tt) refl
+small_window effect none place config other false small = small
+
 small_offers : (world : World) (facts : Facts) (place : ℕ) (provider : ProviderOptions) (effect : CallEffect)
     → clears_flag effect ≡ None
     → (accounts : List Account) → IsSmall (after effect (offers world facts place provider accounts))
@@ -190,8 +205,10 @@ small_reselected world facts place provider effect none accounts (Some pick) =
 small_read : (world : World) (facts : Facts) (place : ℕ) (provider : ProviderOptions) (read : Result (List Account) AccountsStep)
     → IsSmall (by_accounts world facts place provider read)
 small_read world facts place provider (Err step) =
-    small_refused (SetLogin (origin_of provider.config) LoggedOut) refl place (site_of world facts.origin) (accounts_failure step)
-    (is_mismatch facts.options.mode facts.options.mediation (status_of world.login (origin_of provider.config)))
+    small_window (SetLogin (origin_of provider.config) LoggedOut) refl place facts.config _
+    (may_sign_in facts.options.mode facts.options.mediation)
+    (small_refused (SetLogin (origin_of provider.config) LoggedOut) refl place (site_of world facts.origin) (accounts_failure step)
+    (is_mismatch facts.options.mode facts.options.mediation (status_of world.login (origin_of provider.config))))
 small_read world facts place provider (Ok accounts) =
     small_reselected world facts place provider (SetLogin (origin_of provider.config) LoggedIn) refl accounts
     (reselected world facts place provider accounts)
@@ -228,6 +245,7 @@ small_reply world facts stages.Reading place kind raw opened =
     small_reading world.rules facts.heard facts.config place (provider_at place facts.options) kind raw
 small_reply world facts stages.Listing place kind raw opened = small_listing world facts place (provider_at place facts.options) kind raw
 small_reply world facts stages.Mismatch place kind raw opened = record { few = lit≤ tt; flags = refl }
+small_reply world facts stages.Window place kind raw opened = record { few = lit≤ tt; flags = refl }
 small_reply world facts stages.Choosing place kind raw opened = record { few = lit≤ tt; flags = refl }
 small_reply world facts stages.Prompting place kind raw opened =
     small_prompting world facts place (provider_at place facts.options) kind raw
@@ -267,10 +285,33 @@ small_cancelled : (stage : Stage) → IsSmall (cancelled stage)
 small_cancelled stages.Reading = record { few = lit≤ tt; flags = refl }
 small_cancelled stages.Listing = record { few = lit≤ tt; flags = refl }
 small_cancelled stages.Mismatch = record { few = lit≤ tt; flags = refl }
+small_cancelled stages.Window = record { few = lit≤ tt; flags = refl }
 small_cancelled stages.Choosing = record { few = lit≤ tt; flags = refl }
 small_cancelled stages.Prompting = record { few = lit≤ tt; flags = refl }
 small_cancelled stages.Asserting = record { few = lit≤ tt; flags = refl }
 small_cancelled stages.Ended = record { few = lit≤ tt; flags = refl }
+
+-- ---- signing in at the provider
+
+small_opens : (place : ℕ) (config : Option Config) → IsSmall (opens_window place config)
+small_opens place None = record { few = lit≤ tt; flags = refl }
+small_opens place (Some config) = record { few = lit≤ tt; flags = refl }
+
+small_sign_in : (facts : Facts) (stage : Stage) → IsSmall (asked_to_sign_in facts stage)
+small_sign_in facts stages.Mismatch = small_opens only_place facts.config
+small_sign_in facts _ = record { few = lit≤ tt; flags = refl }
+
+small_again : (place : ℕ) (config : Option Config) → IsSmall (asks_again place config)
+small_again place None = record { few = lit≤ tt; flags = refl }
+small_again place (Some config) = record { few = lit≤ tt; flags = refl }
+
+small_resumed : (facts : Facts) (stage : Stage) → IsSmall (resumed facts stage)
+small_resumed facts stages.Window = small_again only_place facts.config
+small_resumed facts _ = record { few = lit≤ tt; flags = refl }
+
+small_shut : (stage : Stage) → IsSmall (window_shut stage)
+small_shut stages.Window = record { few = lit≤ tt; flags = refl }
+small_shut _ = record { few = lit≤ tt; flags = refl }
 
 -- a call that goes on, and asked for no token
 pub small_input : (world : World) (facts : Facts) (input : Input) → is_open facts.stage ≡ true → IsSmall (input_row world facts input)
@@ -278,9 +319,9 @@ small_input world facts (inputs.Reply place kind raw) opened = small_reply world
 small_input world facts (inputs.Choose place id) opened = small_chose world facts facts.stage place id
 small_input world facts inputs.GoOn opened = small_went_on facts facts.stage
 small_input world facts inputs.Cancel opened = small_cancelled facts.stage
-small_input world facts inputs.SignIn opened = record { few = lit≤ tt; flags = refl }
-small_input world facts inputs.Shut opened = record { few = lit≤ tt; flags = refl }
-small_input world facts inputs.Resume opened = record { few = lit≤ tt; flags = refl }
+small_input world facts inputs.SignIn opened = small_sign_in facts facts.stage
+small_input world facts inputs.Shut opened = small_shut facts.stage
+small_input world facts inputs.Resume opened = small_resumed facts facts.stage
 small_input world facts inputs.Abort opened = record { few = lit≤ tt; flags = refl }
 
 -- ---- a call at any stage
@@ -322,6 +363,7 @@ few_reply : (world : World) (facts : Facts) (stage : Stage) (place : ℕ) (kind 
 few_reply world facts stages.Reading place kind raw = (small_reply world facts stages.Reading place kind raw refl).few
 few_reply world facts stages.Listing place kind raw = (small_reply world facts stages.Listing place kind raw refl).few
 few_reply world facts stages.Mismatch place kind raw = lit≤ tt
+few_reply world facts stages.Window place kind raw = lit≤ tt
 few_reply world facts stages.Choosing place kind raw = lit≤ tt
 few_reply world facts stages.Prompting place kind raw = (small_reply world facts stages.Prompting place kind raw refl).few
 few_reply world facts stages.Asserting place kind raw = few_asserting facts place (provider_at place facts.options) kind raw
@@ -332,7 +374,7 @@ few_input world facts (inputs.Reply place kind raw) = few_reply world facts fact
 few_input world facts (inputs.Choose place id) = (small_chose world facts facts.stage place id).few
 few_input world facts inputs.GoOn = (small_went_on facts facts.stage).few
 few_input world facts inputs.Cancel = (small_cancelled facts.stage).few
-few_input world facts inputs.SignIn = lit≤ tt
-few_input world facts inputs.Shut = lit≤ tt
-few_input world facts inputs.Resume = lit≤ tt
+few_input world facts inputs.SignIn = (small_sign_in facts facts.stage).few
+few_input world facts inputs.Shut = (small_shut facts.stage).few
+few_input world facts inputs.Resume = (small_resumed facts facts.stage).few
 few_input world facts inputs.Abort = lit≤ tt

@@ -11,7 +11,7 @@ use Rattle.fed_origin.specs.declared.options.ProviderOptions.{ProviderOptions}
 use Rattle.fed_origin.specs.declared.stage.ReplyKind.{ReplyKind}
 use Rattle.fed_origin.specs.declared.stage.ReplyKind.TheVariants as kinds
 use Rattle.fed_origin.specs.declared.stage.Stage.{Stage}
-use Rattle.fed_origin.specs.declared.stage.Stage.TheVariants.{Reading, Listing, Mismatch, Choosing, Prompting, Asserting, Ended}
+use Rattle.fed_origin.specs.declared.stage.Stage.TheVariants.{Reading, Listing, Mismatch, Window, Choosing, Prompting, Asserting, Ended}
 use Rattle.fed_origin.specs.declared.status.LoginStatus.TheVariants.{LoggedIn, LoggedOut}
 use Rattle.fed_origin.specs.WebUrl.{origin_of}
 use Rattle.fed_provider.specs.declared.config.Config.{Config as Configuration}
@@ -35,17 +35,18 @@ use Rattle.fed_call.specs.AssertingRows.{asserts}
 use Rattle.fed_call.specs.DialogRows.{agreed_to, chose, choice, settles, goes_on, went_on, cancelled, metadata_reply, links_shown}
 use Rattle.fed_call.specs.Facts.{Facts, at_stage, provider_at, metadata_endpoint, reselected, with_offer, by_account, with_list}
 use Rattle.fed_call.specs.Facts.{with_listing, with_choice, with_input, facts_after}
-use Rattle.fed_consent.specs.Outcomes.{Outcome, ignored, after, only_place, is_ignored}
+use Rattle.fed_consent.specs.Outcomes.{Outcome, ignored, stays, after, only_place, is_ignored}
 use Rattle.fed_consent.specs.Failures.{plain, accounts_failure}
 use Rattle.fed_call.specs.ListingRows.{offers, unless_silent, by_reselected, accounts_reply, by_accounts, prompt_effect, by_mismatch}
-use Rattle.fed_call.specs.ListingRows.{is_mismatch, site_of}
+use Rattle.fed_call.specs.ListingRows.{by_window, is_mismatch, site_of}
 use Rattle.fed_call.specs.Row.{stage_reply}
+use Rattle.fed_call.specs.WindowRows.{may_sign_in, opens_window, asked_to_sign_in, window_shut}
 use Rattle.fed_trace.proofs.happens.Says.{asks_token}
 use Rattle.fed_twin.specs.Providers.{Providers}
 use Rattle.fed_twin.specs.Same.{IfBoth, SameProvider, SameListed, is_open, SameData, SameFacts, SameCall}
-use Rattle.fed_twin.proofs.calls.Call.{AgreeWorlds, told_effect, OwnSend, Keeps, after_by, open_facts, keeps_ignored, keeps_fails}
-use Rattle.fed_twin.proofs.calls.Call.{keeps_moves, keeps_moves_after, same_choice, same_listing, both, keeps_wellknown, keeps_config}
-use Rattle.fed_twin.proofs.calls.Call.{configured, read_same, AllOwn, ReselectsNone, OffersOnly}
+use Rattle.fed_twin.proofs.calls.Call.{AgreeWorlds, told_effect, OwnSend, Keeps, after_by, open_facts, stands, keeps_ignored, keeps_fails}
+use Rattle.fed_twin.proofs.calls.Call.{keeps_row, keeps_moves, keeps_moves_after, same_choice, same_listing, both, keeps_wellknown}
+use Rattle.fed_twin.proofs.calls.Call.{keeps_config, configured, read_same, AllOwn, ReselectsNone, OffersOnly}
 
 -- ---- what comes first of a prompt
 
@@ -208,6 +209,26 @@ module _ (p : Providers) (w w' : World) (agree : AgreeWorlds p w w') (f f' : Fac
     refused_by q q' h failure true false e = absurd (cc)
     refused_by q q' h failure false true e = absurd (cc)
 
+    -- by whether the user may be sent to sign in, and by the configuration
+    window_by : (q q' : ProviderOptions) → SameProvider p q q' → (c c' : Option Configuration) → f.config ≡ c → c ≡ c'
+        → (other other' : Outcome) (b b' : Bool) → b ≡ b'
+        → Keeps p w w' f f' accounts_input accounts_input
+        (after (does.SetLogin (origin_of q.config) LoggedOut) other) (after (does.SetLogin (origin_of q'.config) LoggedOut) other')
+        → Keeps p w w' f f' accounts_input accounts_input
+        (after (does.SetLogin (origin_of q.config) LoggedOut) (by_window place c other b))
+        (after (does.SetLogin (origin_of q'.config) LoggedOut) (by_window place c' other' b'))
+    window_by q q' h (Some c) (Some c') is e other other' true true same kept =
+        keeps_moves_after p w w' f f' s _ _ Window _ _ _ _
+        (ap (λ x. does.SetLogin (origin_of x) LoggedOut ∷ []) h.shares.config) refl refl tt refl refl refl refl tt
+        listing_by (inr (refl, inr (listing_known place raw at)))
+    window_by q q' h None None is e other other' true true same kept =
+        absurd (let no : false ≡ true = sym (ap is_some is) ∙ past_reading Listing at (λ r. cc) in cc)
+    window_by q q' h None (Some c') is e other other' true true same kept = absurd (cc)
+    window_by q q' h (Some c) None is e other other' true true same kept = absurd (cc)
+    window_by q q' h c c' is e other other' false false same kept = kept
+    window_by q q' h c c' is e other other' true false same kept = absurd (cc)
+    window_by q q' h c c' is e other other' false true same kept = absurd (cc)
+
     offers_by : (q q' : ProviderOptions) → SameProvider p q q' → (accounts : List Account)
         → Keeps p w w' f f' accounts_input accounts_input
         (after (does.SetLogin (origin_of q.config) LoggedIn) (offers w f place q accounts))
@@ -259,11 +280,13 @@ module _ (p : Providers) (w w' : World) (agree : AgreeWorlds p w w') (f f' : Fac
         → ReselectsNone w f place q read → ReselectsNone w' f' place q' read
         → Keeps p w w' f f' accounts_input accounts_input (by_accounts w f place q read) (by_accounts w' f' place q' read)
     accounts_by q q' h (Err step) none none' =
-        refused_by q q' h (accounts_failure step) _ _
+        window_by q q' h f.config f'.config refl s.said.config _ _ _ _
+        (ap (λ m. may_sign_in m f.options.mediation) s.said.options.mode ∙ ap (may_sign_in f'.options.mode) s.said.options.mediation)
+        (refused_by q q' h (accounts_failure step) _ _
         (ap (λ m. is_mismatch m f.options.mediation (status_of w.login (origin_of q.config))) s.said.options.mode
         ∙ ap (λ m. is_mismatch f'.options.mode m (status_of w.login (origin_of q.config))) s.said.options.mediation
         ∙ ap (is_mismatch f'.options.mode f'.options.mediation)
-        (agree.status (origin_of q.config) h.known ∙ ap (λ c. status_of w'.login (origin_of c)) h.shares.config))
+        (agree.status (origin_of q.config) h.known ∙ ap (λ c. status_of w'.login (origin_of c)) h.shares.config)))
     accounts_by q q' h (Ok accounts) none none' =
         let set = does.SetLogin (origin_of q.config) LoggedIn in
         let set' = does.SetLogin (origin_of q'.config) LoggedIn in
@@ -297,6 +320,7 @@ module _ (p : Providers) (w w' : World) (agree : AgreeWorlds p w w') (f f' : Fac
   reply_wellknown place raw Reading at = keeps_wellknown p w w' agree f f' s place raw at
   reply_wellknown place raw Listing at = ignored_reply place kinds.WellKnown raw raw
   reply_wellknown place raw Mismatch at = ignored_reply place kinds.WellKnown raw raw
+  reply_wellknown place raw Window at = ignored_reply place kinds.WellKnown raw raw
   reply_wellknown place raw Choosing at = ignored_reply place kinds.WellKnown raw raw
   reply_wellknown place raw Prompting at = ignored_reply place kinds.WellKnown raw raw
   reply_wellknown place raw Asserting at = ignored_reply place kinds.WellKnown raw raw
@@ -308,6 +332,7 @@ module _ (p : Providers) (w w' : World) (agree : AgreeWorlds p w w') (f f' : Fac
   reply_config place raw Reading at = keeps_config p w w' agree f f' s place raw at
   reply_config place raw Listing at = ignored_reply place kinds.Config raw raw
   reply_config place raw Mismatch at = ignored_reply place kinds.Config raw raw
+  reply_config place raw Window at = ignored_reply place kinds.Config raw raw
   reply_config place raw Choosing at = ignored_reply place kinds.Config raw raw
   reply_config place raw Prompting at = ignored_reply place kinds.Config raw raw
   reply_config place raw Asserting at = ignored_reply place kinds.Config raw raw
@@ -327,6 +352,7 @@ module _ (p : Providers) (w w' : World) (agree : AgreeWorlds p w w') (f f' : Fac
       (both p w w' agree f f' s place) none none')
       (provider_at place f.options) (provider_at place f'.options) (both p w w' agree f f' s place) none none'
   reply_accounts place raw Mismatch at quiet quiet' = ignored_reply place kinds.Accounts raw raw
+  reply_accounts place raw Window at quiet quiet' = ignored_reply place kinds.Accounts raw raw
   reply_accounts place raw Choosing at quiet quiet' = ignored_reply place kinds.Accounts raw raw
   reply_accounts place raw Prompting at quiet quiet' = ignored_reply place kinds.Accounts raw raw
   reply_accounts place raw Asserting at quiet quiet' = ignored_reply place kinds.Accounts raw raw
@@ -339,6 +365,7 @@ module _ (p : Providers) (w w' : World) (agree : AgreeWorlds p w w') (f f' : Fac
   reply_assertion place raw raw' Reading at = ignored_reply place kinds.Assertion raw raw'
   reply_assertion place raw raw' Listing at = ignored_reply place kinds.Assertion raw raw'
   reply_assertion place raw raw' Mismatch at = ignored_reply place kinds.Assertion raw raw'
+  reply_assertion place raw raw' Window at = ignored_reply place kinds.Assertion raw raw'
   reply_assertion place raw raw' Choosing at = ignored_reply place kinds.Assertion raw raw'
   reply_assertion place raw raw' Prompting at = ignored_reply place kinds.Assertion raw raw'
   reply_assertion place raw raw' Asserting at = absurd (let no : false ≡ true = sym (ap is_open at) ∙ s.goes_on in cc)
@@ -350,6 +377,7 @@ module _ (p : Providers) (w w' : World) (agree : AgreeWorlds p w w') (f f' : Fac
   reply_disconnect place raw raw' Reading = ignored_reply place kinds.Disconnect raw raw'
   reply_disconnect place raw raw' Listing = ignored_reply place kinds.Disconnect raw raw'
   reply_disconnect place raw raw' Mismatch = ignored_reply place kinds.Disconnect raw raw'
+  reply_disconnect place raw raw' Window = ignored_reply place kinds.Disconnect raw raw'
   reply_disconnect place raw raw' Choosing = ignored_reply place kinds.Disconnect raw raw'
   reply_disconnect place raw raw' Prompting = ignored_reply place kinds.Disconnect raw raw'
   reply_disconnect place raw raw' Asserting = ignored_reply place kinds.Disconnect raw raw'
@@ -410,6 +438,7 @@ module _ (p : Providers) (w w' : World) (agree : AgreeWorlds p w w') (f f' : Fac
   chose_by place id Reading at quiet quiet' = keeps_ignored p w w' f f' s _ _ NotOffered NotOffered
   chose_by place id Listing at quiet quiet' = keeps_ignored p w w' f f' s _ _ NotOffered NotOffered
   chose_by place id Mismatch at quiet quiet' = keeps_ignored p w w' f f' s _ _ NotOffered NotOffered
+  chose_by place id Window at quiet quiet' = keeps_ignored p w w' f f' s _ _ NotOffered NotOffered
   chose_by place id Prompting at quiet quiet' = keeps_ignored p w w' f f' s _ _ NotOffered NotOffered
   chose_by place id Asserting at quiet quiet' = keeps_ignored p w w' f f' s _ _ NotOffered NotOffered
   chose_by place id Ended at quiet quiet' = keeps_ignored p w w' f f' s _ _ NotOffered NotOffered
@@ -418,10 +447,46 @@ module _ (p : Providers) (w w' : World) (agree : AgreeWorlds p w w') (f f' : Fac
   cancelled_by Reading = keeps_ignored p w w' f f' s _ _ NotOffered NotOffered
   cancelled_by Listing = keeps_ignored p w w' f f' s _ _ NotOffered NotOffered
   cancelled_by Mismatch = keeps_fails p w w' f f' s _ _ (plain steps.UserCancelled) (plain steps.UserCancelled)
+  cancelled_by Window = keeps_ignored p w w' f f' s _ _ NotOffered NotOffered
   cancelled_by Choosing = keeps_fails p w w' f f' s _ _ (plain steps.UserCancelled) (plain steps.UserCancelled)
   cancelled_by Prompting = keeps_fails p w w' f f' s _ _ (plain steps.UserCancelled) (plain steps.UserCancelled)
   cancelled_by Asserting = keeps_ignored p w w' f f' s _ _ NotOffered NotOffered
   cancelled_by Ended = keeps_ignored p w w' f f' s _ _ NotOffered NotOffered
+
+  -- ---- signing in at the provider
+
+  sign_in_says : (ign : Bool) → SameData p (with_input w ign inputs.SignIn f) (with_input w' ign inputs.SignIn f')
+  sign_in_says true = s.said
+  sign_in_says false = s.said
+
+  -- the configuration is the same, so is the login window
+  opens_by : (c c' : Option Configuration) → f.config ≡ c → c ≡ c'
+      → Keeps p w w' f f' inputs.SignIn inputs.SignIn (opens_window only_place c) (opens_window only_place c')
+  opens_by None None is e = keeps_row p w w' f f' s _ _ stays tt sign_in_says (stands p f f' s)
+  opens_by (Some c) (Some c') is e =
+      keeps_moves p w w' f f' s _ _ Window _ _ refl refl refl refl tt s.said (inr (refl, inr (ap is_some is)))
+  opens_by None (Some c') is e = absurd (cc)
+  opens_by (Some c) None is e = absurd (cc)
+
+  pub sign_in_by : (st : Stage) → Keeps p w w' f f' inputs.SignIn inputs.SignIn (asked_to_sign_in f st) (asked_to_sign_in f' st)
+  sign_in_by Mismatch = opens_by f.config f'.config refl s.said.config
+  sign_in_by Reading = keeps_ignored p w w' f f' s _ _ NotOffered NotOffered
+  sign_in_by Listing = keeps_ignored p w w' f f' s _ _ NotOffered NotOffered
+  sign_in_by Window = keeps_ignored p w w' f f' s _ _ NotOffered NotOffered
+  sign_in_by Choosing = keeps_ignored p w w' f f' s _ _ NotOffered NotOffered
+  sign_in_by Prompting = keeps_ignored p w w' f f' s _ _ NotOffered NotOffered
+  sign_in_by Asserting = keeps_ignored p w w' f f' s _ _ NotOffered NotOffered
+  sign_in_by Ended = keeps_ignored p w w' f f' s _ _ NotOffered NotOffered
+
+  pub shut_by : (st : Stage) → Keeps p w w' f f' inputs.Shut inputs.Shut (window_shut st) (window_shut st)
+  shut_by Window = keeps_fails p w w' f f' s _ _ (plain steps.WindowShut) (plain steps.WindowShut)
+  shut_by Reading = keeps_ignored p w w' f f' s _ _ NotOffered NotOffered
+  shut_by Listing = keeps_ignored p w w' f f' s _ _ NotOffered NotOffered
+  shut_by Mismatch = keeps_ignored p w w' f f' s _ _ NotOffered NotOffered
+  shut_by Choosing = keeps_ignored p w w' f f' s _ _ NotOffered NotOffered
+  shut_by Prompting = keeps_ignored p w w' f f' s _ _ NotOffered NotOffered
+  shut_by Asserting = keeps_ignored p w w' f f' s _ _ NotOffered NotOffered
+  shut_by Ended = keeps_ignored p w w' f f' s _ _ NotOffered NotOffered
 
 -- ---- going on
 
@@ -449,6 +514,7 @@ still_went p f Prompting known quiet = still_goes p f f.waits f.picked (known re
 still_went p f Reading known quiet = record { stage = refl; told = refl; own = (tt, tt) }
 still_went p f Listing known quiet = record { stage = refl; told = refl; own = (tt, tt) }
 still_went p f Mismatch known quiet = record { stage = refl; told = refl; own = (tt, tt) }
+still_went p f Window known quiet = record { stage = refl; told = refl; own = (tt, tt) }
 still_went p f Choosing known quiet = record { stage = refl; told = refl; own = (tt, tt) }
 still_went p f Asserting known quiet = record { stage = refl; told = refl; own = (tt, tt) }
 still_went p f Ended known quiet = record { stage = refl; told = refl; own = (tt, tt) }
@@ -522,6 +588,7 @@ unseen_reply p w f g s place raw Prompting at = unseen_metadata p w f g s at pla
 unseen_reply p w f g s place raw Reading at = unseen_ignored p w f g s (inputs.Reply place kinds.Metadata raw) NotWaited
 unseen_reply p w f g s place raw Listing at = unseen_ignored p w f g s (inputs.Reply place kinds.Metadata raw) NotWaited
 unseen_reply p w f g s place raw Mismatch at = unseen_ignored p w f g s (inputs.Reply place kinds.Metadata raw) NotWaited
+unseen_reply p w f g s place raw Window at = unseen_ignored p w f g s (inputs.Reply place kinds.Metadata raw) NotWaited
 unseen_reply p w f g s place raw Choosing at = unseen_ignored p w f g s (inputs.Reply place kinds.Metadata raw) NotWaited
 unseen_reply p w f g s place raw Asserting at = unseen_ignored p w f g s (inputs.Reply place kinds.Metadata raw) NotWaited
 unseen_reply p w f g s place raw Ended at = unseen_ignored p w f g s (inputs.Reply place kinds.Metadata raw) CallEnded

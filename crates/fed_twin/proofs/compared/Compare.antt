@@ -26,13 +26,14 @@ use Rattle.fed_trace.specs.Records.{records_of, records}
 use Rattle.fed_trace.specs.Row.{effects_of, row_of, with_event}
 use Rattle.fed_session.specs.Session.{State, Stands, IsFresh}
 use Rattle.fed_trace.specs.Trace.{Trace, begun}
+use Rattle.fed_trace.specs.Windows.{open_windows}
 use Rattle.fed_trace.proofs.runs.Untaken.{IsUntaken, untaken_after}
 use Rattle.fed_twin.specs.Compare.{IsQuietLength, QuietRun, is_naming_kind, is_naming_record, is_first_kind, is_first_record, get_count}
 use Rattle.fed_twin.specs.Compare.{quiet_count, quiet_requests}
 use Rattle.fed_twin.specs.Script.{is_kept, kept_events, up_to, is_disconnect, first_bytes, first_sent, first_requests, is_naming, names}
 use Rattle.fed_twin.specs.Script.{is_loud, AreQuiet, Quiet, sign_in}
 use Rattle.fed_twin.specs.Twin.{Twin}
-use Rattle.fed_twin.proofs.compared.Requests.{few_requests}
+use Rattle.fed_twin.proofs.compared.Requests.{few_requests, few_windows}
 use Rattle.fed_twin.proofs.compared.Sends.{first_any, sends_gets, sends_none}
 use Rattle.fed_twin.proofs.twins.Self.{quiet_before}
 use Rattle.fed_twin.proofs.worlds.Worlds.{two_worlds_lem}
@@ -319,7 +320,8 @@ pub record GoesOn (s : Script) (most : ℕ) (session : State) (rest : List Numbe
   pub read : AreRead used rest
   pub few : kept ≤ most
   pub all : total ≡ requests_of trace
-  pub bound : total ≤ 3 * length trace.rows
+  pub bound : total ≤ 1000003 * length trace.rows
+  pub waiting : length (open_windows trace) ≤ length trace.rows
   pub same : run trace rest most kept sent ≡ run (start s.header) s.events most 0 0
 
 pub begins : (s : Script) (most : ℕ) (session : State) → Stands session (start s.header) → IsRead s
@@ -336,6 +338,7 @@ begins s most session stands read =
       few = zero-le;
       all = refl;
       bound = zero-le;
+      waiting = zero-le;
       same = refl;
     }
 
@@ -371,6 +374,9 @@ fresh session T used (events.ClosePage page) stands untaken unused = tt
 fresh session T used (events.Abort call) stands untaken unused = tt
 fresh session T used (events.GoOn call) stands untaken unused = tt
 fresh session T used (events.Cancel call) stands untaken unused = tt
+fresh session T used (events.SignIn call) stands untaken unused = tt
+fresh session T used (events.ShutWindow call) stands untaken unused = tt
+fresh session T used (events.IdpClose page) stands untaken unused = tt
 fresh session T used (events.Reply call place kind raw) stands untaken unused = tt
 fresh session T used (events.Choose call place id) stands untaken unused = tt
 fresh session T used (events.Prevent page) stands untaken unused = tt
@@ -425,7 +431,7 @@ pub fits_more : {s : Script} {most kept sent total : ℕ} {session session' : St
     → total + requests < 2 ^ 64
 fits_more {n = n} requests takes is h =
     let row = row_found {n = n} h.trace requests h.stands takes is in
-    omega (arith, h.bound, row.1, few_requests h.trace n.event, h.count, h.read.0.few)
+    omega (arith, h.bound, row.1, few_requests h.trace n.event, h.waiting, h.count, h.read.0.few)
 
 -- over a quiet event, by whether it is kept
 goes_on : {s : Script} {most kept sent total : ℕ} {session session' : State} {n : Numbered} {ns : List Numbered} {found : Option ℕ}
@@ -455,7 +461,8 @@ goes_on {s = s} {most = most} {kept = kept} {sent = sent} {total = total} {sessi
       read = h.read.1;
       few = few_by more;
       all = all;
-      bound = omega (arith, h.bound, row.1, few_requests h.trace n.event);
+      bound = omega (arith, h.bound, row.1, few_requests h.trace n.event, h.waiting, count, h.read.0.few);
+      waiting = let le = few_windows h.trace n.line n.event in omega (arith, le, h.waiting);
       same = by more kind all ∙ sym (run-quiet h.trace n ns most kept sent apart row.0) ∙ h.same;
     }
   where

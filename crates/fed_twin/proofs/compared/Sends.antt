@@ -15,6 +15,7 @@ use Rattle.fed_consent.specs.declared.table.effect.Effect.{Effect as CallEffect}
 use Rattle.fed_consent.specs.declared.table.effect.Effect.TheVariants as does
 use Rattle.fed_consent.specs.declared.table.input.Input.{Input}
 use Rattle.fed_consent.specs.declared.table.input.Input.TheVariants as inputs
+use Rattle.fed_consent.specs.declared.table.input.Input.TheVariants.{Resume}
 use Rattle.fed_consent.specs.Outcomes.{Outcome}
 use Rattle.fed_disconnect.specs.Facts.{DisconnectOptions}
 use Rattle.fed_disconnect.specs.Rows.{disconnect_start_row}
@@ -26,8 +27,8 @@ use Rattle.fed_trace.specs.Effect.{Effect, Login, Sent, Flag}
 use Rattle.fed_trace.specs.Known.{world_at, is_begun, known_at}
 use Rattle.fed_trace.specs.Row.{effects_of, call_effects, moves, outcome_effects, begin_effects, standing_call, is_busy, input_effects}
 use Rattle.fed_trace.specs.Row.{close_effects, cookies_with, cookies_from, cookie_effects, have_cookies, have_states, page_says}
-use Rattle.fed_trace.specs.Row.{set_cookies}
-use Rattle.fed_trace.specs.Row.{set_logins}
+use Rattle.fed_trace.specs.Row.{set_cookies, set_logins, resume_effects, waiting_effects, standing_resumes, idpclose_effects}
+use Rattle.fed_trace.specs.Windows.{windows_of}
 use Rattle.fed_trace.specs.Trace.{Trace, page_at, gets, pending_of, now_at}
 use Rattle.fed_trace.proofs.calls.Pending.{load_silent}
 use Rattle.fed_trace.proofs.effects.Silent.{AllSilent, said_silent, goes_silent}
@@ -144,9 +145,9 @@ begins_none w ck (Some origin) busy page call options = go (is_trustworthy origi
 
 -- ---- inputs, and all events
 
-sends_input : (T : Trace) (call : ℕ) (i : Input)
-    → OfGets (input_effects (world_at T) (cookies_with T) (is_begun T call) call (known_at T call) i)
-sends_input T call i = go (is_begun T call) (known_at T call)
+sends_taken : (T : Trace) (taken : Bool) (call : ℕ) (i : Input)
+    → OfGets (input_effects (world_at T) (cookies_with T) taken call (known_at T call) i)
+sends_taken T taken call i = go taken (known_at T call)
   where
     go : (begun : Bool) (known : Option Known) → OfGets (input_effects (world_at T) (cookies_with T) begun call known i)
     go false known = refl
@@ -157,11 +158,38 @@ sends_input T call i = go (is_begun T call) (known_at T call)
         disconnect_sent (world_at T) (cookies_with T) call f.page o
         ∙ sym (any_outcome (world_at T) (cookies_with T) call f.page o (disconnect_later (world_at T) f i).firsts)
 
+sends_input : (T : Trace) (call : ℕ) (i : Input)
+    → OfGets (input_effects (world_at T) (cookies_with T) (is_begun T call) call (known_at T call) i)
+sends_input T call i = sends_taken T (is_begun T call) call i
+
 sends_closed : (calls : List (ℕ × CallKind)) (page : ℕ) (origin : Option Origin) → OfGets (close_effects calls page origin)
 sends_closed calls page None = refl
 sends_closed calls page (Some origin) =
     both_silent (close_effects calls page (Some origin)) (close_silent first_sent (λ n c. refl) (λ p. refl) calls page)
     (close_silent first_any (λ n c. refl) (λ p. refl) calls page)
+
+-- of a page that says that the user has signed in
+sends_resumed : (T : Trace) (calls : List ℕ)
+    → OfGets (flat_map (resume_effects (world_at T) (cookies_with T) (known_at T)) calls)
+sends_resumed T [] = refl
+sends_resumed T (call ∷ calls) =
+    let own = resume_effects (world_at T) (cookies_with T) (known_at T) call in
+    let more = flat_map (resume_effects (world_at T) (cookies_with T) (known_at T)) calls in
+    filter_map-append first_sent own more ∙ ap₂ (λ xs ys. xs ++ ys) (sends_taken T true call Resume) (sends_resumed T calls)
+    ∙ sym (filter_map-append first_any own more)
+
+sends_idpclose : (T : Trace) (o : Option Origin)
+    → OfGets (idpclose_effects (world_at T) (cookies_with T) (known_at T) (windows_of T) o)
+sends_idpclose T None = refl
+sends_idpclose T (Some origin) = go (is_trustworthy origin)
+  where
+    waiting : (calls : List ℕ) → OfGets (waiting_effects (world_at T) (cookies_with T) (known_at T) calls)
+    waiting [] = refl
+    waiting (call ∷ calls) = sends_resumed T (call ∷ calls)
+
+    go : (trusted : Bool) → OfGets (standing_resumes (world_at T) (cookies_with T) (known_at T) (windows_of T origin) trusted)
+    go true = waiting (windows_of T origin)
+    go false = refl
 
 pub sends_gets : (T : Trace) (event : Event) → is_disconnect event ≡ false → OfGets (effects_of T event)
 sends_gets T (events.Disconnect page call config client hint) other = absurd (cc)
@@ -189,6 +217,9 @@ sends_gets T (events.Get page call options) other =
 sends_gets T (events.Abort call) other = sends_input T call inputs.Abort
 sends_gets T (events.GoOn call) other = sends_input T call inputs.GoOn
 sends_gets T (events.Cancel call) other = sends_input T call inputs.Cancel
+sends_gets T (events.SignIn call) other = sends_input T call inputs.SignIn
+sends_gets T (events.ShutWindow call) other = sends_input T call inputs.Shut
+sends_gets T (events.IdpClose page) other = sends_idpclose T (page_at T page)
 sends_gets T (events.Reply call place kind raw) other = sends_input T call (inputs.Reply place kind raw)
 sends_gets T (events.Choose call place id) other = sends_input T call (inputs.Choose place id)
 

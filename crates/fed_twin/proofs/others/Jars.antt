@@ -3,7 +3,7 @@ use Rattle.std.proofs.Common.{◌≡◌, ℕ, Bool, true, false, ◌||◌, nat_e
 use Rattle.std.proofs.Common.{refl, sym, ap, ap₂}
 use Rattle.std.proofs.Common.{◌∙◌}
 use Rattle.std.proofs.lemmas.List.Elements.{filter_map-append}
-use Rattle.std.specs.Prelude.{option_and_then, option_map, unwrap_or}
+use Rattle.std.specs.Prelude.{option_and_then, option_map, unwrap_or, filter}
 use Rattle.std.specs.Option.{option_or}
 use Rattle.std.specs.List.{filter_map, list_any, AllZip, flat_map}
 use Rattle.url.specs.Parts.{Parts}
@@ -18,6 +18,7 @@ use Rattle.fed_consent.specs.declared.table.ask.Ask.{Ask}
 use Rattle.fed_consent.specs.declared.table.effect.Effect.{Effect as CallEffect}
 use Rattle.fed_consent.specs.declared.table.effect.Effect.TheVariants as does
 use Rattle.fed_consent.specs.declared.table.input.Input.{Input}
+use Rattle.fed_consent.specs.declared.table.input.Input.TheVariants.{Resume}
 use Rattle.fed_consent.specs.Outcomes.{Outcome}
 use Rattle.fed_script.specs.declared.event.Event.{Event}
 use Rattle.fed_script.specs.declared.event.Event.TheVariants as events
@@ -27,12 +28,14 @@ use Rattle.fed_trace.specs.Begun.{Begun, CallKind, CallOptions, ToGet, ToDisconn
 use Rattle.fed_trace.specs.Call.{Known, kind_of, page_of, known_first, first_row, input_row}
 use Rattle.fed_trace.specs.Effect as effects
 use Rattle.fed_trace.specs.Effect.{Effect, Page, Login, Begin, last_of, page_change, login_change, kept_change, flag_change, call_change}
-use Rattle.fed_trace.specs.Effect.{get_change, stage_change, time_of, begun_by, begins, is_ignored}
+use Rattle.fed_trace.specs.Effect.{get_change, stage_change, window_change, time_of, begun_by, begins, is_ignored}
 use Rattle.fed_trace.specs.Keyed.{Change, entries_after, says}
 use Rattle.fed_trace.specs.Known.{world_at, is_begun, input_to, with_said, known_in, known_by, known_at}
 use Rattle.fed_trace.specs.Row.{effects_of, with_event, cookies_with, call_effects, moves, outcome_effects, begin_effects, standing_call}
 use Rattle.fed_trace.specs.Row.{input_effects, is_busy, ends_of, cookies_from, cookie_effects, login_effects, load_effects, close_effects}
-use Rattle.fed_trace.specs.Row.{page_says, have_cookies, set_cookies, set_logins}
+use Rattle.fed_trace.specs.Row.{page_says, have_cookies, set_cookies, set_logins, resume_effects, waiting_effects, standing_resumes}
+use Rattle.fed_trace.specs.Row.{idpclose_effects}
+use Rattle.fed_trace.specs.Windows.{provider_asked, provider_of, is_origin, open_windows, windows_of}
 use Rattle.fed_trace.specs.Trace.{Row, Trace, page_at, logins, kept, flags, pending, gets, pending_of, calls_of, now_at, begun, stage_at}
 use Rattle.fed_trace.specs.Trace.{last_value, all_said}
 use Rattle.fed_trace.specs.OfScript.{start, with_events}
@@ -178,6 +181,27 @@ module _ (T U : Trace) (h : SameLooks T U) where
       ∙ sym (standing-seen but_cookies nat_eq get_change get_change
       (blind get_change (record { cookie = λ c. refl; sent = λ n c p a k. refl })) U.rows)
 
+  same_opened : open_windows T ≡ open_windows U
+  same_opened =
+      ap keys_of
+      (standing-seen but_cookies nat_eq window_change window_change
+      (blind window_change (record { cookie = λ c. refl; sent = λ n c p a k. refl })) T.rows
+      ∙ ap (λ v. entries_after nat_eq window_change v []) h.does
+      ∙ sym (standing-seen but_cookies nat_eq window_change window_change
+      (blind window_change (record { cookie = λ c. refl; sent = λ n c p a k. refl })) U.rows))
+
+  same_provider : (q : ℕ) → provider_of T.rows q ≡ provider_of U.rows q
+  same_provider q =
+      ap (λ (o : Option Begun). option_and_then (λ begun. provider_asked begun.options) o)
+      (last_in-seen but_cookies (begins q) (begins q)
+      (blind (begins q) (record { cookie = λ c. refl; sent = λ n c p a k. refl })) T.rows ∙ ap (last_at (begins q)) h.does
+      ∙ sym (last_in-seen but_cookies (begins q) (begins q)
+      (blind (begins q) (record { cookie = λ c. refl; sent = λ n c p a k. refl })) U.rows))
+
+  same_windows : (origin : Origin) → windows_of T origin ≡ windows_of U origin
+  same_windows origin =
+      ap₂ (λ (asked : ℕ → Option Origin) calls. filter (λ call. is_origin origin (asked call)) calls) (λ i q. same_provider q i) same_opened
+
   same_begun : (q : ℕ) → is_begun T q ≡ is_begun U q
   same_begun q =
       ap (list_any (nat_eq q))
@@ -294,6 +318,41 @@ begin_same T U h page call options =
     ∙ ap₂ (λ o x. filter_map but_cookies (begin_effects (world_at U) (cookies_with U) o (is_busy page x) page call options))
     (same_page T U h page) (same_gets T U h)
 
+but_resumes : (w : World) (ck ck' : Ask → List ℕ) (known : ℕ → Option Known) (calls : List ℕ)
+    → filter_map but_cookies (flat_map (resume_effects w ck known) calls)
+    ≡ filter_map but_cookies (flat_map (resume_effects w ck' known) calls)
+but_resumes w ck ck' known [] = refl
+but_resumes w ck ck' known (call ∷ calls) =
+    filter_map-append but_cookies (resume_effects w ck known call) (flat_map (resume_effects w ck known) calls)
+    ∙ ap₂ (λ xs ys. xs ++ ys) (but_input w ck ck' true call (known call) Resume) (but_resumes w ck ck' known calls)
+    ∙ sym (filter_map-append but_cookies (resume_effects w ck' known call) (flat_map (resume_effects w ck' known) calls))
+
+but_waiting : (w : World) (ck ck' : Ask → List ℕ) (known : ℕ → Option Known) (calls : List ℕ)
+    → filter_map but_cookies (waiting_effects w ck known calls) ≡ filter_map but_cookies (waiting_effects w ck' known calls)
+but_waiting w ck ck' known [] = refl
+but_waiting w ck ck' known (call ∷ calls) = but_resumes w ck ck' known (call ∷ calls)
+
+but_idpclose : (w : World) (ck ck' : Ask → List ℕ) (known : ℕ → Option Known) (waiting : Origin → List ℕ) (o : Option Origin)
+    → filter_map but_cookies (idpclose_effects w ck known waiting o) ≡ filter_map but_cookies (idpclose_effects w ck' known waiting o)
+but_idpclose w ck ck' known waiting None = refl
+but_idpclose w ck ck' known waiting (Some origin) = go (is_trustworthy origin)
+  where
+    go : (trusted : Bool) → filter_map but_cookies (standing_resumes w ck known (waiting origin) trusted)
+        ≡ filter_map but_cookies (standing_resumes w ck' known (waiting origin) trusted)
+    go false = refl
+    go true = but_waiting w ck ck' known (waiting origin)
+
+-- a page that says that the user has signed in
+resumes_same : (T U : Trace) → SameLooks T U → (page : ℕ)
+    → filter_map but_cookies (idpclose_effects (world_at T) (cookies_with T) (known_at T) (windows_of T) (page_at T page))
+    ≡ filter_map but_cookies (idpclose_effects (world_at U) (cookies_with U) (known_at U) (windows_of U) (page_at U page))
+resumes_same T U h page =
+    but_idpclose (world_at T) (cookies_with T) (cookies_with U) (known_at T) (windows_of T) (page_at T page)
+    ∙ ap₂ (λ w o. filter_map but_cookies (idpclose_effects w (cookies_with U) (known_at T) (windows_of T) o)) (same_world T U h)
+    (same_page T U h page)
+    ∙ ap₂ (λ known waiting. filter_map but_cookies (idpclose_effects (world_at U) (cookies_with U) known waiting (page_at U page)))
+    (λ i q. same_known T U h q i) (λ i origin. same_windows T U h origin i)
+
 equal_effects : (T U : Trace) → SameLooks T U → (e : Event)
     → filter_map but_cookies (effects_of T e) ≡ filter_map but_cookies (effects_of U e)
 equal_effects T U h (events.Have (haves.Cookie url field)) =
@@ -319,6 +378,9 @@ equal_effects T U h (events.Disconnect page call config client hint) =
 equal_effects T U h (events.Abort call) = input_same T U h call _
 equal_effects T U h (events.GoOn call) = input_same T U h call _
 equal_effects T U h (events.Cancel call) = input_same T U h call _
+equal_effects T U h (events.SignIn call) = input_same T U h call _
+equal_effects T U h (events.ShutWindow call) = input_same T U h call _
+equal_effects T U h (events.IdpClose page) = resumes_same T U h page
 equal_effects T U h (events.Reply call provider kind raw) = input_same T U h call _
 equal_effects T U h (events.Choose call provider account) = input_same T U h call _
 

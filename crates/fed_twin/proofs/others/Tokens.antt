@@ -2,14 +2,14 @@
 use Rattle.std.proofs.Common.{◌≡◌, ℕ, Bool, true, false, ◌||◌, nat_eq, cond, List, [], ◌∷◌, ◌++◌, Option, Some, None}
 use Rattle.std.proofs.Common.{Result as Answer, Ok, Err}
 use Rattle.std.proofs.Common.{append_assoc, refl, sym, ap, ap₂, subst, ◌∙◌}
-use Rattle.std.specs.Prelude.{◌==◌, option_map, unwrap_or, ⊤}
+use Rattle.std.specs.Prelude.{◌==◌, option_map, option_and_then, unwrap_or, filter, ⊤}
 use Rattle.std.specs.Option.{option_or}
 use Rattle.std.specs.List.{filter_map, cons_option, list_any}
 use Rattle.url.specs.Parts.{Parts}
 use Rattle.fed_origin.specs.declared.options.ProviderOptions.{ProviderOptions}
 use Rattle.fed_origin.specs.declared.stage.ReplyKind.TheVariants as kinds
 use Rattle.fed_origin.specs.declared.stage.Stage.{Stage}
-use Rattle.fed_origin.specs.declared.stage.Stage.TheVariants.{Reading, Listing, Mismatch, Choosing, Prompting, Asserting, Ended}
+use Rattle.fed_origin.specs.declared.stage.Stage.TheVariants.{Reading, Listing, Mismatch, Window, Choosing, Prompting, Asserting, Ended}
 use Rattle.fed_origin.specs.Origin.{same_origin, origin_text}
 use Rattle.fed_origin.specs.WebUrl.{origin_of}
 use Rattle.fed_jar.specs.Writes as jar
@@ -34,15 +34,18 @@ use Rattle.fed_script.specs.declared.event.Have.TheVariants as haves
 use Rattle.fed_script.specs.declared.event.Numbered.{Numbered}
 use Rattle.fed_disconnect.specs.Facts.{DisconnectFacts}
 use Rattle.fed_disconnect.specs.Rows.{provider_reply}
-use Rattle.fed_trace.specs.Begun.{GetCall, DisconnectCall, CallOptions, ToGet, ToDisconnect}
+use Rattle.fed_trace.specs.Begun.{Begun, GetCall, DisconnectCall, CallOptions, ToGet, ToDisconnect}
 use Rattle.fed_trace.specs.Call.{Known, OfGet, OfDisconnect, known_first, with_input}
 use Rattle.fed_trace.specs.Effect.{Effect, PendingCall, last_of, page_change, login_change, kept_change, flag_change, call_change}
-use Rattle.fed_trace.specs.Effect.{get_change, stage_change, time_of, written_by, begun_by, begins, is_ignored}
+use Rattle.fed_trace.specs.Effect.{get_change, stage_change, window_change, time_of, written_by, begun_by, begins, is_ignored}
 use Rattle.fed_trace.specs.Effect.{Login, Move, Kept, Flag, Result}
 use Rattle.fed_trace.specs.Keyed.{changed, entries_after, last_said, says}
 use Rattle.fed_trace.specs.Known.{world_at, is_begun, input_to, with_said, known_in, known_by, known_at}
 use Rattle.fed_trace.specs.Row.{effects_of, row_of, with_event, cookies_with, outcome_effects, begin_effects, input_effects, is_busy}
 use Rattle.fed_trace.specs.Row.{cookies_from, cookie_effects, load_effects, close_effects, page_says, set_cookies, set_logins}
+use Rattle.fed_trace.specs.Row.{idpclose_effects}
+use Rattle.fed_trace.specs.OfCall.{call_at}
+use Rattle.fed_trace.specs.Windows.{provider_asked, is_origin, windows_of}
 use Rattle.fed_trace.specs.Trace.{Row, Trace, page_at, logins, kept, flags, standing, pending, calls_of, now_at, writes, begun, stage_at}
 use Rattle.fed_trace.specs.Trace.{last_in}
 use Rattle.fed_trace.specs.Trace as trace
@@ -64,6 +67,8 @@ record SameAll (T U : Trace) : Type 0 where
   flags : standing same_origin flag_change T.rows ≡ standing same_origin flag_change U.rows
   calls : pending T ≡ pending U
   gets : trace.gets T ≡ trace.gets U
+  windows : standing nat_eq window_change T.rows ≡ standing nat_eq window_change U.rows
+  begins_it : (q : ℕ) → call_at T.rows q ≡ call_at U.rows q
   taken : begun T.rows ≡ begun U.rows
   written : writes T ≡ writes U
   known : (q : ℕ) → known_in T.header T.rows q ≡ known_in U.header U.rows q
@@ -80,6 +85,8 @@ same_self T =
       flags = refl;
       calls = refl;
       gets = refl;
+      windows = refl;
+      begins_it = λ q. refl;
       taken = refl;
       written = refl;
       known = λ q. refl;
@@ -95,6 +102,7 @@ record SameReads (es es' : List Effect) : Type 0 where
   flags : (l : List (Origin × ⊤)) → entries_after same_origin flag_change es l ≡ entries_after same_origin flag_change es' l
   calls : (l : List (ℕ × PendingCall)) → entries_after nat_eq call_change es l ≡ entries_after nat_eq call_change es' l
   gets : (l : List (ℕ × ℕ)) → entries_after nat_eq get_change es l ≡ entries_after nat_eq get_change es' l
+  windows : (l : List (ℕ × ⊤)) → entries_after nat_eq window_change es l ≡ entries_after nat_eq window_change es' l
   taken : filter_map begun_by es ≡ filter_map begun_by es'
   written : filter_map written_by es ≡ filter_map written_by es'
   begins_it : (q : ℕ) → last_of (begins q) es ≡ last_of (begins q) es'
@@ -111,6 +119,7 @@ same_reads es =
       flags = λ l. refl;
       calls = λ l. refl;
       gets = λ l. refl;
+      windows = λ l. refl;
       taken = refl;
       written = refl;
       begins_it = λ q. refl;
@@ -129,6 +138,7 @@ reads_after e es es' h =
       flags = λ l. h.flags (changed same_origin (flag_change e) l);
       calls = λ l. h.calls (changed nat_eq (call_change e) l);
       gets = λ l. h.gets (changed nat_eq (get_change e) l);
+      windows = λ l. h.windows (changed nat_eq (window_change e) l);
       taken = ap (cons_option (begun_by e)) h.taken;
       written = ap (cons_option (written_by e)) h.written;
       begins_it = λ q. ap (λ o. option_or o (begins q e)) (h.begins_it q);
@@ -153,6 +163,7 @@ reads_same call (Tokens before page provider auto token token') = go before
           flags = λ l. refl;
           calls = λ l. refl;
           gets = λ l. refl;
+          windows = λ l. refl;
           taken = refl;
           written = refl;
           begins_it = λ q. refl;
@@ -182,6 +193,8 @@ grow_all T U h line line' e e' reads said =
       flags = ap (entries_after same_origin flag_change (effects_of T e)) h.flags ∙ reads.flags (standing same_origin flag_change U.rows);
       calls = ap (entries_after nat_eq call_change (effects_of T e)) h.calls ∙ reads.calls (pending U);
       gets = ap (entries_after nat_eq get_change (effects_of T e)) h.gets ∙ reads.gets (trace.gets U);
+      windows = ap (entries_after nat_eq window_change (effects_of T e)) h.windows ∙ reads.windows (standing nat_eq window_change U.rows);
+      begins_it = λ q. ap₂ option_or (reads.begins_it q) (h.begins_it q);
       taken = ap₂ (λ xs ys. xs ++ ys) h.taken reads.taken;
       written = ap₂ (λ xs ys. xs ++ ys) h.written reads.written;
       known = λ q.
@@ -237,6 +250,22 @@ begin_same T U h page call options =
     (all_cookies_same T U h)
     ∙ ap₂ (λ o x. begin_effects (world_at U) (cookies_with U) o (is_busy page x) page call options) (h.page page) h.gets
 
+windows_same : (T U : Trace) → SameAll T U → (origin : Origin) → windows_of T origin ≡ windows_of U origin
+windows_same T U h origin =
+    ap₂ (λ (asked : ℕ → Option Origin) calls. filter (λ call. is_origin origin (asked call)) calls)
+    (λ i q. ap (λ (o : Option Begun). option_and_then (λ begun. provider_asked begun.options) o) (h.begins_it q) i)
+    (ap keys_of h.windows)
+
+-- a page that says that the user has signed in
+resumes_same : (T U : Trace) → SameAll T U → (page : ℕ)
+    → idpclose_effects (world_at T) (cookies_with T) (known_at T) (windows_of T) (page_at T page)
+    ≡ idpclose_effects (world_at U) (cookies_with U) (known_at U) (windows_of U) (page_at U page)
+resumes_same T U h page =
+    ap₂ (λ w ck. idpclose_effects w ck (known_at T) (windows_of T) (page_at T page)) (world_same T U h) (all_cookies_same T U h)
+    ∙ ap₂ (λ known waiting. idpclose_effects (world_at U) (cookies_with U) known waiting (page_at T page)) (λ i q. known_same T U h q i)
+    (λ i origin. windows_same T U h origin i)
+    ∙ ap (idpclose_effects (world_at U) (cookies_with U) (known_at U) (windows_of U)) (h.page page)
+
 effects_same : (T U : Trace) → SameAll T U → (e : Event) → effects_of T e ≡ effects_of U e
 effects_same T U h (events.Have (haves.Cookie url field)) = ap (λ cs. cookie_effects cs ++ []) (found_same T U h url (field ∷ []))
 effects_same T U h (events.Have (haves.Login origin status)) = refl
@@ -254,6 +283,9 @@ effects_same T U h (events.Disconnect page call config client hint) =
 effects_same T U h (events.Abort call) = input_same T U h call inputs.Abort
 effects_same T U h (events.GoOn call) = input_same T U h call inputs.GoOn
 effects_same T U h (events.Cancel call) = input_same T U h call inputs.Cancel
+effects_same T U h (events.SignIn call) = input_same T U h call inputs.SignIn
+effects_same T U h (events.ShutWindow call) = input_same T U h call inputs.Shut
+effects_same T U h (events.IdpClose page) = resumes_same T U h page
 effects_same T U h (events.Reply call provider kind raw) = input_same T U h call (inputs.Reply provider kind raw)
 effects_same T U h (events.Choose call provider account) = input_same T U h call (inputs.Choose provider account)
 
@@ -289,6 +321,7 @@ reply_same : (w : World) (ck : Ask → List ℕ) (call page : ℕ) (f : Facts) (
 reply_same w ck call page f Reading place raw raw' h = Equal _
 reply_same w ck call page f Listing place raw raw' h = Equal _
 reply_same w ck call page f Mismatch place raw raw' h = Equal _
+reply_same w ck call page f Window place raw raw' h = Equal _
 reply_same w ck call page f Choosing place raw raw' h = Equal _
 reply_same w ck call page f Prompting place raw raw' h = Equal _
 reply_same w ck call page f Ended place raw raw' h = Equal _
@@ -313,6 +346,7 @@ disconnect_reply_same w ck call f true Reading raw raw' = Equal _
 disconnect_reply_same w ck call f true Asserting raw raw' = Equal _
 disconnect_reply_same w ck call f true Listing raw raw' = Equal _
 disconnect_reply_same w ck call f true Mismatch raw raw' = Equal _
+disconnect_reply_same w ck call f true Window raw raw' = Equal _
 disconnect_reply_same w ck call f true Choosing raw raw' = Equal _
 disconnect_reply_same w ck call f true Prompting raw raw' = Equal _
 disconnect_reply_same w ck call f true Ended raw raw' = Equal _

@@ -1,8 +1,8 @@
 -- Where providers can tell the same of what happened, the look-backs are the same, as far as they hang on it.
 use Rattle.std.proofs.Common.{◌≡◌, ℕ, Bool, true, false, nat_eq, cond, List, [], ◌∷◌, ◌++◌, Option, Some, None, filter, refl, sym, ap, ◌∙◌}
-use Rattle.std.specs.Prelude.{option_and_then, option_map, unwrap_or, bytes_eq}
+use Rattle.std.specs.Prelude.{option_and_then, option_map, unwrap_or, bytes_eq, ⊤}
 use Rattle.std.proofs.lemmas.Slice.Eq.{bytes_eq-Decides}
-use Rattle.std.specs.Map.{lookup}
+use Rattle.std.specs.Map.{lookup, keys_of}
 use Rattle.std.specs.List.{filter_map, cons_option, list_any}
 use Rattle.indexmap.specs.IndexMap.{insert_entry}
 use Rattle.url.specs.Parts.{Parts}
@@ -22,31 +22,21 @@ use Rattle.fed_status.proofs.lists.Same.{same_origin_is}
 use Rattle.fed_consent.specs.declared.table.ask.Ask.{Ask}
 use Rattle.fed_consent.specs.declared.table.ask.Ask.TheVariants as asks
 use Rattle.fed_trace.specs.Begun.{CallKind, GetCall, DisconnectCall, kind_asked, of_get}
-use Rattle.fed_trace.specs.Effect.{Effect, page_change, login_change, get_change, get_begun, time_of, written_by}
+use Rattle.fed_trace.specs.Effect.{Effect, page_change, login_change, get_change, get_begun, time_of, written_by, is_window, key_change}
 use Rattle.fed_trace.specs.Effect as does
 use Rattle.fed_trace.specs.Keyed.{Change, changed, entries_after, says}
 use Rattle.fed_trace.specs.Trace.{Row, Trace, page_at, logins, gets, now_at, writes, standing, all_said, last_in}
 use Rattle.fed_twin.specs.Script.{first_bytes, first_sent, first_requests}
 use Rattle.fed_twin.specs.Providers.{Providers, is_provider}
-use Rattle.fed_twin.specs.Seen.{Seen, Time, Page, Closed, Cookie, Login, Begin, Ended, Sent, Told, told, seen, seen_move}
+use Rattle.fed_twin.specs.Seen.{Seen, Time, Page, Closed, Cookie, Login, Begin, Move, Sent, Told, told, seen}
 use Rattle.fed_twin.specs.Seen.{seen_sent, view}
 use Rattle.fed_jar.proofs.parties.Parties.{text_is_of_party_writes}
 use Rattle.fed_twin.proofs.seen.Seen.{last_at, last_in-seen, last_value-seen, standing-seen, all_said-seen}
-use Rattle.fed_twin.specs.Looks.{LooksAreSeen, gets_begun}
+use Rattle.fed_twin.specs.Looks.{LooksAreSeen, gets_begun, get_window_change, gets_in_window}
 
 -- ---- readings of what is seen
 
 -- a reading that says nothing of what is seen of a kind
-no_move : {A : Type 0} (f : Seen → Option A) → ((call : ℕ) → f (Ended call) ≡ None) → (call : ℕ) (stage : Stage)
-    → None ≡ option_and_then f (seen_move call stage)
-no_move f h call stages.Reading = refl
-no_move f h call stages.Listing = refl
-no_move f h call stages.Mismatch = refl
-no_move f h call stages.Choosing = refl
-no_move f h call stages.Prompting = refl
-no_move f h call stages.Asserting = refl
-no_move f h call stages.Ended = sym (h call)
-
 no_sent : {A : Type 0} (f : Seen → Option A)
     → ((call provider : ℕ) (ask : Ask) (cookies : List ℕ) → f (Sent call provider ask cookies) ≡ None)
     → (call provider : ℕ) (ask : Ask) (cookies : List ℕ) → None ≡ option_and_then f (seen_sent call provider ask cookies)
@@ -87,7 +77,7 @@ time_is p (does.Closed page) = refl
 time_is p (does.Cookie cookie) = no_test time_seen (Cookie cookie) refl (is_provider p cookie.domain)
 time_is p (does.Login origin status) = no_test time_seen (Login origin status) refl (is_provider p origin.host)
 time_is p (does.Begin b) = no_get time_seen (kind_asked b.options) (Some (Begin b.call b.page)) refl
-time_is p (does.Move kind call stage) = no_get time_seen kind (seen_move call stage) (no_move time_seen (λ c. refl) call stage)
+time_is p (does.Move kind call stage) = no_get time_seen kind (Some (Move call stage)) refl
 time_is p (does.Sent kind call provider ask cookies) =
     no_get time_seen kind (seen_sent call provider ask cookies) (no_sent time_seen (λ c q a k. refl) call provider ask cookies)
 time_is p (does.Shown call dialog) = refl
@@ -127,7 +117,7 @@ page_is p q (does.Closed page) = go (nat_eq q page)
 page_is p q (does.Cookie cookie) = no_test (page_seen q) (Cookie cookie) refl (is_provider p cookie.domain)
 page_is p q (does.Login origin status) = no_test (page_seen q) (Login origin status) refl (is_provider p origin.host)
 page_is p q (does.Begin b) = no_get (page_seen q) (kind_asked b.options) (Some (Begin b.call b.page)) refl
-page_is p q (does.Move kind call stage) = no_get (page_seen q) kind (seen_move call stage) (no_move (page_seen q) (λ c. refl) call stage)
+page_is p q (does.Move kind call stage) = no_get (page_seen q) kind (Some (Move call stage)) refl
 page_is p q (does.Sent kind call provider ask cookies) =
     no_get (page_seen q) kind (seen_sent call provider ask cookies) (no_sent (page_seen q) (λ c r a k. refl) call provider ask cookies)
 page_is p q (does.Shown call dialog) = refl
@@ -148,14 +138,15 @@ page_same p T U q same =
 
 call_seen : Seen → Option (Change ℕ ℕ)
 call_seen (Begin call page) = Some (call, Some page)
-call_seen (Ended call) = Some (call, None)
+call_seen (Move call stages.Ended) = Some (call, None)
 call_seen _ = None
 
-call_moves : (call : ℕ) (stage : Stage) → does.unless_ended call stage ≡ option_and_then call_seen (seen_move call stage)
+call_moves : (call : ℕ) (stage : Stage) → does.unless_ended call stage ≡ call_seen (Move call stage)
 unfolding call_seen
 call_moves call stages.Reading = refl
 call_moves call stages.Listing = refl
 call_moves call stages.Mismatch = refl
+call_moves call stages.Window = refl
 call_moves call stages.Choosing = refl
 call_moves call stages.Prompting = refl
 call_moves call stages.Asserting = refl
@@ -169,7 +160,8 @@ call_is p (does.Closed page) = refl
 call_is p (does.Cookie cookie) = no_test call_seen (Cookie cookie) refl (is_provider p cookie.domain)
 call_is p (does.Login origin status) = no_test call_seen (Login origin status) refl (is_provider p origin.host)
 call_is p (does.Begin b) = of_gets call_seen (kind_asked b.options) (Some (b.call, Some b.page)) (Some (Begin b.call b.page)) refl
-call_is p (does.Move kind call stage) = of_gets call_seen kind (does.unless_ended call stage) (seen_move call stage) (call_moves call stage)
+call_is p (does.Move kind call stage) =
+    of_gets call_seen kind (does.unless_ended call stage) (Some (Move call stage)) (call_moves call stage)
 call_is p (does.Sent kind call provider ask cookies) =
     no_get call_seen kind (seen_sent call provider ask cookies) (no_sent call_seen (λ c r a k. refl) call provider ask cookies)
 call_is p (does.Shown call dialog) = refl
@@ -198,7 +190,7 @@ begun_is p (does.Closed page) = refl
 begun_is p (does.Cookie cookie) = no_test begun_seen (Cookie cookie) refl (is_provider p cookie.domain)
 begun_is p (does.Login origin status) = no_test begun_seen (Login origin status) refl (is_provider p origin.host)
 begun_is p (does.Begin b) = of_gets begun_seen (kind_asked b.options) (Some b.call) (Some (Begin b.call b.page)) refl
-begun_is p (does.Move kind call stage) = no_get begun_seen kind (seen_move call stage) (no_move begun_seen (λ c. refl) call stage)
+begun_is p (does.Move kind call stage) = no_get begun_seen kind (Some (Move call stage)) refl
 begun_is p (does.Sent kind call provider ask cookies) =
     no_get begun_seen kind (seen_sent call provider ask cookies) (no_sent begun_seen (λ c r a k. refl) call provider ask cookies)
 begun_is p (does.Shown call dialog) = refl
@@ -212,6 +204,38 @@ begun_same : (p : Providers) (T U : Trace) → view p T.rows ≡ view p U.rows �
 begun_same p T U same =
     all_said-seen (seen p) get_begun begun_seen (begun_is p) T.rows ∙ ap (filter_map begun_seen) same
     ∙ sym (all_said-seen (seen p) get_begun begun_seen (begun_is p) U.rows)
+
+-- ---- gets in Window
+
+window_seen : Seen → Option (Change ℕ ⊤)
+window_seen (Move call stage) = Some (key_change call (is_window stage))
+window_seen _ = None
+
+window_is : (p : Providers) (e : Effect) → get_window_change e ≡ option_and_then window_seen (seen p e)
+unfolding window_seen
+window_is p (does.Time time) = refl
+window_is p (does.Page page origin) = refl
+window_is p (does.Closed page) = refl
+window_is p (does.Cookie cookie) = no_test window_seen (Cookie cookie) refl (is_provider p cookie.domain)
+window_is p (does.Login origin status) = no_test window_seen (Login origin status) refl (is_provider p origin.host)
+window_is p (does.Begin b) = no_get window_seen (kind_asked b.options) (Some (Begin b.call b.page)) refl
+window_is p (does.Move kind call stage) =
+    of_gets window_seen kind (Some (key_change call (is_window stage))) (Some (Move call stage)) refl
+window_is p (does.Sent kind call provider ask cookies) =
+    no_get window_seen kind (seen_sent call provider ask cookies) (no_sent window_seen (λ c r a k. refl) call provider ask cookies)
+window_is p (does.Shown call dialog) = refl
+window_is p (does.Window call provider url) = refl
+window_is p (does.Kept triple stays) = refl
+window_is p (does.Flag origin stays) = refl
+window_is p (does.Result call page finish) = refl
+window_is p (does.Ignored why) = refl
+
+pub gets_in_window_same : (p : Providers) (T U : Trace) → view p T.rows ≡ view p U.rows
+    → gets_in_window T.rows ≡ gets_in_window U.rows
+gets_in_window_same p T U same =
+    ap keys_of
+    (standing-seen (seen p) nat_eq get_window_change window_seen (window_is p) T.rows ∙ ap (λ v. entries_after nat_eq window_seen v []) same
+    ∙ sym (standing-seen (seen p) nat_eq get_window_change window_seen (window_is p) U.rows))
 
 -- ---- what is sent
 
@@ -237,7 +261,7 @@ first_is p (does.Closed page) = refl
 first_is p (does.Cookie cookie) = no_test first_seen (Cookie cookie) refl (is_provider p cookie.domain)
 first_is p (does.Login origin status) = no_test first_seen (Login origin status) refl (is_provider p origin.host)
 first_is p (does.Begin b) = no_get first_seen (kind_asked b.options) (Some (Begin b.call b.page)) refl
-first_is p (does.Move kind call stage) = no_get first_seen kind (seen_move call stage) (no_move first_seen (λ c. refl) call stage)
+first_is p (does.Move kind call stage) = no_get first_seen kind (Some (Move call stage)) refl
 first_is p (does.Sent kind call provider ask cookies) =
     of_gets first_seen kind (first_bytes ask cookies) (seen_sent call provider ask cookies) (first_asks call provider ask cookies)
 first_is p (does.Shown call dialog) = refl
@@ -279,7 +303,7 @@ cookie_is p (does.Cookie cookie) = go (is_provider p cookie.domain)
     go false = refl
 cookie_is p (does.Login origin status) = no_test cookie_seen (Login origin status) refl (is_provider p origin.host)
 cookie_is p (does.Begin b) = no_get cookie_seen (kind_asked b.options) (Some (Begin b.call b.page)) refl
-cookie_is p (does.Move kind call stage) = no_get cookie_seen kind (seen_move call stage) (no_move cookie_seen (λ c. refl) call stage)
+cookie_is p (does.Move kind call stage) = no_get cookie_seen kind (Some (Move call stage)) refl
 cookie_is p (does.Sent kind call provider ask cookies) =
     no_get cookie_seen kind (seen_sent call provider ask cookies) (no_sent cookie_seen (λ c r a k. refl) call provider ask cookies)
 cookie_is p (does.Shown call dialog) = refl
@@ -395,7 +419,7 @@ login_is p (does.Login origin status) = go (is_provider p origin.host)
     go true = refl
     go false = refl
 login_is p (does.Begin b) = no_get login_seen (kind_asked b.options) (Some (Begin b.call b.page)) refl
-login_is p (does.Move kind call stage) = no_get login_seen kind (seen_move call stage) (no_move login_seen (λ c. refl) call stage)
+login_is p (does.Move kind call stage) = no_get login_seen kind (Some (Move call stage)) refl
 login_is p (does.Sent kind call provider ask cookies) =
     no_get login_seen kind (seen_sent call provider ask cookies) (no_sent login_seen (λ c r a k. refl) call provider ask cookies)
 login_is p (does.Shown call dialog) = refl
@@ -523,6 +547,7 @@ looks_are_seen_lem p T U header same =
       pages = λ page. page_same p T U page same;
       gets = gets_same p T U same;
       begun = begun_same p T U same;
+      windows = gets_in_window_same p T U same;
       cookies = λ to now provider. text_same p T U to now provider same;
       statuses = λ origin provider. status_same p T U origin provider same;
       requests = sign_in_same p T U same;

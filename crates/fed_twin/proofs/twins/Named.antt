@@ -22,7 +22,8 @@ use Rattle.fed_trace.proofs.effects.Outcome.{last_said_after}
 use Rattle.fed_trace.proofs.calls.Pending.{ends_silent, load_rest_silent}
 use Rattle.fed_trace.proofs.effects.Silent.{last_said_silent}
 use Rattle.fed_twin.specs.Pairs.{Alike, Logins, Cookies, Silents, Times, Loads, FarLoads, Closes, Prevents, Statuses, Gets, Disconnects}
-use Rattle.fed_twin.specs.Pairs.{Aborts, Goings, Cancels, Choices, WellKnowns, Configs, AccountLists, Assertions, DisconnectReplies}
+use Rattle.fed_twin.specs.Pairs.{Aborts, Goings, Cancels, SignIns, Shuts, IdpCloses, Choices, WellKnowns, Configs, AccountLists}
+use Rattle.fed_twin.specs.Pairs.{Assertions, DisconnectReplies}
 use Rattle.fed_twin.specs.Pairs.{Pairs, Start, Both, Left, Right}
 use Rattle.fed_twin.specs.Script.{is_kept}
 use Rattle.fed_twin.specs.Providers.{Providers}
@@ -137,6 +138,12 @@ both_named_step p ps T U h line line' (Goings call) m =
     both_stay ps T U h line line' (events.GoOn call) (events.GoOn call) (λ q. refl) (λ q. refl)
 both_named_step p ps T U h line line' (Cancels call) m =
     both_stay ps T U h line line' (events.Cancel call) (events.Cancel call) (λ q. refl) (λ q. refl)
+both_named_step p ps T U h line line' (SignIns call) m =
+    both_stay ps T U h line line' (events.SignIn call) (events.SignIn call) (λ q. refl) (λ q. refl)
+both_named_step p ps T U h line line' (Shuts call) m =
+    both_stay ps T U h line line' (events.ShutWindow call) (events.ShutWindow call) (λ q. refl) (λ q. refl)
+both_named_step p ps T U h line line' (IdpCloses page) m =
+    both_stay ps T U h line line' (events.IdpClose page) (events.IdpClose page) (λ q. refl) (λ q. refl)
 both_named_step p ps T U h line line' (Choices call place id) m =
     both_stay ps T U h line line' (events.Choose call place id) (events.Choose call place id) (λ q. refl) (λ q. refl)
 both_named_step p ps T U h line line' (WellKnowns call place raw) m =
@@ -166,6 +173,9 @@ no_page q (events.Get page call options) out = refl
 no_page q (events.Abort call) out = refl
 no_page q (events.GoOn call) out = refl
 no_page q (events.Cancel call) out = refl
+no_page q (events.SignIn call) out = refl
+no_page q (events.ShutWindow call) out = refl
+no_page q (events.IdpClose page) out = refl
 no_page q (events.Choose call place id) out = refl
 no_page q (events.Prevent page) out = refl
 no_page q (events.SetStatus page status) out = refl

@@ -22,7 +22,7 @@ use Rattle.fed_trace.specs.Known.{world_at, is_begun, facts_at}
 use Rattle.fed_trace.specs.Row.{with_event, cookies_with, call_effects, moves, begin_effects, standing_call}
 use Rattle.fed_trace.specs.Row.{is_busy}
 use Rattle.fed_trace.specs.Trace.{Trace, page_at, gets}
-use Rattle.fed_trace.proofs.happens.Ends.{Starts, Happens, Left, Ends, Started, Took, beginning}
+use Rattle.fed_trace.proofs.happens.Ends.{Starts, Happens, Left, Ends, Started, Took, Resumed, beginning}
 use Rattle.fed_trace.proofs.happens.First.{FirstTurn, FailsFirst, ReadsFirst, HasOne, first_turn, known_begun}
 use Rattle.fed_trace.proofs.happens.Gets.{facts_same, no_get}
 use Rattle.fed_trace.proofs.happens.Happens.{happens}
@@ -114,6 +114,7 @@ disconnect_left T line page call config client hint unbegun q = go (happens T ev
     go (Left l) = facts_same T line event q l.quiet.stage l.quiet.begins_none l.same
     go (Ends e) = absurd (let no : false ≡ true = e.replaced in cc)
     go (Took t) = absurd (let no : None ≡ Some t.input = t.input_is in cc)
+    go (Resumed r) = absurd (let no : events.Disconnect page call config client hint ≡ events.IdpClose r.page = r.is_event in cc)
     go (Started s) =
         started s (first_turn (world_at T) s.busy s.begun.origin s.begun.options (subst HasOne (sym (begins s.begun s.is_event).1) tt))
 

@@ -34,14 +34,17 @@ use Rattle.fed_trace.specs.Known.{world_at, is_begun, known_at, facts_at}
 use Rattle.fed_trace.specs.Row.{effects_of, with_event, cookies_with, call_effects, moves, outcome_effects, begin_effects, standing_call}
 use Rattle.fed_trace.specs.Row.{is_busy, input_effects, cookies_from, cookie_effects, have_cookies, set_cookies, set_logins, close_effects}
 use Rattle.fed_trace.specs.Row.{page_says, standing_says}
+use Rattle.fed_trace.specs.Windows.{windows_of}
 use Rattle.fed_trace.specs.Trace.{Trace, page_at, gets, pending_of, now_at, flags, standing}
 use Rattle.fed_trace.specs.OfScript.{start}
 use Rattle.fed_trace.proofs.calls.Pending.{load_silent}
+use Rattle.fed_trace.proofs.calls.Resumed.{idpclose_silent}
 use Rattle.fed_trace.proofs.effects.Silent.{AllSilent, entries_silent, silent_map, silent_append}
 use Rattle.fed_trace.proofs.events.Aside.{says_silent, close_silent}
 use Rattle.fed_twin.specs.Origins.{Agree}
 use Rattle.fed_twin.specs.Pairs.{Alike, Logins, Cookies, Silents, Times, Loads, FarLoads, Closes, Prevents, Statuses, Gets, Disconnects}
-use Rattle.fed_twin.specs.Pairs.{Aborts, Goings, Cancels, Choices, WellKnowns, Configs, AccountLists, Assertions, DisconnectReplies}
+use Rattle.fed_twin.specs.Pairs.{Aborts, Goings, Cancels, SignIns, Shuts, IdpCloses, Choices, WellKnowns, Configs, AccountLists}
+use Rattle.fed_twin.specs.Pairs.{Assertions, DisconnectReplies}
 use Rattle.fed_twin.specs.Providers.{Providers}
 use Rattle.fed_twin.specs.Script.{is_kept}
 use Rattle.fed_twin.specs.Seen.{told}
@@ -157,6 +160,11 @@ flags_silent T opened (events.Disconnect page call config client hint) other =
 flags_silent T opened (events.Abort call) other = silent_input T opened call inputs.Abort
 flags_silent T opened (events.GoOn call) other = silent_input T opened call inputs.GoOn
 flags_silent T opened (events.Cancel call) other = silent_input T opened call inputs.Cancel
+flags_silent T opened (events.SignIn call) other = silent_input T opened call inputs.SignIn
+flags_silent T opened (events.ShutWindow call) other = silent_input T opened call inputs.Shut
+flags_silent T opened (events.IdpClose page) other =
+    idpclose_silent flag_change (record { ignored = λ w. refl; sent = λ n c q t k. refl; move = λ n c. refl }) (world_at T)
+    (cookies_with T) (known_at T) (windows_of T) (page_at T page)
 flags_silent T opened (events.Reply call place kind raw) other = silent_input T opened call (inputs.Reply place kind raw)
 flags_silent T opened (events.Choose call place id) other = silent_input T opened call (inputs.Choose place id)
 
@@ -303,6 +311,9 @@ flags_both p ps one T U h pages same line line' {e} {f} r = go e f r.alike r.nam
     go e f (Aborts call) m = left e f refl refl
     go e f (Goings call) m = left e f refl refl
     go e f (Cancels call) m = left e f refl refl
+    go e f (SignIns call) m = left e f refl refl
+    go e f (Shuts call) m = left e f refl refl
+    go e f (IdpCloses page) m = left e f refl refl
     go e f (Choices call place id) m = left e f refl refl
     go e f (WellKnowns call place raw) m = left e f refl refl
     go e f (Configs call place raw) m = left e f refl refl
@@ -324,6 +335,9 @@ unkept_sets_none (events.Get page call options) out = absurd (cc)
 unkept_sets_none (events.Abort call) out = absurd (cc)
 unkept_sets_none (events.GoOn call) out = absurd (cc)
 unkept_sets_none (events.Cancel call) out = absurd (cc)
+unkept_sets_none (events.SignIn call) out = absurd (cc)
+unkept_sets_none (events.ShutWindow call) out = absurd (cc)
+unkept_sets_none (events.IdpClose page) out = absurd (cc)
 unkept_sets_none (events.Choose call place id) out = absurd (cc)
 unkept_sets_none (events.Prevent page) out = absurd (cc)
 unkept_sets_none (events.SetStatus page status) out = absurd (cc)

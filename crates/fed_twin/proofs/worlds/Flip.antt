@@ -40,6 +40,7 @@ flip_facts p f f' s =
         options = record {
           mediation = sym s.said.options.mediation;
           mode = sym s.said.options.mode;
+          activation = sym s.said.options.activation;
           providers = flip_all p f.options.providers f'.options.providers s.said.options.providers;
         };
         heard = sym s.said.heard;

@@ -7,6 +7,7 @@ use Rattle.std.specs.Prelude.{◌==◌, filter, option_map, option_and_then, if�
 use Rattle.std.specs.List.{filter_map, cons_option}
 use Rattle.url.specs.Parts.{Parts}
 use Rattle.fed_origin.specs.declared.origin.Origin.{Origin}
+use Rattle.fed_origin.specs.declared.stage.Stage.TheVariants.{Ended}
 use Rattle.fed_origin.specs.declared.status.LoginStatus.{LoginStatus}
 use Rattle.fed_origin.specs.declared.status.Triple.{Triple}
 use Rattle.fed_origin.specs.Origin.{is_trustworthy}
@@ -100,25 +101,25 @@ ended_same p T U h runs line line' page event event' q ends ends' =
 -- of the calls of a page that end, only its gets are seen
 seen_ends : (p : Providers) (page : ℕ) (es : List (ℕ × PendingCall))
     → filter_map (seen p) (ends_of (calls_of page es))
-    ≡ map (λ get. views.Ended get.0) (filter (λ get. get.1 == page) (gets_among es))
+    ≡ map (λ get. views.Move get.0 Ended) (filter (λ get. get.1 == page) (gets_among es))
 seen_ends p page [] = refl
 seen_ends p page (e ∷ es) = go (seen_ends p page es) (e.1.page == page) refl e.1.kind
   where
     go : filter_map (seen p) (ends_of (calls_of page es))
-        ≡ map (λ get. views.Ended get.0) (filter (λ get. get.1 == page) (gets_among es))
+        ≡ map (λ get. views.Move get.0 Ended) (filter (λ get. get.1 == page) (gets_among es))
         → (here : Bool) → (e.1.page == page) ≡ here → (kind : CallKind)
         → filter_map (seen p) (ends_of (map by_kind (cond here
         ((e.0, record e.1 { kind = kind }) ∷ filter (λ call. call.1.page == page) es)
         (filter (λ call. call.1.page == page) es))))
-        ≡ map (λ get. views.Ended get.0) (filter (λ get. get.1 == page)
+        ≡ map (λ get. views.Move get.0 Ended) (filter (λ get. get.1 == page)
         (cons_option (of_get kind (Some (e.0, e.1.page))) (gets_among es)))
     go rest true at GetCall =
-        ap (λ xs. views.Ended e.0 ∷ xs) rest
-        ∙ sym (ap (λ b. map (λ get. views.Ended get.0) (cond b ((e.0, e.1.page) ∷ filter (λ get. get.1 == page) (gets_among es))
+        ap (λ xs. views.Move e.0 Ended ∷ xs) rest
+        ∙ sym (ap (λ b. map (λ get. views.Move get.0 Ended) (cond b ((e.0, e.1.page) ∷ filter (λ get. get.1 == page) (gets_among es))
         (filter (λ get. get.1 == page) (gets_among es)))) at)
     go rest true at DisconnectCall = rest
     go rest false at GetCall =
-        rest ∙ sym (ap (λ b. map (λ get. views.Ended get.0) (cond b ((e.0, e.1.page) ∷ filter (λ get. get.1 == page) (gets_among es))
+        rest ∙ sym (ap (λ b. map (λ get. views.Move get.0 Ended) (cond b ((e.0, e.1.page) ∷ filter (λ get. get.1 == page) (gets_among es))
         (filter (λ get. get.1 == page) (gets_among es)))) at)
     go rest false at DisconnectCall = rest
 
@@ -126,7 +127,7 @@ same_ends : (p : Providers) (T U : Trace) → SameWorlds p T U → AreRuns T U �
     → filter_map (seen p) (ends_of (pending_of T page)) ≡ filter_map (seen p) (ends_of (pending_of U page))
 same_ends p T U h runs page =
     seen_ends p page (pending T)
-    ∙ ap (λ gs. map (λ get. views.Ended get.0) (filter (λ get. get.1 == page) gs))
+    ∙ ap (λ gs. map (λ get. views.Move get.0 Ended) (filter (λ get. get.1 == page) gs))
     (gets_are T.header T.rows runs.first ∙ gets_same p T U h.seen ∙ sym (gets_are U.header U.rows runs.second))
     ∙ sym (seen_ends p page (pending U))
 

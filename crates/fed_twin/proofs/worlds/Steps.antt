@@ -20,6 +20,7 @@ use Rattle.fed_call.specs.Facts.{Facts, at_stage, fresh, facts_after}
 use Rattle.fed_consent.specs.Outcomes.{Outcome}
 use Rattle.fed_call.specs.Row.{input_row, stage_reply}
 use Rattle.fed_call.specs.DialogRows.{chose, went_on, cancelled}
+use Rattle.fed_call.specs.WindowRows.{asked_to_sign_in, window_shut}
 use Rattle.fed_consent.specs.Failures.{plain}
 use Rattle.fed_consent.specs.declared.table.failure.FailStep.TheVariants as steps
 use Rattle.fed_consent.specs.declared.table.why.Why.TheVariants.{NoCall}
@@ -46,14 +47,14 @@ use Rattle.fed_twin.specs.Seen.{seen, told}
 use Rattle.fed_twin.specs.Seen as views
 use Rattle.fed_twin.specs.Same.{SameOptions, SameFacts, SameCall, SameWorlds}
 use Rattle.fed_twin.proofs.calls.Call.{AgreeWorlds, Keeps, after_at, keeps_fails, told_effect, configured}
-use Rattle.fed_twin.proofs.calls.Facts.{begins_call, facts_left, facts_ignored, others_unseen, get_is_begun}
+use Rattle.fed_twin.proofs.calls.Facts.{begins_or_resumes, facts_left, facts_ignored, others_unseen, get_is_begun}
 use Rattle.fed_twin.proofs.calls.Get.{get_same, own_get}
 use Rattle.fed_twin.proofs.worlds.Grow.{grow, grow_alone}
 use Rattle.fed_twin.proofs.seen.Look.{page_same, gets_same}
 use Rattle.fed_twin.proofs.calls.Outcome.{seen_outcome, unseen_outcome, quiet_outcome, cookies_agree, worlds_agree}
 use Rattle.fed_twin.proofs.worlds.Pages.{call_left, call_over}
 use Rattle.fed_twin.proofs.calls.Row.{IsQuiet, Unseen, reply_wellknown, reply_config, reply_accounts, reply_assertion, reply_disconnect}
-use Rattle.fed_twin.proofs.calls.Row.{chose_by, cancelled_by, still_went, keeps_still, unseen_reply}
+use Rattle.fed_twin.proofs.calls.Row.{chose_by, cancelled_by, sign_in_by, shut_by, still_went, keeps_still, unseen_reply}
 
 -- ---- a get
 
@@ -251,7 +252,7 @@ pub record IsInput (event : Event) (call : ℕ) (i : Input) : Type 0 where
   pub effects : (T : Trace)
       → effects_of T event ≡ input_effects (world_at T) (cookies_with T) (is_begun T call) call (known_at T call) i
   pub stands : (page : ℕ) → replaces page event ≡ false
-  pub no_begin : begins_call event ≡ false
+  pub no_begin : begins_or_resumes event ≡ false
 
 -- it leaves other calls
 other_left : (T : Trace) (line : ℕ) (event : Event) (call : ℕ) (i : Input) → IsInput event call i → (q : ℕ)
@@ -429,6 +430,17 @@ module _ (p : Providers) (T U : Trace) (h : SameWorlds p T U) where
       subst (λ st. Keeps p (world_at T) (world_at U) f f' inputs.Cancel inputs.Cancel (cancelled f.stage) (cancelled st)) s.stage
       (cancelled_by p (world_at T) (world_at U) agree f f' s f.stage)
 
+  pub row_sign_in : OwesRow p T U inputs.SignIn inputs.SignIn
+  row_sign_in f f' s q q' =
+      subst (λ st. Keeps p (world_at T) (world_at U) f f' inputs.SignIn inputs.SignIn (asked_to_sign_in f f.stage)
+      (asked_to_sign_in f' st)) s.stage
+      (sign_in_by p (world_at T) (world_at U) agree f f' s f.stage)
+
+  pub row_shut : OwesRow p T U inputs.Shut inputs.Shut
+  row_shut f f' s q q' =
+      subst (λ st. Keeps p (world_at T) (world_at U) f f' inputs.Shut inputs.Shut (window_shut f.stage) (window_shut st)) s.stage
+      (shut_by p (world_at T) (world_at U) agree f f' s f.stage)
+
   pub row_abort : OwesRow p T U inputs.Abort inputs.Abort
   row_abort f f' s q q' =
       keeps_fails p (world_at T) (world_at U) f f' s inputs.Abort inputs.Abort (plain steps.Aborted) (plain steps.Aborted)
@@ -447,6 +459,12 @@ is_go_on call = record { said = λ q. refl; is_event = refl; effects = λ T. ref
 
 pub is_cancel : (call : ℕ) → IsInput (events.Cancel call) call inputs.Cancel
 is_cancel call = record { said = λ q. refl; is_event = refl; effects = λ T. refl; stands = λ page. refl; no_begin = refl }
+
+pub is_sign_in : (call : ℕ) → IsInput (events.SignIn call) call inputs.SignIn
+is_sign_in call = record { said = λ q. refl; is_event = refl; effects = λ T. refl; stands = λ page. refl; no_begin = refl }
+
+pub is_shut : (call : ℕ) → IsInput (events.ShutWindow call) call inputs.Shut
+is_shut call = record { said = λ q. refl; is_event = refl; effects = λ T. refl; stands = λ page. refl; no_begin = refl }
 
 pub is_abort : (call : ℕ) → IsInput (events.Abort call) call inputs.Abort
 is_abort call = record { said = λ q. refl; is_event = refl; effects = λ T. refl; stands = λ page. refl; no_begin = refl }

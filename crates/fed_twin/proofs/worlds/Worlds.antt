@@ -25,16 +25,17 @@ use Rattle.fed_trace.specs.Trace.{Trace}
 use Rattle.fed_trace.specs.Trace as trace
 use Rattle.fed_trace.specs.OfScript.{start, with_events}
 use Rattle.fed_trace.proofs.runs.Scripts.{script_runs}
-use Rattle.fed_twin.specs.Script.{is_kept, kept_events, up_to, trace_to, names, AreQuiet}
+use Rattle.fed_twin.specs.Script.{is_kept, kept_events, up_to, trace_to, names, AreQuiet, Quiet}
 use Rattle.fed_twin.specs.Providers.{Providers, is_provider}
 use Rattle.fed_twin.specs.Same.{SameProvider, SameOptions, SameWorlds, SameFlags}
 use Rattle.fed_twin.specs.Pairs.{Alike, Logins, Cookies, Silents, Times, Loads, FarLoads, Closes, Prevents, Statuses, Gets, Disconnects}
-use Rattle.fed_twin.specs.Pairs.{Aborts, Goings, Cancels, Choices, WellKnowns, Configs, AccountLists, Assertions, DisconnectReplies}
+use Rattle.fed_twin.specs.Pairs.{Aborts, Goings, Cancels, SignIns, Shuts, IdpCloses, Choices, WellKnowns, Configs, AccountLists}
+use Rattle.fed_twin.specs.Pairs.{Assertions, DisconnectReplies}
 use Rattle.fed_twin.specs.Pairs.{Pairs, Start, Both, Left, Right}
 use Rattle.fed_twin.specs.Twin.{kind_of, SharesProvider, SharesBytes, SharesHave, SharesMembers, SharesLoad, AreFar, origin_named}
-use Rattle.fed_twin.specs.Twin.{both_named}
+use Rattle.fed_twin.specs.Twin.{both_named, Twin}
 use Rattle.fed_twin.specs.Twin.{AreOneToOne, origins_named, configs_in, configs, providers_of, pairs_of}
-use Rattle.fed_twin.specs.Laws.{TwoWorlds}
+use Rattle.fed_twin.specs.Laws.{TwoWorlds, SameWindows}
 use Rattle.fed_twin.proofs.seen.Look.{sign_in_same}
 use Rattle.fed_twin.proofs.twins.Named.{AlikeIn, PagesIn, pages_in}
 use Rattle.fed_twin.proofs.twins.Origins.{Pair, Member, Here, There, all_at, each}
@@ -46,7 +47,9 @@ use Rattle.fed_twin.proofs.worlds.Pages.{step_load}
 use Rattle.fed_twin.proofs.worlds.Pages.{step_far_load}
 use Rattle.fed_twin.proofs.worlds.Steps.{step_get, step_input, step_metadata, row_wellknown, row_config, row_accounts, row_assertion}
 use Rattle.fed_twin.proofs.worlds.Steps.{row_disconnect, row_choose, row_go_on, row_cancel, row_abort, is_reply, is_choose, is_go_on}
-use Rattle.fed_twin.proofs.worlds.Steps.{is_cancel, is_abort}
+use Rattle.fed_twin.proofs.worlds.Steps.{is_cancel, is_abort, is_sign_in, is_shut, row_sign_in, row_shut}
+use Rattle.fed_twin.proofs.worlds.Resumes.{step_idpclose}
+use Rattle.fed_twin.proofs.worlds.Windows.{windows_same}
 
 -- ---- one row more
 
@@ -79,6 +82,11 @@ step_alike p ps T U h flags pages runs line line' (Goings call) new new' q q' =
     step_input p T U h line line' _ _ call inputs.GoOn inputs.GoOn (is_go_on call) (is_go_on call) (row_go_on p T U h) q q'
 step_alike p ps T U h flags pages runs line line' (Cancels call) new new' q q' =
     step_input p T U h line line' _ _ call inputs.Cancel inputs.Cancel (is_cancel call) (is_cancel call) (row_cancel p T U h) q q'
+step_alike p ps T U h flags pages runs line line' (SignIns call) new new' q q' =
+    step_input p T U h line line' _ _ call inputs.SignIn inputs.SignIn (is_sign_in call) (is_sign_in call) (row_sign_in p T U h) q q'
+step_alike p ps T U h flags pages runs line line' (Shuts call) new new' q q' =
+    step_input p T U h line line' _ _ call inputs.Shut inputs.Shut (is_shut call) (is_shut call) (row_shut p T U h) q q'
+step_alike p ps T U h flags pages runs line line' (IdpCloses page) new new' q q' = step_idpclose p T U h runs line line' page
 step_alike p ps T U h flags pages runs line line' (Choices call place id) new new' q q' =
     step_input p T U h line line' _ _ call (inputs.Choose place id) (inputs.Choose place id) (is_choose call place id)
     (is_choose call place id) (row_choose p T U h place id) q q'
@@ -118,6 +126,9 @@ step_alone p T U h line (events.Get page call options) out = absurd (cc)
 step_alone p T U h line (events.Abort call) out = absurd (cc)
 step_alone p T U h line (events.GoOn call) out = absurd (cc)
 step_alone p T U h line (events.Cancel call) out = absurd (cc)
+step_alone p T U h line (events.SignIn call) out = absurd (cc)
+step_alone p T U h line (events.ShutWindow call) out = absurd (cc)
+step_alone p T U h line (events.IdpClose page) out = absurd (cc)
 step_alone p T U h line (events.Choose call place id) out = absurd (cc)
 step_alone p T U h line (events.Prevent page) out = absurd (cc)
 step_alone p T U h line (events.SetStatus page status) out = absurd (cc)
@@ -317,6 +328,7 @@ alike_events p (events.Get page call options) (events.Get page' call' options') 
     record {
       mediation = h.2.mediation;
       mode = h.2.mode;
+      activation = h.2.activation;
       providers =
           same_providers p options.providers options'.providers h.2.providers good.known;
     } in
@@ -328,6 +340,12 @@ alike_events p (events.GoOn call) (events.GoOn call') kind h load good =
     subst (λ x. Alike p (events.GoOn call) (events.GoOn x)) h (Goings call)
 alike_events p (events.Cancel call) (events.Cancel call') kind h load good =
     subst (λ x. Alike p (events.Cancel call) (events.Cancel x)) h (Cancels call)
+alike_events p (events.SignIn call) (events.SignIn call') kind h load good =
+    subst (λ x. Alike p (events.SignIn call) (events.SignIn x)) h (SignIns call)
+alike_events p (events.ShutWindow call) (events.ShutWindow call') kind h load good =
+    subst (λ x. Alike p (events.ShutWindow call) (events.ShutWindow x)) h (Shuts call)
+alike_events p (events.IdpClose page) (events.IdpClose page') kind h load good =
+    subst (λ x. Alike p (events.IdpClose page) (events.IdpClose x)) h (IdpCloses page)
 alike_events p (events.Reply call place kind raw) (events.Reply call' place' kind' raw') same h load good =
     subst (λ x. Alike p (events.Reply call place kind raw) (events.Reply x place' kind' raw')) h.0
     (subst (λ x. Alike p (events.Reply call place kind raw) (events.Reply call x kind' raw')) h.1
@@ -385,8 +403,10 @@ one_each : (used : UsedState) (ns : List Numbered) → AreRead used ns → AllBy
 one_each used [] read = tt
 one_each used (n ∷ ns) read = (read.0.provider, one_each (used_after n.event used) ns read.1)
 
-pub two_worlds_lem : TwoWorlds
-two_worlds_lem a b read read' twin k quiet quiet' =
+-- twins are the same, as far as providers can tell, up to a kept event up to which both are quiet
+twins_same : (a b : Script) → IsRead a → IsRead b → Twin a b → (k : ℕ) → Quiet a k → Quiet b k
+    → SameWorlds (providers_of a b) (trace_to a k) (trace_to b k)
+twins_same a b read read' twin k quiet quiet' =
     let p = providers_of a b in
     let ps = origins_named (pairs_of a b) in
     let alike = all_alike p ps (kept_events a.events) (kept_events b.events) twin.count twin.kind twin.member twin.load
@@ -395,5 +415,13 @@ two_worlds_lem a b read read' twin k quiet quiet' =
     (each_event (λ url. is_provider p (host_of url) ≡ true) a.events (configs_known a b))) in
     let pairs = go_together p (AlikeIn p ps) a.events b.events alike k (start a.header) (start b.header)
     (Start a.header b.header refl (sym twin.rules) twin.now) in
-    sign_in_same p (trace_to a k) (trace_to b k)
-    (stay_same p ps twin.origins pairs quiet quiet' (run_to a read k) (run_to b read' k)).0.seen
+    (stay_same p ps twin.origins pairs quiet quiet' (run_to a read k) (run_to b read' k)).0
+
+pub two_worlds_lem : TwoWorlds
+two_worlds_lem a b read read' twin k quiet quiet' =
+    sign_in_same (providers_of a b) (trace_to a k) (trace_to b k) (twins_same a b read read' twin k quiet quiet').seen
+
+pub same_windows_lem : SameWindows
+same_windows_lem a b read read' twin k quiet quiet' origin =
+    windows_same (providers_of a b) (trace_to a k) (trace_to b k) (twins_same a b read read' twin k quiet quiet')
+    (record { first = run_to a read k; second = run_to b read' k }) origin

@@ -1,4 +1,4 @@
-use Rattle.std.proofs.Common.{◌∙◌, ap, sym, subst, rules, filter, is_some}
+use Rattle.std.proofs.Common.{◌∙◌, ap, sym, subst, rules, is_some}
 use Rattle.indexmap.proofs.CallerLemmas.{filter-RetainsPairs}
 use Rattle.fed_entries.specs.Entries.{AreBelow, entries_in, numbers_in}
 use Rattle.fed_entries.proofs.slots.Holes.{closed, below_closed}

@@ -22,7 +22,8 @@ pub loop-at-preserved : goal.loop-at-preserved
 loop-at-preserved g c =
     let rest = rest_from c.loop-at.at c.args.bytes.now in
     record {
-      within = let h : c.in_ok-at.field-0 ≤ length (drop c.loop-at.at c.args.bytes.now) = rw (← rest) c.in_ok-at.ensures.bound in omega (arith, length-drop c.loop-at.at c.args.bytes.now, c.loop-at.invariant.within);
+      within = let h : c.in_ok-at.field-0 ≤ length (drop c.loop-at.at c.args.bytes.now) = rw (← rest) c.in_ok-at.ensures.bound in
+          omega (arith, length-drop c.loop-at.at c.args.bytes.now, c.loop-at.invariant.within);
       taken = rw take-add (rw rest at (Appends-trans _ _ _ _ _ c.loop-at.invariant.taken c.in_ok-at.ensures.bytes));
       later = omega (arith, c.loop-at.invariant.later, c.in_ok-at.ensures.cause.later);
     }

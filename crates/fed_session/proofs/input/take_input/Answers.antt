@@ -1,18 +1,24 @@
-use Rattle.std.proofs.Common.{◌≡◌, ◌∙◌, ap, sym, subst, true, Some, nat_eq}
-use Rattle.std.specs.Prelude.{option_map}
+use Rattle.std.proofs.Common.{◌≡◌, ◌∙◌, ap, sym, subst, true, nat_eq}
+use Rattle.std.specs.Prelude.{is_some, option_map}
 use Rattle.std.specs.List.{list_any}
 use Rattle.fed_status.specs.Shared.{world_of}
 use Rattle.fed_trace.specs.Call.{page_of}
 use Rattle.fed_session.specs.Session.{item_known}
 use Rattle.fed_session.specs.StepParts.{cookies_of, call_records, known_of, kept_next, world_in, sight_after, outcome_at, CanApplyAll}
+use Rattle.fed_session.specs.StepParts.{awaited_in}
 use Rattle.fed_session.specs.Tabs.{GoesOn}
-use Rattle.fed_session.proofs.events.Input.{brought_records, brought_takes, brought_applies}
+use Rattle.fed_session.proofs.events.Input.{brought_records, brought_takes, brought_applies, waits_lent}
 use Rattle.fed_session.proofs.input.take_input.Goals as goal
 
 pub apply-requires : goal.apply-requires
 apply-requires g c =
     subst CanApplyAll (sym c.in_ok-kept.ensures.effects)
     (brought_applies (world_of c.lent.result) (known_of c.in-Some-into_state.state) c.args.input.now)
+
+pub give_back-requires-clause-waits : goal.give_back-requires-clause-waits
+give_back-requires-clause-waits g c =
+    waits_lent c.args.call c.lend.new.self c.in-Some.kept (known_of c.in-Some-into_state.state) c.in-Some-page.page c.waits-waited.result
+    c.in-Some-into_state.ensures c.in-Some-page.ensures c.waits-waited.ensures c.in-Some.ensures.waits
 
 pub returns-clause-outs : goal.returns-clause-outs
 returns-clause-outs g c =
@@ -45,6 +51,8 @@ returns-clause-tabs g c =
     let next : c.in_ok-kept.kept ≡ kept_next (world_in c.args.sight.now) (item_known c.args.tabs.now.table.items c.args.call)
     c.args.input.now = c.in_ok-kept.ensures.kept ∙ ap (λ w. kept_next w known c.args.input.now) c.lent.ensures
     ∙ ap (λ k. kept_next (world_in c.args.sight.now) k c.args.input.now) found in
-    brought_takes c.args.call c.in-Some-page.page (item_known c.args.tabs.now.table.items c.args.call) _ c.args.tabs.now c.lend.new.self
-    c.give_back.new.self (c.in-Some-page.ensures ∙ ap (option_map page_of) found) c.lend.ensures.tabs
-    (subst (λ kept. GoesOn c.in-Some-page.page c.args.call kept c.lend.new.self c.give_back.new.self) next c.give_back.ensures.tabs)
+    brought_takes c.args.call c.in-Some-page.page c.waits-waited.result (item_known c.args.tabs.now.table.items c.args.call) _
+    c.args.tabs.now c.lend.new.self c.give_back.new.self (c.in-Some-page.ensures ∙ ap (option_map page_of) found)
+    (c.waits-waited.ensures ∙ ap (λ k. is_some (awaited_in k)) found) c.lend.ensures.tabs
+    (subst (λ kept. GoesOn c.in-Some-page.page c.args.call c.waits-waited.result kept c.lend.new.self c.give_back.new.self) next
+    c.in_ok-give_back.ensures.ok)

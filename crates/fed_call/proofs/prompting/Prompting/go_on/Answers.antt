@@ -1,4 +1,4 @@
-use Rattle.std.proofs.Common.{◌≡◌, sym, ◌∙◌, rules}
+use Rattle.std.proofs.Common.{sym, ◌∙◌, rules}
 use Rattle.fed_call.proofs.agreed.Consent.{no_prompt}
 use Rattle.fed_call.proofs.prompting.Prompting.go_on.Goals as goal
 

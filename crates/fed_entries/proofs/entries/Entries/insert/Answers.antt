@@ -38,7 +38,7 @@ invariant_of-self-2 g c =
     c.close_up.new.slots.entries c.enter.new.slots.entries c.self.inside.next c.in-Some-checked_add.next c.args.key c.args.value
     c.self.invariant c.close_up.ensures.entries c.close_up.ensures.numbers
     (c.close_up.ensures.below c.self.inside.next c.self.invariant.below) (sym c.in_default.ensures.value)
-    c.in_ok-enter.ensures.entered c.in_ok-enter.ensures.slots c.in-Some-checked_add.ensures.1
+    c.in_ok-enter.ensures.entered c.in_ok-enter.ensures.count c.in_ok-enter.ensures.slots c.in-Some-checked_add.ensures.1
 
 pub returns-clause-ok : goal.returns-clause-ok
 returns-clause-ok g c =

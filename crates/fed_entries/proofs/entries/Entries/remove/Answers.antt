@@ -12,7 +12,7 @@ invariant_of-self g c =
     (sym (c.leave_hole.ensures.slots ∙ hole_written c.in-Some.number c.self.inside.slots.entries))
     (one_leaves g.K.PartialEq.eq g.met.K.Eq.laws c.self.inside.entered.entries c.swap_remove.new.self.entries
     c.self.inside.slots.entries c.self.inside.next c.args.key c.in-Some.number
-    c.self.invariant (sym c.in-Some.ensures.value) c.leave_hole.ensures.distinct c.in-Some.ensures.updates.0)
+    c.self.invariant (sym c.in-Some.ensures.value) c.leave_hole.ensures.distinct c.in-Some.ensures.updates.0 c.in-Some.ensures.len)
 
 pub returns-in-Some : goal.returns-in-Some
 returns-in-Some g c =

@@ -3,12 +3,22 @@ use Rattle.fed_script.specs.declared.event.Event.TheVariants as events
 use Rattle.fed_trace.specs.Effect.{Login, Flag}
 use Rattle.fed_session.specs.Session.{State, Stands}
 use Rattle.fed_session.specs.StepParts.{revived}
-use Rattle.fed_session.proofs.events.Event.{owes_close, close_records-stand, owes_prevent, owes_status, says_records-stand}
+use Rattle.fed_session.proofs.events.Event.{owes_at, owes_close, close_records-stand, owes_prevent, owes_status, says_records-stand}
 use Rattle.fed_session.proofs.stands.Stands.{stands_after}
 use Rattle.fed_session.proofs.session.Session.take.Goals as goal
 
 pub returns-in-Have-clause-row : goal.returns-in-Have-clause-row
 returns-in-Have-clause-row g c = rw c.in-Have.is (λ T h. c.have.ensures.row T c.args.line h)
+
+pub returns-in-At-clause-row : goal.returns-in-At-clause-row
+returns-in-At-clause-row g c =
+    rw c.in-At.is
+    (λ T h.
+    let before = subst (λ (s : State). Stands (revived s) T) (sym c.self.view_is) h in (
+      c.new.ensures,
+      stands_after _ _ T c.args.line (events.At c.in-At.time) before tt refl refl
+          (owes_at _ _ T c.args.line c.in-At.time before refl refl),
+    ))
 
 pub returns-in-Load-clause-row : goal.returns-in-Load-clause-row
 returns-in-Load-clause-row g c = rw c.in-Load.is (λ T h. c.load.ensures.row T c.args.line h)

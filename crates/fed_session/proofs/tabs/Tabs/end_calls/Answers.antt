@@ -3,6 +3,7 @@ use Rattle.fed_session.proofs.tabs.Tabs.end_calls.Goals as goal
 
 pub invariant_of-self : goal.invariant_of-self
 invariant_of-self g c = tabs_ended c.self.invariant _ c.args.page _ c.close_page.ensures.pages c.close_page.ensures.items
+    c.close_page.ensures.waits
 
 pub returns-clause-tabs : goal.returns-clause-tabs
 returns-clause-tabs g c =

@@ -3,7 +3,8 @@ use Rattle.fed_session.proofs.tabs.Tabs.leave.Goals as goal
 
 pub invariant_of-self : goal.invariant_of-self
 invariant_of-self g c =
-    tabs_dropped c.self.invariant c.drop_call.new.self c.args.call c.drop_call.ensures.pages c.drop_call.ensures.items
+    tabs_dropped c.self.invariant c.drop_call.new.self c.args.call c.drop_call.ensures.pages c.drop_call.ensures.waits
+    c.drop_call.ensures.items
 
 pub returns-clause-tabs : goal.returns-clause-tabs
 returns-clause-tabs g c =

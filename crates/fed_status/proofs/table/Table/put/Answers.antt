@@ -12,9 +12,6 @@ pub returns-in_err-list-clause-table : goal.returns-in_err-list-clause-table
 returns-in_err-list-clause-table c =
     undone c.args.self.now c.requires.table _ refl refl (λ other. c.in_err-list.ensures.err other ∙ c.requires.table.pairs other)
 
-pub put-requires : goal.put-requires
-put-requires c = sym c.has.ensures ∙ c.if-has.false
-
 pub returns-in-Ok-clause-ok : goal.returns-in-Ok-clause-ok
 returns-in-Ok-clause-ok c =
     ap values_of c.in-Ok.ensures.ok
@@ -22,8 +19,8 @@ returns-in-Ok-clause-ok c =
 
 pub returns-in-Ok-clause-table : goal.returns-in-Ok-clause-table
 returns-in-Ok-clause-table c =
-    with_one c.args.self.now c.requires.table c.args.triple c.args.place c.requires.place _ refl c.in-Ok.ensures.ok
-    c.put.ensures.distinct c.in_ok-list.ensures.ok
+    with_one c.args.self.now c.requires.table c.args.triple c.args.place c.requires.place (sym c.has.ensures ∙ c.if-has.false)
+    _ refl c.in-Ok.ensures.ok c.in_ok-list.ensures.ok
 
 pub returns-in-Err-clause-table : goal.returns-in-Err-clause-table
 returns-in-Err-clause-table c =

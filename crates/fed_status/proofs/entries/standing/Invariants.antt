@@ -1,9 +1,0 @@
-use Rattle.std.proofs.Common.{◌≡◌, slice_get}
-use Rattle.std.specs.Map.{values_of}
-use Rattle.fed_status.specs.Entries.{entries_in}
-use Rattle.fed_status.proofs.entries.standing.Given as goal
-
--- What is looked for is among those that are left.
-abbrev pub invariant-loop-slot : goal.invariant-loop-slot
-invariant-loop-slot l =
-    slice_get (values_of (entries_in l.slot-iterator)) l.before ≡ slice_get (values_of (entries_in l.slots.entries)) l.k

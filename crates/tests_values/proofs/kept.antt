@@ -1,0 +1,2 @@
+-- A permission that is kept is there.
+pub mod Itself
