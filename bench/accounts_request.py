@@ -1,8 +1,8 @@
 #!/usr/bin/env python3
 """Runs the built program over calls up to their accounts requests, against the cookies that it keeps: those of the provider that
 go with the request, those of the provider that do not (of another path), and those of other parties, 180 a party. Reports
-microseconds of a processor and instructions a call (where valgrind is found), from its get to its abort: the run less the run without calls. Before, it looks that one such request carries
-the cookies that it should.
+microseconds of a processor and instructions a call (where valgrind is found), from its get to its abort: the run less the run without
+calls. Before, it looks that one such request carries the cookies that it should.
 
     bench/accounts_request.py [CALLS]
 """

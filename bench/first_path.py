@@ -35,7 +35,8 @@ def main():
     for name, shape in (("pages", pages), ("one page", one_page)):
         for events in counts:
             _, size, seconds, peak, count = measured(HEADER, shape(events))
-            print(f"| {name} | {events:,} | {size:.1f} | {seconds:.2f} | {events / seconds:,.0f} | {size / seconds:.1f} | {peak:.0f} | {each(count, events)} |")
+            rates = f"{events / seconds:,.0f} | {size / seconds:.1f}"
+            print(f"| {name} | {events:,} | {size:.1f} | {seconds:.2f} | {rates} | {peak:.0f} | {each(count, events)} |")
 
 
 if __name__ == "__main__":

@@ -12,6 +12,8 @@ PROGRAM = os.path.join(TOP, "crates", "fedcm", "out", "fedcm")
 COUNTED = 12_000_000
 # A `rep stosb` would be counted byte by byte, which no processor does.
 TUNABLES = "glibc.cpu.x86_rep_stosb_threshold=1000000000:glibc.cpu.x86_rep_movsb_threshold=1000000000"
+# GNU time tells the peak of the program alone; what the system tells of a child begins with the memory of the process that started it.
+TIME = ["/usr/bin/time", "-f", "%M"]
 COUNT = ["valgrind", "--tool=cachegrind", "--cache-sim=no", "--cachegrind-out-file=/dev/null"]
 
 
@@ -53,15 +55,35 @@ class Run(NamedTuple):
     peak: float
 
 
-def run(path, word="run"):
-    """What the program with this word takes over the input at this path."""
+def started(words, source):
+    """The program with these words over this standard input."""
     need_program()
-    with open(path, "rb") as script, open(os.devnull, "wb") as out:
-        child = subprocess.Popen([PROGRAM, word], stdin=script, stdout=out)
-        _, status, usage = os.wait4(child.pid, 0)
+    command = [*TIME, PROGRAM, *words] if os.access(TIME[0], os.X_OK) else [PROGRAM, *words]
+    return subprocess.Popen(command, stdin=source, stdout=subprocess.DEVNULL, stderr=subprocess.PIPE)
+
+
+def waited(child):
+    """What the program took, once it has ended well."""
+    told = child.stderr.read().split()
+    _, status, usage = os.wait4(child.pid, 0)
     if status != 0:
-        sys.exit(f"status {os.waitstatus_to_exitcode(status)} for {path}")
-    return Run(usage.ru_utime + usage.ru_stime, usage.ru_maxrss / 1024)
+        sys.exit(f"status {os.waitstatus_to_exitcode(status)}")
+    return Run(usage.ru_utime + usage.ru_stime, (int(told[-1]) if told else usage.ru_maxrss) / 1024)
+
+
+def run(path, *words):
+    """What the program with these words, `run` without any, takes over the input at this path."""
+    with open(path, "rb") as script:
+        return waited(started(words or ["run"], script))
+
+
+def piped(lines):
+    """What the program takes where these lines come one after the other through a pipe, which are nowhere kept."""
+    child = started(["run"], subprocess.PIPE)
+    for line in lines:
+        child.stdin.write(line.encode())
+    child.stdin.close()
+    return waited(child)
 
 
 class Measured(NamedTuple):

@@ -1,7 +1,8 @@
 #!/usr/bin/env python3
 """Runs the built program over scripts whose header is the whole Public Suffix List: one without events, one of 20,000 loads
-and calls with the list, and the same without rules. It reports the time of a processor to read the list, and per call the time with
-and without the rules; and the instructions of each where valgrind is found.
+and calls with the list, the same with 40,000 rules more, and the same without rules. It reports the time of a processor to read the
+list, and per call the time with and without the rules; and the instructions of each where valgrind is found. A call costs the same
+however many rules there are beside those that its hosts meet.
 
     bench/suffix_rules.py [LIST]      # /usr/share/publicsuffix/public_suffix_list.dat, of Debian's package publicsuffix
 """
@@ -14,6 +15,8 @@ from measure import each, instructions, run
 
 LIST = "/usr/share/publicsuffix/public_suffix_list.dat"
 CALLS = 10_000
+# Below a suffix of the list, at names that no host has.
+MORE = "\n".join(f"r{number}.x{number % 200}.uk" for number in range(40_000))
 
 
 def line(value):
@@ -52,7 +55,9 @@ def main():
     with tempfile.TemporaryDirectory() as folder:
         reading, reads = took(folder, text, [])
         twice, reads_twice = took(folder, text + "\n" + text, [])
+        reading_more, reads_more = took(folder, text + "\n" + MORE, [])
         both, counted = took(folder, text, events(text))
+        both_more, counted_more = took(folder, text + "\n" + MORE, events(text))
         without, counted_without = took(folder, "", events(text))
     lines = len(text.splitlines())
     print("| what | number | us each | instructions each |")
@@ -61,6 +66,7 @@ def main():
         ("lines of rules", lines, reading, reads),
         ("lines of rules, twice", 2 * lines, twice, reads_twice),
         ("loads and calls with the rules", CALLS, both - reading, counted - reads),
+        ("loads and calls with 40,000 rules more", CALLS, both_more - reading_more, counted_more - reads_more),
         ("loads and calls without", CALLS, without, counted_without),
     ):
         print(f"| {what} | {number:,} | {seconds / number * 1e6:.1f} | {each(count, number)} |")

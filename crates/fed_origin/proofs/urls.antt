@@ -1,6 +1,7 @@
 -- URLs of the web.
 pub mod Reads
 pub mod Places
+pub mod Segments
 pub mod PlainHost
 pub mod PlainPath
 pub mod PlainUrl

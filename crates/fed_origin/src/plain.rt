@@ -1,15 +1,31 @@
 //! Texts that `url` reads as they stand, which are told by one look at each byte.
-ghost use Rattle.std.specs.Prelude.{◌≡◌, ◌==◌, IfSome, slice_index};
+ghost use Rattle.std.specs.Prelude.{◌≡◌, ◌==◌, ◌≤◌, IfSome, slice_index, length, take, true};
 ghost use Rattle.std.specs.Char.{is_ascii_lowercase};
 ghost use Rattle.std.specs.List.{list_all};
 ghost use Rattle.std.specs.Option.{option_copied};
 ghost use Rattle.url.specs.Input.{rsplit_once};
 ghost use Rattle.fed_origin.specs.Plain as spec;
 
-use fed_io::place_of;
-
 /// What a plain URL begins with.
 pub(crate) const FRONT: &str = "https://";
+
+// What a byte may stand in, as marks of the table.
+const DOMAIN: u8 = 1;
+
+const SEGMENT: u8 = 2;
+
+const QUERY: u8 = 4;
+
+// For each byte a digit, whose low three bits are its marks: one look spares up to twenty compares.
+static MARKS: [u8; 256] = *b"\
+    00000000000000000000000000000000\
+    06006462666667747777777777660604\
+    66666666666666666666666666644446\
+    47777777777777777777777777744460\
+    00000000000000000000000000000000\
+    00000000000000000000000000000000\
+    00000000000000000000000000000000\
+    00000000000000000000000000000000";
 
 /// The parts of a plain URL: `https`, a domain, a path, a query where there is one, and nothing else.
 #[derive(Clone, Copy)]
@@ -24,11 +40,11 @@ pub(crate) fn read_plain(text: &[u8]) -> Option<Plain<'_>>
     ensures { IfSome result (λ p. spec.IsPlain text.now p.host.now p.path.now (option_copied p.query)) }
 {
     let rest = text.strip_prefix(FRONT.as_bytes())?;
-    let (host, rest) = rest.split_at(place_of(b'/', rest)?);
-    let tail = read_tail(rest)?;
-    if !is_domain(host) {
+    let (host, rest) = rest.split_at(domain_len(rest));
+    if !begins_with_letter(last_label(host)) {
         return None;
     }
+    let tail = read_tail(rest)?;
     Some(Plain {
         host,
         path: tail.path,
@@ -47,11 +63,14 @@ pub(crate) struct Tail<'a> {
 pub(crate) fn read_tail(text: &[u8]) -> Option<Tail<'_>>
     ensures { IfSome result (λ t. spec.IsTail text.now t.path.now (option_copied t.query)) }
 {
-    let tail = cut(text);
-    if is_path(tail.path) && is_query(tail.query) {
-        Some(tail)
-    } else {
-        None
+    let (path, rest) = text.split_at(path_len(text)?);
+    match rest.split_first() {
+        None => Some(Tail { path, query: None }),
+        Some((b'?', query)) if is_query(query) => Some(Tail {
+            path,
+            query: Some(query),
+        }),
+        _ => None,
     }
 }
 
@@ -72,40 +91,22 @@ fn has_two_slashes(path: &[u8]) -> bool
     path.get(1) == Some(&b'/')
 }
 
-// The text before the first `?`, and what stands after it.
-fn cut(text: &[u8]) -> Tail<'_>
-    ensures { text.now ≡ spec.tail_text result.path.now (option_copied result.query) }
-{
-    let (path, rest) = text.split_at(place_of(b'?', text).unwrap_or(text.len()));
-    match rest.split_first() {
-        Some((b'?', query)) => Tail {
-            path,
-            query: Some(query),
-        },
-        _ => Tail {
-            path: text,
-            query: None,
-        },
-    }
-}
-
 fn is_domain_byte(b: u8) -> bool
     ensures { result ≡ spec.is_domain_byte b }
 {
-    b.is_ascii_lowercase() || b.is_ascii_digit() || b == b'-' || b == b'.'
+    MARKS[b as usize] & DOMAIN != 0
 }
 
-// Lower case, and with a letter where a number would begin: no address of version 4 is written so.
-fn is_domain(host: &[u8]) -> bool
-    ensures { result ≡ spec.is_domain host.now }
+// How many bytes at the front may stand in a domain.
+fn domain_len(text: &[u8]) -> usize
+    ensures within { result ≤ length text.now }
+    ensures all { list_all spec.is_domain_byte (take result text.now) ≡ true }
 {
-    has_domain_bytes(host) && begins_with_letter(last_label(host))
-}
-
-fn has_domain_bytes(host: &[u8]) -> bool
-    ensures { result ≡ list_all spec.is_domain_byte host.now }
-{
-    host.iter().all(|b| is_domain_byte(*b))
+    let mut len = 0;
+    while len < text.len() && is_domain_byte(text[len]) {
+        len += 1;
+    }
+    len
 }
 
 fn last_label(host: &[u8]) -> &[u8]
@@ -117,6 +118,7 @@ fn last_label(host: &[u8]) -> &[u8]
     }
 }
 
+// A letter stands where a number would begin: no address of version 4 is written so.
 fn begins_with_letter(label: &[u8]) -> bool
     ensures { result ≡ is_ascii_lowercase (slice_index label.now 0) }
 {
@@ -129,38 +131,19 @@ fn begins_with_letter(label: &[u8]) -> bool
 fn is_segment_byte(b: u8) -> bool
     ensures { result ≡ spec.is_segment_byte b }
 {
-    b.is_ascii_alphanumeric()
-        || matches!(
-            b,
-            b'-' | b'.'
-                | b'_'
-                | b'~'
-                | b'!'
-                | b'$'
-                | b'&'
-                | b'\''
-                | b'('
-                | b')'
-                | b'*'
-                | b'+'
-                | b','
-                | b':'
-                | b';'
-                | b'='
-                | b'@'
-        )
+    MARKS[b as usize] & SEGMENT != 0
 }
 
-fn is_segment(segment: &[u8]) -> bool
-    ensures { result ≡ spec.is_segment segment.now }
+// How many bytes at the front may stand in a segment.
+fn segment_bytes(text: &[u8]) -> usize
+    ensures within { result ≤ length text.now }
+    ensures all { list_all spec.is_segment_byte (take result text.now) ≡ true }
 {
-    has_segment_bytes(segment) && !is_dots(segment)
-}
-
-fn has_segment_bytes(segment: &[u8]) -> bool
-    ensures { result ≡ list_all spec.is_segment_byte segment.now }
-{
-    segment.iter().all(|b| is_segment_byte(*b))
+    let mut len = 0;
+    while len < text.len() && is_segment_byte(text[len]) {
+        len += 1;
+    }
+    len
 }
 
 // Whether the segment is resolved, and goes.
@@ -170,38 +153,47 @@ fn is_dots(segment: &[u8]) -> bool
     segment == b".".as_slice() || segment == b"..".as_slice()
 }
 
-fn are_segments(rest: &[u8]) -> bool
-    ensures { result ≡ spec.are_segments rest.now }
+// The length of the segment at the front.
+fn segment_len(text: &[u8]) -> Option<usize>
+    ensures { IfSome result (λ len. (len ≤ length text.now) × (spec.is_segment (take len text.now) ≡ true)) }
 {
-    rest.split(|b| *b == b'/')
-        .all(|segment| is_segment(segment))
+    let len = segment_bytes(text);
+    let (segment, _) = text.split_at(len);
+    if is_dots(segment) {
+        return None;
+    }
+    Some(len)
 }
 
-fn is_path(path: &[u8]) -> bool
-    ensures { result ≡ spec.is_path path.now }
+// The length of the segments at the front, with a slash between each two.
+fn segments_len(text: &[u8]) -> Option<usize>
+    ensures { IfSome result (λ len. (len ≤ length text.now) × (spec.are_segments (take len text.now) ≡ true)) }
 {
-    match path.split_first() {
-        Some((b'/', rest)) => are_segments(rest),
-        _ => false,
+    let mut end = segment_len(text)?;
+    while end < text.len() && text[end] == b'/' {
+        let (_, rest) = text.split_at(end + 1);
+        end += 1 + segment_len(rest)?;
+    }
+    Some(end)
+}
+
+// The length of the path at the front. One pass tells where it ends, that no byte is escaped and that no segment goes.
+fn path_len(text: &[u8]) -> Option<usize>
+    ensures { IfSome result (λ len. (len ≤ length text.now) × (spec.is_path (take len text.now) ≡ true)) }
+{
+    match text.split_first() {
+        Some((b'/', rest)) => Some(1 + segments_len(rest)?),
+        _ => None,
     }
 }
 
 fn is_query_byte(b: u8) -> bool
     ensures { result ≡ spec.is_query_byte b }
 {
-    b.is_ascii_graphic() && b != b'"' && b != b'#' && b != b'<' && b != b'>' && b != b'\''
+    MARKS[b as usize] & QUERY != 0
 }
 
-fn is_query(query: Option<&[u8]>) -> bool
-    ensures { result ≡ spec.is_query (option_copied query.entry) }
-{
-    match query {
-        Some(query) => has_query_bytes(query),
-        None => true,
-    }
-}
-
-fn has_query_bytes(query: &[u8]) -> bool
+fn is_query(query: &[u8]) -> bool
     ensures { result ≡ list_all spec.is_query_byte query.now }
 {
     query.iter().all(|b| is_query_byte(*b))

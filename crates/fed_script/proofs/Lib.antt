@@ -2,3 +2,4 @@ pub mod events
 pub mod lines
 pub mod scripts
 pub mod halves
+pub mod pieces

@@ -14,6 +14,8 @@ pub mod Get
 pub mod Used
 pub mod Line
 pub mod Script
+pub mod Pieces
+pub mod Reader
 pub mod Further
 pub mod Pair
 pub mod Half

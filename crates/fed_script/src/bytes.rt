@@ -1,6 +1,6 @@
 //! The lines of bytes.
-ghost use Rattle.std.specs.Prelude.{◌≡◌, ◌==◌, ◌<◌, ◌∷◌, option_map, IfSome, length};
-ghost use Rattle.std.specs.List.{position};
+ghost use Rattle.std.specs.Prelude.{◌≡◌, ◌==◌, ◌<◌, ◌++◌, ◌∷◌, option_map, IfSome, IfNone, length, false};
+ghost use Rattle.std.specs.List.{list_any, position};
 ghost use Rattle.fed_script.specs.Script as spec;
 ghost use Rattle.fed_script.specs.Script.{first_line, lines_of};
 
@@ -28,6 +28,18 @@ pub fn next_line(rest: &[u8]) -> Option<(&[u8], &[u8])>
     match line_end(rest) {
         Some(end) => Some((&rest[..end], &rest[end + 1..])),
         None => Some((rest, &[])),
+    }
+}
+
+/// The bytes up to the first LF, and those after it; None where there is no LF.
+pub(crate) fn cut(piece: &[u8]) -> Option<(&[u8], &[u8])>
+    ensures parts { IfSome result (λ parts. piece.now ≡ parts.0.now ++ 10 ∷ parts.1.now) }
+    ensures first { IfSome result (λ parts. list_any (λ b. b == 10) parts.0.now ≡ false) }
+    ensures none { IfNone result (list_any (λ b. b == 10) piece.now ≡ false) }
+{
+    match line_end(piece) {
+        Some(end) => Some((&piece[..end], &piece[end + 1..])),
+        None => None,
     }
 }
 

@@ -1,6 +1,8 @@
 //! What the lines of a script are read as.
 ghost use Rattle.std.specs.Prelude.{◌≡◌, IfOk};
+ghost use Rattle.fed_script.specs.Reader.{header_in};
 
+use crate::cause::LineCause;
 use fed_io::{Bytes, NoRoom, Text};
 use fed_origin::{GetOptions, LoginStatus, Origin, ReplyKind, Triple, WebUrl};
 use fed_suffix::Suffixes;
@@ -176,4 +178,37 @@ impl Drop for Event {
 pub struct Numbered {
     pub line: u32,
     pub event: Event,
+}
+
+/// A line of a script with its number, where the header's is 1.
+pub enum Line {
+    /// A line after the header that has space, tab and CR alone, or nothing.
+    Blank(u32),
+    /// The first line.
+    Head(u32, Header),
+    /// A line after the header that names an event.
+    Event(u32, Event),
+    /// The first bad line, and why it is bad. Nothing after it is read.
+    Bad(u32, LineCause),
+}
+
+impl Line {
+    /// The header, if the line is it.
+    pub fn into_header(self) -> Option<Header>
+        ensures { result ≡ header_in self }
+    {
+        match self {
+            Line::Head(_, header) => Some(header),
+            Line::Blank(_) | Line::Event(_, _) | Line::Bad(_, _) => None,
+        }
+    }
+}
+
+// Written out, so that one function lets a line go wherever it ends.
+impl Drop for Line {
+    fn drop(self) {
+        match self {
+            Line::Blank(_) | Line::Head(_, _) | Line::Event(_, _) | Line::Bad(_, _) => {}
+        }
+    }
 }

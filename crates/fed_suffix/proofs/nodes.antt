@@ -1,2 +1,4 @@
--- The tree of rules, by its nodes.
-pub mod Tree
+-- A node as the set of what is left of rules, and the walk from node to node.
+pub mod Node
+pub mod Opened
+pub mod Walk

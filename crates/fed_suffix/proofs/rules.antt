@@ -1,3 +1,2 @@
--- The order of rules, and the longest that match.
-pub mod RuleOrder
+-- The longest rules that match.
 pub mod Most

@@ -1,6 +1,9 @@
 pub mod Label
 pub mod Rule
+pub mod RuleOrder
 pub mod RuleLine
 pub mod Registrable
 pub mod Node
-pub mod Tree
+pub mod NodeFalls
+pub mod Opened
+pub mod Walk

@@ -1,12 +1,14 @@
 //! Public suffix rules, registrable domains and parties.
 #![tactic(auto)]
 
+mod insertion;
 mod label;
 mod node;
 mod refusal;
 mod rule;
 mod suffixes;
-mod tree;
+mod walk;
 
+pub use node::SuffixNode;
 pub use refusal::SuffixRefusal;
 pub use suffixes::Suffixes;

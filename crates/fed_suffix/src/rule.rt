@@ -1,8 +1,13 @@
 //! Rules, and the lines that hold them.
-ghost use Rattle.std.specs.Prelude.{◌≡◌, IfOk, position, ◌||◌, ◌==◌};
+ghost use Rattle.std.specs.Prelude.{◌≡◌, IfOk, OnOk, OnErr, position, ◌||◌, ◌==◌};
+ghost use Rattle.std.specs.List.{list_all};
+ghost use Rattle.std.specs.FinSet as set;
 ghost use Rattle.fed_suffix.specs.RuleLine as spec;
 
+use crate::SuffixNode;
+use crate::insertion::insert;
 use crate::label::read_labels;
+use crate::walk::has_rule;
 use fed_io::{Bytes, Items, NoRoom};
 use std::alloc::Global;
 use std::marker::Model;
@@ -21,6 +26,50 @@ impl Model for Rule {
     ghost Value = { Value_ };
 
     ghost view = { λ rule. (rule.labels, rule.exception) };
+}
+
+impl Rule {
+    /// The same rule.
+    pub fn copy(&self, alloc: Global) -> Result<Rule, NoRoom>
+        ensures { IfOk result (λ copy. copy ≡ self.now) }
+    {
+        Ok(Rule {
+            labels: copy_labels(alloc, self.labels.as_slice())?,
+            exception: self.exception,
+        })
+    }
+
+    /// Adds the rule to the tree, which is unchanged where there is no memory.
+    pub fn put_in(&self, alloc: Global, top: &mut SuffixNode) -> Result<(), NoRoom>
+        ensures ok { OnOk result (top.new ≡ set.insert top.old self.now) }
+        ensures err { OnErr result (top.new ≡ top.old) }
+    {
+        insert(top, alloc, self.labels.as_slice(), self.exception)
+    }
+
+    // Whether the tree has the rule.
+    fn is_in(&self, top: &SuffixNode) -> bool
+        ensures { result ≡ set.contains top.now self.now }
+    {
+        has_rule(top, self.labels.as_slice(), self.exception)
+    }
+}
+
+/// Whether the tree has each of the rules.
+pub fn are_within(rules: &[Rule], top: &SuffixNode) -> bool
+    ensures { result ≡ list_all (set.contains top.now) rules.now }
+{
+    rules.iter().all(|rule| rule.is_in(top))
+}
+
+fn copy_labels(alloc: Global, labels: &[Bytes]) -> Result<Items<Bytes>, NoRoom>
+    ensures { IfOk result (λ copy. copy ≡ labels.now) }
+{
+    let mut copy = Items::new(alloc);
+    for label in labels {
+        copy.push(label.copy(alloc)?)?;
+    }
+    Ok(copy)
 }
 
 fn first_blank(line: &[u8]) -> Option<usize>

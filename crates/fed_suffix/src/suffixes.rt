@@ -1,5 +1,5 @@
 //! Sets of public suffix rules, registrable domains and parties.
-ghost use Rattle.std.specs.Prelude.{◌≡◌, ◌↔◌, IsTrue, IfOk, OnErr, option_map};
+ghost use Rattle.std.specs.Prelude.{◌≡◌, ◌↔◌, IsTrue, IfOk, OnOk, OnErr, option_map};
 ghost use Rattle.std.specs.Option.{option_copied};
 ghost use Rattle.std.specs.FinSet as set;
 ghost use Rattle.fed_io.specs.Fault.{AnswersBy};
@@ -8,10 +8,10 @@ ghost use Rattle.fed_suffix.specs.Rule.{same_rules};
 ghost use Rattle.fed_suffix.specs.RuleLine.{rules_after};
 ghost use Rattle.fed_suffix.specs.Registrable as spec;
 
-use crate::SuffixRefusal;
 use crate::label::{has_empty_label, one_label_more};
-use crate::rule::{Rule, is_skipped, read_rule, rule_text};
-use crate::tree::Tree;
+use crate::rule::{Rule, are_within, is_skipped, read_rule, rule_text};
+use crate::walk::suffix_len;
+use crate::{SuffixNode, SuffixRefusal};
 use fed_io::{Fault, NoRoom};
 use fed_origin::{Host, HostKind};
 use std::alloc::Global;
@@ -19,9 +19,10 @@ use std::marker::Model;
 
 /// The rules of a public suffix list (Public Suffix List, "Format"), which contracts see as their
 /// finite set. The rule `*` always stands and is none of them.
-#[derive(Drop)]
 pub struct Suffixes {
-    tree: Tree,
+    top: SuffixNode,
+    // All rules in the order of reading, which a copy and `same` go through.
+    rules: Vec<Rule>,
     alloc: Global,
 }
 
@@ -33,11 +34,22 @@ impl Model for Suffixes {
 
     ghost coded = { set.code rule_code };
 
-    ghost use Rattle.fed_suffix.specs.Tree.{rules_of, IsTree};
+    ghost view = { λ s. s.top };
 
-    ghost view = { λ s. rules_of s.tree };
+    ghost use Rattle.fed_suffix.specs.Node.{AreIn};
 
-    ghost invariant = { λ s. IsTree s.tree };
+    ghost invariant = { λ s. AreIn s.rules.items s.top };
+}
+
+impl Drop for Suffixes {
+    fn drop(self) {
+        let Suffixes {
+            top,
+            rules: _,
+            alloc: _,
+        } = self;
+        top.let_go();
+    }
 }
 
 impl Suffixes {
@@ -46,7 +58,8 @@ impl Suffixes {
         ensures { result ≡ set.empty }
     {
         Suffixes {
-            tree: Tree::new(alloc),
+            top: SuffixNode::new(alloc),
+            rules: Vec::new(alloc),
             alloc,
         }
     }
@@ -66,7 +79,7 @@ impl Suffixes {
         }
         match read_rule(self.alloc, text)? {
             Some(rule) => {
-                self.tree.add(self.alloc, rule)?;
+                self.add(rule)?;
                 Ok(())
             }
             None => Err(Fault::Step(SuffixRefusal::BadRule)),
@@ -114,17 +127,42 @@ impl Suffixes {
         ensures value { result ≡ same_rules self.now other.now }
         ensures equal { IsTrue result ↔ (self.now ≡ other.now) }
     {
-        self.tree.is_within(&other.tree) && other.tree.is_within(&self.tree)
+        self.is_within(other) && other.is_within(self)
     }
 
     /// The same rules.
     pub fn copy(&self, alloc: Global) -> Result<Suffixes, NoRoom>
         ensures { IfOk result (λ copy. copy ≡ self.now) }
     {
-        Ok(Suffixes {
-            tree: self.tree.copy(alloc)?,
-            alloc,
-        })
+        let mut copy = Suffixes::new(alloc);
+        let rules = self.rules.as_slice();
+        for rule in rules {
+            copy.add(rule.copy(alloc)?)?;
+        }
+        Ok(copy)
+    }
+
+    /// The node from which all rules go on. It takes no memory.
+    pub fn top(&self) -> &SuffixNode
+        ensures { result.now ≡ self.now }
+    {
+        &self.top
+    }
+
+    fn add(&mut self, rule: Rule) -> Result<(), NoRoom>
+        ensures ok { OnOk result (self.new ≡ set.insert self.old rule) }
+        ensures err { OnErr result (self.new ≡ self.old) }
+    {
+        self.rules.reserve(1)?;
+        rule.put_in(self.alloc, &mut self.top)?;
+        self.rules.push_reserved(rule);
+        Ok(())
+    }
+
+    fn is_within(&self, other: &Suffixes) -> bool
+        ensures { result ≡ set.is_subset self.now other.now }
+    {
+        are_within(self.rules.as_slice(), &other.top)
     }
 
     // The registrable domain of a name that is no address.
@@ -134,6 +172,6 @@ impl Suffixes {
         if has_empty_label(name) {
             return None;
         }
-        one_label_more(name, self.tree.suffix_len(name))
+        one_label_more(name, suffix_len(&self.top, name))
     }
 }

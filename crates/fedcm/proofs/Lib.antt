@@ -1,3 +1,5 @@
-pub mod runs
+pub mod streams
+pub mod twins
+pub mod forms
+pub mod makes
 pub mod halves
-pub mod calls

@@ -1,8 +1,7 @@
 -- How each form ends for the bytes of its source where nothing fails, and what it writes.
-use Rattle.std.specs.Prelude.{◌≡◌, ℕ, ◌≤◌, nat_lt, Bool, true, false, List, [], length, Option, Some, None, Result, Ok, Err}
+use Rattle.std.specs.Prelude.{◌≡◌, ℕ, ◌≤◌, nat_lt, Bool, true, false, List, [], length, Option, Some, None, IfSome, Result, Ok, Err}
 use Rattle.std.specs.Prelude.{◌↔◌, ⊤}
-use Rattle.std.specs.Prelude.{if◌then◌else◌}
-use Rattle.std.specs.Io.KnownBytes.{Appends}
+use Rattle.std.specs.Io.KnownBytes.{Appends, Keeps}
 use Rattle.fed_io.specs.Io.{AppendsFront}
 use Rattle.fed_script.specs.declared.cause.PairStop.{PairStop}
 use Rattle.fed_script.specs.declared.pair.Pair.{Pair}
@@ -15,17 +14,15 @@ use Rattle.fed_twin.specs.Fault.{TwinFaultOf}
 use Rattle.fed_twin.specs.Script.{sign_in}
 use Rattle.fed_twin.specs.Twin.{Twin}
 use Rattle.fedcm.specs.declared.form.Form.{Form}
-use Rattle.fedcm.specs.declared.form.Form.TheVariants.{Run, Twin as TwinForm}
+use Rattle.fedcm.specs.declared.form.Form.TheVariants.{Run, Twin as TwinForm, Make}
 use Rattle.fedcm.specs.declared.status.Status.{Status}
 use Rattle.fedcm.specs.declared.status.Status.TheVariants.{Done, BadScript, TooLong, NotTwins}
-use Rattle.fedcm.specs.Run.{run_text, run_status}
+use Rattle.fedcm.specs.Make.{summary_text}
+use Rattle.fedcm.specs.Run.{run_status, run_written}
+use Rattle.fedcm.specs.Streams.{ReadsOnly, StopsAfter}
 use Rattle.fedcm.specs.Text.{pair_members, twins_members, not_twins_members}
 
 -- ---- run
-
--- what a run writes: nothing where the bytes are more than the limit
-abbrev pub run_written : ℕ → List ℕ → List ℕ
-run_written limit bytes = if nat_lt limit (length bytes) then [] else run_text bytes
 
 abbrev pub EndsRun : ℕ → List ℕ → Status → List ℕ → Type 0
 EndsRun limit bytes status text = (status ≡ run_status limit bytes) × (text ≡ run_written limit bytes)
@@ -72,12 +69,29 @@ EndsTwinBy false limit bytes status text = TellsPair (pair_of bytes) status text
 abbrev pub EndsTwin : ℕ → List ℕ → Status → List ℕ → Type 0
 EndsTwin limit bytes status text = EndsTwinBy (nat_lt limit (length bytes)) limit bytes status text
 
--- ---- both
+-- ---- make
+
+-- the summary is written, whatever the source has
+abbrev pub EndsMake : ℕ → Status → List ℕ → Type 0
+EndsMake calls status text = (status ≡ Done) × (text ≡ summary_text calls)
+
+-- ---- all forms
 
 -- for these bytes of its source the form ends with the status, and writes the text
 abbrev pub Ends : ℕ → Form → List ℕ → Status → List ℕ → Type 0
 Ends limit Run bytes status text = EndsRun limit bytes status text
 Ends limit TwinForm bytes status text = EndsTwin limit bytes status text
+Ends limit (Make calls) bytes status text = EndsMake calls status text
+
+-- the form reads its source
+abbrev pub Reads : Option Form → Type 0
+Reads (Some (Make calls)) = ⊥
+Reads form = ⊤
+
+-- what is so of a number of calls, where the form makes so many
+abbrev pub IfMakes : Option Form → (ℕ → Type 0) → Type 0
+IfMakes (Some (Make calls)) P = P calls
+IfMakes form P = ⊤
 
 -- the statuses by which a form ends where nothing fails
 abbrev pub HasEnded : Status → Type 0
@@ -109,3 +123,20 @@ pub record WritesFront (limit : ℕ) (form : Option Form) (bytes : List ℕ) (ol
   pub ends : EndsAs limit form bytes status
   pub some : ¬ (status ≡ TooLong)
   pub took : AppendsFront old new ends.text
+
+-- ---- where it stops before its end
+
+-- A front of a text was taken: with `run` up to the last bytes that were read, else of the one text.
+abbrev pub WriteFaultLeaves : ℕ → Option Form → Option (List ℕ) → Option (List ℕ) → Option (List ℕ) → Option (List ℕ) → Type 0
+WriteFaultLeaves limit (Some Run) left left' start taken = StopsAfter left left' start taken
+WriteFaultLeaves limit (Some (Make calls)) left left' start taken = AppendsFront start taken (summary_text calls)
+WriteFaultLeaves limit form left left' start taken = IfSome left (λ bytes. WritesFront limit form bytes start taken)
+
+-- With `run` all that the lines say is written, else nothing.
+abbrev pub ReadFaultLeaves : Option Form → Option (List ℕ) → Option (List ℕ) → Option (List ℕ) → Option (List ℕ) → Type 0
+ReadFaultLeaves (Some Run) left left' start taken = ReadsOnly left left' start taken
+ReadFaultLeaves form left left' start taken = Keeps start taken
+
+abbrev pub NoRoomLeaves : Option Form → Option (List ℕ) → Option (List ℕ) → Option (List ℕ) → Option (List ℕ) → Type 0
+NoRoomLeaves (Some Run) left left' start taken = StopsAfter left left' start taken
+NoRoomLeaves form left left' start taken = Keeps start taken

@@ -8,14 +8,23 @@ mod call_tests;
 mod dialog_tests;
 mod form;
 pub mod laws;
+mod make;
+#[cfg(test)]
+mod make_tests;
 #[cfg(test)]
 mod permission_tests;
+#[cfg(test)]
+mod piece_tests;
+mod pieces;
 mod print;
 mod program;
 mod ran;
 mod read;
 mod run;
 mod status;
+mod stop;
+mod stream;
+mod summary;
 #[cfg(test)]
 mod test_lines;
 #[cfg(test)]
@@ -29,6 +38,7 @@ mod twin_tests;
 #[cfg(test)]
 mod window_tests;
 
+pub use make::make_script;
 use program::program;
 pub use status::Status;
 use std::marker::Brand;

@@ -1,186 +1,117 @@
-//! Running a script.
-ghost use Rattle.std.specs.Prelude.{◌≡◌, ◌<◌, ◌+◌, ◌^◌, length, [], IfOk, OnOk, None};
-ghost use Rattle.fed_script.specs.Script.{lines_of, events_of, no_events, script_of};
-ghost use Rattle.fed_script.specs.Used.{unused, HasOneProvider, HasKnownStatus};
+//! Running a script, one line after the other.
+ghost use Rattle.std.specs.Prelude.{◌≡◌, ◌≤◌, ◌<◌, Option, Some, IfOk, IfSome, OnOk, OnErr};
+ghost use Rattle.std.specs.Result.{IsErrOf};
+ghost use Rattle.std.specs.Io.KnownBytes.{Appends};
+ghost use Rattle.fed_io.specs.Io.{Rose, AppendsFront};
+ghost use Rattle.fed_script.specs.Reader.{LineMayFollow, header_in, used_by};
+ghost use Rattle.fed_script.specs.Used.{UsedState, unused, HasOneProvider, HasKnownStatus};
+ghost use Rattle.fed_session.specs.Session.{Stands, IsFresh};
 ghost use Rattle.fed_trace.specs.OfScript.{start};
 ghost use Rattle.fed_trace.specs.Row.{with_event};
-ghost use Rattle.fed_session.specs.Session.{Stands, IsFresh};
 ghost use Rattle.fed_trace.specs.Trace.{Trace};
-ghost use Rattle.fed_print.specs.Lines.{line_of};
-ghost use Rattle.fedcm.specs.Text.{bad_members};
-ghost use Rattle.fedcm.specs.Run.{run_text, rows_text, outcome, last_written, IsAt, GoesAs, Follows, after_line, used_after_line};
-ghost use Rattle.fedcm.specs.Run.{line_cause, script_status};
+ghost use Rattle.fedcm.specs.Told.{Told, At, tell, event_text, line_text, bad_of};
 
-use crate::print::{print_all, print_bad, print_end};
-use crate::ran::Ran;
-use crate::status::Status;
-use fed_io::{Fault, NoRoom, Steps};
-use fed_script::{Event, Header, LineCause, Used, is_blank, next_line, read_event, read_header};
+use crate::print::print_all;
+use crate::stop::Stop;
+use fed_io::{NoRoom, Sink, Steps, put_all};
+use fed_script::{Event, Header, Line, LineCause};
 use fed_session::Session;
 use std::alloc::Global;
 use std::sync::ledger::Ledger;
 
-// Takes an event, and writes its records.
-fn take_event<L: Ledger>(
+/// Puts a text into the sink, the whole or, where the sink fails, a front of it.
+pub fn put<K: Sink>(sink: &mut K, text: &[u8]) -> Result<(), Stop>
+    ensures ok { OnOk result (Appends (K.taken sink.old) (K.taken sink.new) text.now) }
+    ensures err { OnErr result (AppendsFront (K.taken sink.old) (K.taken sink.new) text.now) }
+    ensures later { K.faults sink.old ≤ K.faults sink.new }
+    ensures fault { OnErr result (Rose (K.faults sink.old) (K.faults sink.new)) }
+    ensures kind { OnErr result (IsErrOf result Stop.WriteFault) }
+{
+    match put_all(sink, text) {
+        Ok(()) => Ok(()),
+        Err(_) => Err(Stop::WriteFault),
+    }
+}
+
+// Takes an event, and puts its records. The text is memory that is used again.
+fn take_event<K: Sink, L: Ledger>(
     alloc: Global,
     session: &mut Session,
+    sink: &mut K,
     text: &mut Vec<u8>,
     steps: &mut Steps<L>,
     number: u32,
     event: &Event,
-) -> Result<(), NoRoom>
+) -> Result<(), Stop>
     requires few { session.old.steps < 1000000 }
     requires fresh { IsFresh session.old event.now }
     requires providers { HasOneProvider event.now }
     requires status { HasKnownStatus event.now }
-    ensures { OnOk result ((T : Trace) → Stands session.old T → text.old.items ≡ rows_text T.rows
-        → Stands session.new (with_event T number event.now) × (text.new.items ≡ rows_text (with_event T number event.now).rows)) }
+    ensures ok { OnOk result ((T : Trace) → Stands session.old T → Stands session.new (with_event T number event.now)
+        × Appends (K.taken sink.old) (K.taken sink.new) (event_text T number event.now)) }
+    ensures err { OnErr result ((T : Trace) → Stands session.old T
+        → AppendsFront (K.taken sink.old) (K.taken sink.new) (event_text T number event.now)) }
+    ensures later { K.faults sink.old ≤ K.faults sink.new }
+    ensures fault { IsErrOf result Stop.WriteFault → Rose (K.faults sink.old) (K.faults sink.new) }
+    ensures kind { IsErrOf result Stop.ReadFault → ⊥ }
 {
+    text.clear();
     let outs = session.step(number, event, steps)?;
-    print_all(alloc, outs.as_slice(), text)
+    print_all(alloc, outs.as_slice(), text)?;
+    put(sink, text.as_slice())
 }
 
-// Takes a line, and answers why it is bad, if it is.
-fn take_line<L: Ledger>(
+// Begins the session of a header.
+fn begin(alloc: Global, session: &mut Option<Session>, header: Header) -> Result<(), NoRoom>
+    ensures { OnOk result (At (Some (unused header.now)) session.new (Some (start header))) }
+{
+    *session = Some(Session::new(alloc, header)?);
+    Ok(())
+}
+
+// Begins the session of the header that the line is.
+fn begin_by(alloc: Global, session: &mut Option<Session>, line: Line) -> Result<(), NoRoom>
+    ensures { OnOk result (IfSome (header_in line) (λ header. At (Some (unused header.now)) session.new (Some (start header)))) }
+{
+    match line.into_header() {
+        Some(header) => begin(alloc, session, header),
+        None => Ok(()),
+    }
+}
+
+/// Takes a line, and answers its number and cause where it is bad. The records of an event are put.
+pub fn take_line<K: Sink, L: Ledger>(
     alloc: Global,
-    session: &mut Session,
-    used: &mut Used,
+    session: &mut Option<Session>,
+    sink: &mut K,
     text: &mut Vec<u8>,
     steps: &mut Steps<L>,
-    number: u32,
-    line: &[u8],
-) -> Result<Option<LineCause>, NoRoom>
-    requires { Follows session.old used.old }
-    ensures cause { IfOk result (λ cause. cause ≡ line_cause used.old line.now) }
-    ensures used { OnOk result (used.new ≡ used_after_line used.old line.now) }
-    ensures at { OnOk result ((T : Trace) → IsAt session.old used.old text.old.items T
-        → IsAt session.new used.new text.new.items (after_line T used.old number line.now)) }
+    line: Line,
+) -> Result<Option<(u32, LineCause)>, Stop>
+    requires { (used : Option UsedState) × (trace : Option Trace) × At used session.old trace × LineMayFollow used line }
+    ensures ok { OnOk result ((used : Option UsedState) (t : Told) → At used session.old t.trace → LineMayFollow used line
+        → At (used_by line used) session.new (tell t line).trace
+        × Appends (K.taken sink.old) (K.taken sink.new) (line_text t.trace line)) }
+    ensures bad { IfOk result (λ bad. bad ≡ bad_of line) }
+    ensures err { OnErr result ((used : Option UsedState) (t : Told) → At used session.old t.trace → LineMayFollow used line
+        → AppendsFront (K.taken sink.old) (K.taken sink.new) (line_text t.trace line)) }
+    ensures later { K.faults sink.old ≤ K.faults sink.new }
+    ensures fault { IsErrOf result Stop.WriteFault → Rose (K.faults sink.old) (K.faults sink.new) }
+    ensures kind { IsErrOf result Stop.ReadFault → ⊥ }
 {
-    if is_blank(line) {
-        return Ok(None);
-    }
-    match read_event(alloc, line, used) {
-        Err(Fault::Step(cause)) => Ok(Some(cause)),
-        Err(Fault::NoRoom) => Err(NoRoom),
-        Ok(event) => {
-            take_event(alloc, session, text, steps, number, &event)?;
+    match &line {
+        Line::Blank(_) => Ok(None),
+        Line::Bad(number, cause) => Ok(Some((*number, *cause))),
+        Line::Event(number, event) => match session {
+            Some(session) => {
+                take_event(alloc, session, sink, text, steps, *number, event)?;
+                Ok(None)
+            }
+            None => Ok(None),
+        },
+        Line::Head(..) => {
+            begin_by(alloc, session, line)?;
             Ok(None)
         }
-    }
-}
-
-// Takes the lines after a header up to the first bad one, and answers that one's number and cause.
-fn take_lines<L: Ledger>(
-    alloc: Global,
-    session: &mut Session,
-    used: &mut Used,
-    text: &mut Vec<u8>,
-    steps: &mut Steps<L>,
-    lines: &[u8],
-) -> Result<Option<(u32, LineCause)>, NoRoom>
-    requires few { length lines.now < 2 ^ 31 }
-    requires at { (T : Trace) × IsAt session.old used.old text.old.items T }
-    ensures { IfOk result (λ bad. (T : Trace) → IsAt session.old used.old text.old.items T
-        → GoesAs session.new used.new text.new.items (no_events bad) (outcome T (events_of used.old 2 (lines_of lines.now)))) }
-{
-    let mut number: u32 = 2;
-    let mut rest = lines;
-    while let Some((line, further)) = next_line(rest) {
-        match take_line(alloc, session, used, text, steps, number, line)? {
-            None => {}
-            Some(cause) => return Ok(Some((number, cause))),
-        }
-        rest = further;
-        number += 1;
-    }
-    Ok(None)
-}
-
-// The record of the end after what is written: of the first bad line, or of so many events.
-fn print_last(
-    alloc: Global,
-    events: u32,
-    bad: Option<(u32, LineCause)>,
-    mut text: Vec<u8>,
-) -> Result<Ran, NoRoom>
-    ensures { IfOk result (λ ran. record { text = ran.text.items; status = ran.status } ≡ last_written text.items events bad) }
-{
-    match bad {
-        Some((number, cause)) => {
-            print_bad(alloc, number, cause, &mut text)?;
-            Ok(Ran {
-                text,
-                status: Status::BadScript,
-            })
-        }
-        None => {
-            print_end(alloc, events, &mut text)?;
-            Ok(Ran {
-                text,
-                status: Status::Done,
-            })
-        }
-    }
-}
-
-// The lines after a header, from a session on that wrote nothing: all that is written, and how the run ends.
-fn run_lines<L: Ledger>(
-    alloc: Global,
-    session: &mut Session,
-    used: &mut Used,
-    lines: &[u8],
-    steps: &mut Steps<L>,
-) -> Result<Ran, NoRoom>
-    requires few { length lines.now < 2 ^ 31 }
-    requires at { (T : Trace) × IsAt session.old used.old [] T }
-    ensures { IfOk result (λ ran. (T : Trace) → IsAt session.old used.old [] T
-        → record { text = ran.text.items; status = ran.status } ≡ outcome T (events_of used.old 2 (lines_of lines.now))) }
-{
-    let mut text = Vec::new(alloc);
-    let bad = take_lines(alloc, session, used, &mut text, steps, lines)?;
-    print_last(alloc, used.events(), bad, text)
-}
-
-// The lines after a header: all that is written, and how the run ends.
-fn run_events<L: Ledger>(
-    alloc: Global,
-    header: Header,
-    lines: &[u8],
-    steps: &mut Steps<L>,
-) -> Result<Ran, NoRoom>
-    requires { length lines.now < 2 ^ 31 }
-    ensures { IfOk result (λ ran. record { text = ran.text.items; status = ran.status }
-        ≡ outcome (start header) (events_of (unused header.now) 2 (lines_of lines.now))) }
-{
-    let mut used = Used::new(alloc, header.now);
-    let mut session = Session::new(alloc, header)?;
-    run_lines(alloc, &mut session, &mut used, lines, steps)
-}
-
-// What is written where line 1 is bad.
-fn no_header(alloc: Global, cause: LineCause) -> Result<Ran, NoRoom>
-    ensures { IfOk result (λ ran. (ran.text.items ≡ line_of (bad_members 1 cause)) × (ran.status ≡ Status.BadScript)) }
-{
-    let mut text = Vec::new(alloc);
-    print_bad(alloc, 1, cause, &mut text)?;
-    Ok(Ran {
-        text,
-        status: Status::BadScript,
-    })
-}
-
-/// Runs the script of these bytes.
-pub fn run<L: Ledger>(alloc: Global, bytes: &[u8], steps: &mut Steps<L>) -> Result<Ran, NoRoom>
-    requires { length bytes.now < 2 ^ 31 }
-    ensures text { IfOk result (λ ran. ran.text.items ≡ run_text bytes.now) }
-    ensures status { IfOk result (λ ran. ran.status ≡ script_status (script_of bytes.now)) }
-{
-    let Some((first, others)) = next_line(bytes) else {
-        return no_header(alloc, LineCause::NotJson);
-    };
-    match read_header(alloc, first) {
-        Ok(header) => run_events(alloc, header, others, steps),
-        Err(Fault::Step(cause)) => no_header(alloc, cause),
-        Err(Fault::NoRoom) => Err(NoRoom),
     }
 }

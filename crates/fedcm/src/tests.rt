@@ -9,7 +9,7 @@ use std::sync::ledger::{Blank, Ledger};
 use std::test::Fail;
 
 // The pieces, joined.
-fn joined(alloc: Global, pieces: &[&str]) -> Result<String, NoRoom> {
+pub fn joined(alloc: Global, pieces: &[&str]) -> Result<String, NoRoom> {
     let mut text = String::new(alloc);
     for piece in pieces {
         text.push_str(piece)?;
@@ -25,16 +25,33 @@ fn words_of(alloc: Global, words: &[&str]) -> Result<Vec<Text>, NoRoom> {
     Ok(list)
 }
 
-// The answer over a source that gives 7 bytes a call and fails its `take`-th, and over a sink that takes 40 bytes a
-// call and fails its `put`-th; and what the sink took.
+/// How much a source gives and a sink takes in a call, and which call of each fails, counted from 1.
+#[derive(Clone, Copy)]
+pub struct Limits {
+    pub most_taken: usize,
+    pub most_put: usize,
+    pub failing_take: u64,
+    pub failing_put: u64,
+}
+
+/// No call fails.
+pub const QUIET: Limits = Limits {
+    most_taken: 7,
+    most_put: 40,
+    failing_take: 0,
+    failing_put: 0,
+};
+
+// The answer over a source and a sink with these limits, and what the sink took.
 fn answer<L: Ledger>(
     alloc: Global,
     blank: Blank,
     words: &[&str],
     script: &[&str],
-    take: u64,
-    put: u64,
+    limits: Limits,
 ) -> Result<(Status, Vec<u8>), NoRoom>
+    requires taken { 0 < limits.most_taken }
+    requires put { 0 < limits.most_put }
     requires name { blank.name ≡ L.name }
     requires parts { blank.parts ≡ L.parts }
     requires some { 0 < L.parts }
@@ -42,21 +59,25 @@ fn answer<L: Ledger>(
     let words = words_of(alloc, words)?;
     let input = joined(alloc, script)?;
     let bytes = input.as_str().as_bytes().to_vec(alloc)?;
-    let mut source = MemSource::new(bytes, 7, [take].to_vec(alloc)?);
-    let mut sink = MemSink::new(alloc, 4096, 40, [put].to_vec(alloc)?)?;
+    let takes = [limits.failing_take].to_vec(alloc)?;
+    let puts = [limits.failing_put].to_vec(alloc)?;
+    let mut source = MemSource::new(bytes, limits.most_taken, takes);
+    let mut sink = MemSink::new(alloc, 4096, limits.most_put, puts)?;
     let mut steps: Steps<L> = Steps::new(blank);
     let status = fedcm(alloc, &words, &mut source, &mut sink, &mut steps);
     Ok((status, sink.taken().to_vec(alloc)?))
 }
 
-fn ran(
+pub fn ran(
     alloc: Global,
     words: &[&str],
     script: &[&str],
-    take: u64,
-    put: u64,
-) -> Result<(Status, Vec<u8>), NoRoom> {
-    answer::<Brand>(alloc, Blank::new(1), words, script, take, put)
+    limits: Limits,
+) -> Result<(Status, Vec<u8>), NoRoom>
+    requires taken { 0 < limits.most_taken }
+    requires put { 0 < limits.most_put }
+{
+    answer::<Brand>(alloc, Blank::new(1), words, script, limits)
 }
 
 // Whether the words and the script give this status and transcript.
@@ -67,7 +88,7 @@ pub fn gives(
     status: Status,
     transcript: &[&str],
 ) -> Result<bool, NoRoom> {
-    let (found, text) = ran(alloc, words, script, 0, 0)?;
+    let (found, text) = ran(alloc, words, script, QUIET)?;
     let expected = joined(alloc, transcript)?;
     Ok(found == status && text.as_slice() == expected.as_str().as_bytes())
 }
@@ -217,12 +238,20 @@ fn other_words_are_no_form(rt: HostRuntime) -> Result<(), Fail> {
     let alloc = rt.alloc();
     assert!(rt; gives(alloc, &[], &[HEADER], Status::Usage, &[])?);
     assert!(rt; gives(alloc, &["run", "run"], &[HEADER], Status::Usage, &[])?);
-    for word in ["make", "make x", "make 0", "twins", ""] {
+    for word in ["make", "make 3", "twins", ""] {
         assert!(rt;
             gives(alloc, &[word], &[HEADER], Status::Usage, &[])?,
             "{word}"
         );
     }
+    for number in ["", "0", "03", "+3", "3 ", "20001", "4294967299", "x"] {
+        assert!(rt;
+            gives(alloc, &["make", number], &[HEADER], Status::Usage, &[])?,
+            "{number}"
+        );
+    }
+    assert!(rt; gives(alloc, &["make", "3", "3"], &[HEADER], Status::Usage, &[])?);
+    assert!(rt; gives(alloc, &["run", "3"], &[HEADER], Status::Usage, &[])?);
     Ok(())
 }
 
@@ -239,11 +268,42 @@ fn a_fault_ends_the_run(rt: HostRuntime) -> Result<(), Fail> {
         (0, 2, Status::WriteFault, 40),
         (0, 11, Status::WriteFault, 400),
     ] {
-        let (status, text) = ran(rt.alloc(), &["run"], &[HEADER, LOAD, GET], take, put)?;
+        let limits = Limits {
+            failing_take: take,
+            failing_put: put,
+            ..QUIET
+        };
+        let (status, text) = ran(rt.alloc(), &["run"], &[HEADER, LOAD, GET], limits)?;
         assert_eq!(rt; status, expected, "take {take}, put {put}");
         assert_eq!(rt; text.len(), taken);
         assert!(rt; whole.as_str().as_bytes().starts_with(text.as_slice()));
     }
+    Ok(())
+}
+
+// The source is not read: what it has is no script.
+#[test]
+fn a_script_is_made(rt: HostRuntime) -> Result<(), Fail> {
+    let alloc = rt.alloc();
+    let summary =
+        "{\"calls\":3,\"dialogs\":2,\"events\":21,\"ignored\":0,\"mix\":509568392,\"out\":\"summary\",\"requests\":12,\"tokens\":3}\n";
+    assert!(rt;
+        gives(
+            alloc,
+            &["make", "3"],
+            &["no script"],
+            Status::Done,
+            &[summary]
+        )?
+    );
+    let limits = Limits {
+        failing_take: 1,
+        failing_put: 2,
+        ..QUIET
+    };
+    let (status, text) = ran(alloc, &["make", "3"], &["no script"], limits)?;
+    assert_eq!(rt; status, Status::WriteFault);
+    assert_eq!(rt; text.as_slice(), &summary.as_bytes()[..40]);
     Ok(())
 }
 

@@ -44,33 +44,43 @@ const ASSERTION_REQUEST: &str = concat!(
     "\n",
 );
 
+// A sign-up as users make it, and what is written of it.
+pub const SIGN_UP: [&str; 10] = [
+    HEADER,
+    LOAD,
+    GET,
+    WELL_KNOWN_REPLY,
+    CONFIG_REPLY,
+    TWO_ACCOUNTS,
+    "{\"do\":\"choose\",\"call\":1,\"account\":\"u2\"}\n",
+    LINKS,
+    "{\"do\":\"continue\",\"call\":1}\n",
+    TOKEN_REPLY,
+];
+
+pub const SIGN_UP_RECORDS: [&str; 9] = [
+    WELL_KNOWN,
+    CONFIG,
+    ACCOUNTS_REQUEST,
+    CHOOSER,
+    METADATA_REQUEST,
+    PROMPT,
+    ASSERTION_REQUEST,
+    "{\"auto\":false,\"call\":1,\"line\":10,\"out\":\"result\",\"page\":1,\"provider\":0,\"see\":\"token\",\"token\":\"T1\"}\n",
+    "{\"events\":9,\"out\":\"end\"}\n",
+];
+
 #[test]
 fn a_sign_up_as_users_make_it(rt: HostRuntime) -> Result<(), Fail> {
-    let alloc = rt.alloc();
-    let script = [
-        HEADER,
-        LOAD,
-        GET,
-        WELL_KNOWN_REPLY,
-        CONFIG_REPLY,
-        TWO_ACCOUNTS,
-        "{\"do\":\"choose\",\"call\":1,\"account\":\"u2\"}\n",
-        LINKS,
-        "{\"do\":\"continue\",\"call\":1}\n",
-        TOKEN_REPLY,
-    ];
-    let transcript = [
-        WELL_KNOWN,
-        CONFIG,
-        ACCOUNTS_REQUEST,
-        CHOOSER,
-        METADATA_REQUEST,
-        PROMPT,
-        ASSERTION_REQUEST,
-        "{\"auto\":false,\"call\":1,\"line\":10,\"out\":\"result\",\"page\":1,\"provider\":0,\"see\":\"token\",\"token\":\"T1\"}\n",
-        "{\"events\":9,\"out\":\"end\"}\n",
-    ];
-    assert!(rt; gives(alloc, &["run"], &script, Status::Done, &transcript)?);
+    assert!(rt;
+        gives(
+            rt.alloc(),
+            &["run"],
+            &SIGN_UP,
+            Status::Done,
+            &SIGN_UP_RECORDS
+        )?
+    );
     Ok(())
 }
 

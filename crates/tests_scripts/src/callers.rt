@@ -1,16 +1,17 @@
 //! What a caller concludes from the contracts of the lower crates alone.
-ghost use Rattle.std.specs.Prelude.{◌≡◌, ◌++◌, true, IfOk, OnOk};
+ghost use Rattle.std.specs.Prelude.{◌≡◌, ◌++◌, ◌+◌, ◌≤◌, length, true, IfOk, OnOk};
 ghost use Rattle.fed_io.specs.Fault.{Answers};
 ghost use Rattle.fed_print.specs.Lines.{record_line};
 ghost use Rattle.fed_reply.specs.Steps.{with_ok};
 ghost use Rattle.fed_script.specs.Line.{event_of};
+ghost use Rattle.fed_script.specs.Reader.{all_lines};
 ghost use Rattle.fed_script.specs.Used.{HasOneProvider, HasKnownStatus};
 ghost use Rattle.tests_scripts.specs.Named.{client_in, login_in};
 
-use fed_io::{Fault, NoRoom, Text};
+use fed_io::{Fault, Items, NoRoom, Text};
 use fed_origin::LoginStatus;
 use fed_print::print;
-use fed_script::{Event, LineCause, Used, is_blank, read_event};
+use fed_script::{Event, Line, LineCause, ScriptReader, Used, is_blank, read_event};
 use fed_trace::Out;
 use std::alloc::Global;
 
@@ -76,6 +77,22 @@ fn login_of(event: &Event) -> Option<bool>
         }),
         _ => None,
     }
+}
+
+/// Wherever a script is cut in two, the lines of its pieces and of the end are those of the whole.
+pub fn read_both(
+    alloc: Global,
+    first: &[u8],
+    second: &[u8],
+) -> Result<(Items<Line>, Items<Line>, Items<Line>), NoRoom>
+    requires { length first.now + length second.now ≤ 67108865 }
+    ensures { IfOk result (λ lines. all_lines (first.now ++ second.now) ≡ lines.0 ++ lines.1 ++ lines.2) }
+{
+    let mut reader = ScriptReader::new(alloc);
+    let head = reader.feed(first)?;
+    let further = reader.feed(second)?;
+    let last = reader.finish()?;
+    Ok((head, further, last))
 }
 
 /// Two records are two lines, in their order, after what was printed before.

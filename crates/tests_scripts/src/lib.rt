@@ -14,3 +14,5 @@ mod script_events;
 mod script_pairs;
 #[cfg(test)]
 mod script_permissions;
+#[cfg(test)]
+mod script_pieces;

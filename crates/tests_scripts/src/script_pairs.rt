@@ -6,12 +6,13 @@ use fed_script::{bad_line_in, read_pair, read_script};
 use std::alloc::{AllocError, Global};
 use std::test::Fail;
 
-// The line of a letter: a header, a load, a dividing line, one with margins, one with a space in it, a blank line, a line
-// that is no JSON, and one like it without its LF.
+// The line of a letter: a header, a load, a load without its LF, a dividing line, one with margins, one with a space in it, a
+// blank line, a line that is no JSON, and one like it without its LF.
 fn line_of(letter: char) -> &'static str {
     match letter {
         'H' => "{\"fedcm\":1,\"now\":7,\"rules\":\"\"}\n",
         'L' => "{\"do\":\"load\",\"page\":1,\"url\":\"https://rp.example/\"}\n",
+        'l' => "{\"do\":\"load\",\"page\":1,\"url\":\"https://rp.example/\"}",
         'N' => "{\"next\":\"script\"}\n",
         'M' => " \t\r{\"next\":\"script\"}\r \t\r\n",
         'S' => "{\"next\": \"script\"}\n",
@@ -21,7 +22,7 @@ fn line_of(letter: char) -> &'static str {
     }
 }
 
-fn lines_of(alloc: Global, letters: &str) -> Result<String, AllocError> {
+pub fn lines_of(alloc: Global, letters: &str) -> Result<String, AllocError> {
     let mut text = String::new(alloc);
     for letter in letters.chars() {
         text.push_str(line_of(letter))?;
@@ -30,8 +31,9 @@ fn lines_of(alloc: Global, letters: &str) -> Result<String, AllocError> {
 }
 
 // The bytes of a text. No text of the tests is longer.
-fn bytes_of(text: &String) -> &[u8]
-    ensures { length result.now < 2 ^ 31 }
+pub fn bytes_of(text: &String) -> &[u8]
+    ensures few { length result.now < 2 ^ 31 }
+    ensures short { length result.now < 10000 }
 {
     let bytes = text.as_str().as_bytes();
     if bytes.len() < 10_000 { bytes } else { &[] }

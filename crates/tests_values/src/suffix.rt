@@ -148,6 +148,57 @@ fn rules_in_other_forms(rt: HostRuntime) -> Result<(), Fail> {
     Ok(())
 }
 
+// The labels lead from the top to a node, at which a rule ends or none does.
+fn ends(rules: &Suffixes, labels: &str, exception: bool) -> Option<bool> {
+    let mut node = rules.top();
+    for label in labels.split(' ') {
+        node = node.child(label.as_bytes())?;
+    }
+    Some(node.has(exception))
+}
+
+// A label leads to what goes on with it, and `*` is a label there.
+#[test]
+fn nodes_of_the_tree(rt: HostRuntime) -> Result<(), Fail> {
+    let rules = read(rt.alloc(), "q.b\na.*.b\n!x.q.b")?;
+    assert!(rt; ends(&rules, "b", false) == Some(false));
+    assert!(rt; ends(&rules, "b q", false) == Some(true));
+    assert!(rt; ends(&rules, "b *", false) == Some(false));
+    assert!(rt; ends(&rules, "b * a", false) == Some(true));
+    assert!(rt; ends(&rules, "b q x", true) == Some(true));
+    assert!(rt; ends(&rules, "b q x", false) == Some(false));
+    assert!(rt; ends(&rules, "b c", false) == None);
+    assert!(rt; ends(&rules, "*", false) == None);
+    assert!(rt; !Suffixes::new(rt.alloc()).top().has(false));
+    Ok(())
+}
+
+// A name with so many labels more than `b`.
+fn long_name(alloc: Global, labels: u32) -> Result<String, Fail> {
+    let mut name = String::new(alloc);
+    for _ in 0..labels {
+        name.push_str("a.")?;
+    }
+    name.push('b')?;
+    Ok(name)
+}
+
+// A rule may have more labels than calls can be nested: it is added, added again, copied, looked
+// up and let go.
+#[test]
+fn long_rules(rt: HostRuntime) -> Result<(), Fail> {
+    let rule = long_name(rt.alloc(), 30_000)?;
+    let name = long_name(rt.alloc(), 30_001)?;
+    let mut rules = Suffixes::new(rt.alloc());
+    rules.read_line(rule.as_str())?;
+    rules.read_line(rule.as_str())?;
+    let copy = rules.copy(rt.alloc())?;
+    assert!(rt; copy.same(&rules));
+    let found = copy.registrable_name(name.as_bytes()).unwrap_or(b"");
+    assert!(rt; found == name.as_bytes());
+    Ok(())
+}
+
 // The rules on which the published cases stand.
 fn listed_rules() -> &'static str {
     "ac\nbiz\ncom\nuk.com\n*.ck\n!www.ck\ncn\ncom.cn\n公司.cn\n中国\njp\nac.jp\nkyoto.jp\n\

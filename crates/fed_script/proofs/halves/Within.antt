@@ -21,7 +21,8 @@ use Rattle.fed_script.specs.Script.{Script, Stop, events_of, after_line as event
 use Rattle.fed_script.specs.Script.{lines_of, script_of_lines, script_after, ended_by}
 use Rattle.fed_script.specs.Used.{UsedState, unused, used_after}
 use Rattle.fed_script.proofs.scripts.Stop.{bad_is_among, stop_is_among}
-use Rattle.fed_script.proofs.lines.Walk.{divided, halved, is_lf}
+use Rattle.fed_script.proofs.lines.Line.{is_lf}
+use Rattle.fed_script.proofs.lines.Walk.{divided, halved}
 
 -- a number above so many is not among them
 above : (n k : ℕ) → k < n → (stop : PairStop) → cond (leb n k) (Some stop) None ≡ None

@@ -8,6 +8,21 @@ use borrow.Author.Tests.{ltb-false}
 use Rattle.std.specs.List.{list_any, onto_first, before_first, after_first, position, position_or_len}
 use Rattle.fed_script.specs.Script.{lines_of}
 
+abbrev pub is_lf : ℕ → Bool
+is_lf b = eqb b 10
+
+-- none passes before the first that does
+pub none_before : {X : Type 0} (p : X → Bool) (xs : List X) → list_any p (before_first p xs) ≡ false
+none_before p [] = refl
+none_before {X} p (x ∷ xs) = by (p x) refl (none_before p xs)
+  where
+    by : (passes : Bool) → p x ≡ passes → list_any p (before_first p xs) ≡ false
+        → list_any p (take (cond (not passes) (1 + position_or_len p xs) 0) (x ∷ xs)) ≡ false
+    by true is none = refl
+    by false is none =
+        let here : 1 + position_or_len p xs ≡ suc (position_or_len p xs) = omega arith in
+        rw here (ap (λ b. b || list_any p (before_first p xs)) is ∙ none)
+
 -- the first line after one byte more in front of it
 grown : (b n : ℕ) (xs : List ℕ)
     → (b ∷ take n xs) ∷ lines_of (drop (n + 1) xs) ≡ take (1 + n) (b ∷ xs) ∷ lines_of (drop (1 + n + 1) (b ∷ xs))
@@ -61,12 +76,12 @@ lines_of-last b (c ∷ bytes) none = step (eqb b 10) none (lines_of-last c bytes
     step false any later = ap (onto_first b) (later any)
 
 -- the place that `position` gives is the first
-place_is : (n end : ℕ) (found : Bool) → Some end ≡ cond found (Some n) None → end ≡ n
+pub place_is : (n end : ℕ) (found : Bool) → Some end ≡ cond found (Some n) None → end ≡ n
 place_is n end true at = cc
 place_is n end false at = cc
 
 -- where it gives none, the first place is the end
-place_is-end : (n len : ℕ) (found : Bool) → ltb n len ≡ found → n ≤ len → None ≡ cond found (Some n) None → n ≡ len
+pub place_is-end : (n len : ℕ) (found : Bool) → ltb n len ≡ found → n ≤ len → None ≡ cond found (Some n) None → n ≡ len
 place_is-end n len true test within at = cc
 place_is-end n len false test within at = let past : len ≤ n = ltb-false n len test in omega arith
 

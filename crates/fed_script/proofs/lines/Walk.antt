@@ -1,5 +1,5 @@
 -- A walk over the lines of bytes, up to one that passes a test.
-use Rattle.std.proofs.Common.{◌≡◌, ◌∙◌, ℕ, suc, ◌+◌, ◌-◌, ◌<◌, ◌≤◌, Bool, true, false, cond, ◌||◌, not, eqb, ltb, List}
+use Rattle.std.proofs.Common.{◌≡◌, ◌∙◌, ℕ, ◌+◌, ◌-◌, ◌<◌, ◌≤◌, Bool, true, false, cond, ◌||◌, not, ltb, List}
 use Rattle.std.proofs.Common.{[], ◌∷◌, ◌++◌, length, get_or, take, drop, Option, Some, None, refl, sym, ap, subst}
 use Rattle.std.proofs.Common.{arith, append_assoc, append-nil, length-append, ltb-true, ltb-false, eqb-true}
 use Rattle.std.proofs.Math.Seq.{take-append_seam, drop-append-add}
@@ -10,24 +10,9 @@ use Rattle.std.specs.List.{list_any, before_first, after_first, position_or_len}
 use Rattle.fed_script.specs.Pair.{Halves, halves_of, is_divider}
 use Rattle.fed_script.specs.Script.{first_line, lines_of}
 use Rattle.fed_script.proofs.halves.Further.{no_line}
-use Rattle.fed_script.proofs.lines.Line.{lines_of-first, lines_of-line}
+use Rattle.fed_script.proofs.lines.Line.{is_lf, none_before, lines_of-first, lines_of-line}
 
 -- ---- the first line
-
-abbrev pub is_lf : ℕ → Bool
-is_lf b = eqb b 10
-
--- none passes before the first that does
-none_before : {X : Type 0} (p : X → Bool) (xs : List X) → list_any p (before_first p xs) ≡ false
-none_before p [] = refl
-none_before {X} p (x ∷ xs) = by (p x) refl (none_before p xs)
-  where
-    by : (passes : Bool) → p x ≡ passes → list_any p (before_first p xs) ≡ false
-        → list_any p (take (cond (not passes) (1 + position_or_len p xs) 0) (x ∷ xs)) ≡ false
-    by true is none = refl
-    by false is none =
-        let here : 1 + position_or_len p xs ≡ suc (position_or_len p xs) = omega arith in
-        rw here (ap (λ b. b || list_any p (before_first p xs)) is ∙ none)
 
 -- the bytes of a line, with its LF if it has one, and the bytes after it
 pub record Cut (rest line after : List ℕ) : Type 0 where

@@ -11,9 +11,8 @@ use Rattle.fed_suffix.specs.Label.{labels_of, name_of}
 use Rattle.fed_suffix.specs.Rule.{Rule, RuleSet, rule_cmp, same_rules}
 use Rattle.fed_suffix.specs.RuleLine.{rule_text, is_skipped, rule_of, with_rule, rules_after}
 use Rattle.fed_suffix.specs.Registrable.{registrable_labels, registrable_of, registrable, party}
-use Rattle.fed_suffix.proofs.rules.RuleOrder.{rule_cmp_total, rule_cmp-IsAntisymmetric}
-use Rattle.fed_suffix.proofs.rules.Most.{both, first_of_both, second_of_both, one_of, or_first, or_second, same_rule, is_itself, is_among}
-use Rattle.fed_suffix.proofs.nodes.Tree.{same_tests}
+use Rattle.fed_suffix.specs.RuleOrder.{rule_cmp_total, rule_cmp-IsAntisymmetric, both, first_of_both, second_of_both}
+use Rattle.fed_suffix.specs.RuleOrder.{one_of, or_first, or_second, same_tests, same_rule, is_itself, is_among}
 
 -- each of the list passes, and so does one of the list
 passes_among : (test : Rule → Bool) (rule : Rule) (rules : List Rule) → list_all test rules ≡ true → is_among rules rule ≡ true

@@ -1,4 +1,4 @@
-use Rattle.fedcm.proofs.runs.Ends.{told_pair}
+use Rattle.fedcm.proofs.twins.Ends.{told_pair}
 use Rattle.fedcm.proofs.twin.twin.Goals as goal
 
 pub returns-in-Ok : goal.returns-in-Ok

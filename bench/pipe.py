@@ -1,0 +1,61 @@
+#!/usr/bin/env python3
+"""Runs the built program over events that come through a pipe, in which 1,000 pages wait for the accounts of their calls while a hundred
+others load again and again. Reports for each number of events seconds of a processor and the peak of memory beside that of the 1,000 calls
+alone: what else was read is not kept.
+
+    bench/pipe.py [EVENTS ..]
+"""
+import itertools
+import json
+import sys
+
+from measure import piped
+
+HEADER = '{"fedcm":1,"now":0,"rules":""}\n'
+CALLS = 1_000
+PAGES = 100
+OK = "HTTP/1.1 200 OK\r\nContent-Type: application/json\r\n\r\n"
+CONFIG = "https://accounts.idp.example/fedcm.json"
+ENDPOINTS = {name + "_endpoint": "/" + name for name in ("accounts", "id_assertion")} | {"login_url": "/login"}
+
+
+def line(**members):
+    return json.dumps(members, separators=(",", ":")) + "\n"
+
+
+def reply(call, to, body):
+    return line(do="reply", call=call, to=to, text=OK + json.dumps(body))
+
+
+def standing():
+    for call in range(CALLS):
+        yield line(do="load", page=call, url=f"https://rp{call}.example/")
+        yield line(do="get", page=call, call=call, providers=[{"config": CONFIG, "client": "c"}])
+        yield reply(call, "wellknown", {"provider_urls": [CONFIG]})
+        yield reply(call, "config", ENDPOINTS)
+
+
+def passing():
+    """A load in eight events, so that a million are within the limit of bytes."""
+    for number in itertools.count():
+        if number % 8:
+            yield line(do="at", time=number)
+            continue
+        page = number // 8 % PAGES
+        cookie = f"HTTP/1.1 200 OK\r\nSet-Cookie: session={number:08}; Secure\r\n\r\n"
+        yield line(do="load", page=CALLS + page, url=f"https://shop{page}.example/", text=cookie)
+
+
+def main():
+    counts = [int(word) for word in sys.argv[1:]] or [10_000, 100_000, 1_000_000]
+    alone = piped(itertools.chain([HEADER], standing()))
+    print("| events | seconds | peak MB | above the calls alone, MB |")
+    print("|---|---|---|---|")
+    for count in counts:
+        events = itertools.islice(itertools.chain(standing(), passing()), count)
+        took = piped(itertools.chain([HEADER], events))
+        print(f"| {count:,} | {took.seconds:.2f} | {took.peak:.1f} | {took.peak - alone.peak:.1f} |", flush=True)
+
+
+if __name__ == "__main__":
+    main()

@@ -1,0 +1,4 @@
+pub mod threads
+pub mod views
+pub mod tied
+pub mod calls

@@ -1,0 +1,3 @@
+-- What each call reads and leaves.
+pub mod Facts
+pub mod Calls

@@ -1,0 +1,11 @@
+//! Nodes in page lists and waiting lists, linked forward and back.
+#![tactic(auto)]
+
+mod links;
+mod node;
+#[cfg(test)]
+mod tests;
+mod writes;
+
+pub use links::Links;
+pub use node::LinkNode;

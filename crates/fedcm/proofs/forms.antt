@@ -1,0 +1,3 @@
+-- The words of the command line, and the form `make`.
+pub mod Calls
+pub mod Makes

@@ -1,3 +1,0 @@
--- A run, and how it ends.
-pub mod Ends
-pub mod Run

@@ -1,0 +1,3 @@
+-- The form `twin`.
+pub mod Ends
+pub mod Sources
