@@ -1,3 +1,2 @@
 -- Name, domain and path of a cookie.
 pub mod Keys
-pub mod Entries

@@ -1,6 +1,6 @@
 pub mod Cookie
-pub mod Key
 pub mod Send
 pub mod Store
 pub mod Writes
+pub mod Parts
 pub mod Laws

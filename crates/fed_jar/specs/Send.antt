@@ -24,15 +24,19 @@ is_sent rules url now cookie =
     cookie.secure && has_no_limit cookie.same_site && is_fresh now cookie.expiry && path_matches url.path cookie.path
     && goes_to rules (host_of url) cookie
 
--- the item stands before the first whose number is not larger
-abbrev pub put_by : {X : Type 0} → (X → ℕ) → X → List X → List X
-put_by number item [] = item ∷ []
-put_by number item (x ∷ xs) = if nat_le (number x) (number item) then item ∷ x ∷ xs else x ∷ put_by number item xs
+-- the item stands before the first before which it goes
+abbrev pub put_by : {X : Type 0} → (X → X → Bool) → X → List X → List X
+put_by goes item [] = item ∷ []
+put_by goes item (x ∷ xs) = if goes item x then item ∷ x ∷ xs else x ∷ put_by goes item xs
+
+-- items in order, and those of which each goes before the other as they stand
+abbrev pub in_order : {X : Type 0} → (X → X → Bool) → List X → List X
+in_order goes [] = []
+in_order goes (x ∷ xs) = put_by goes x (in_order goes xs)
 
 -- larger numbers first, and items of one number in their order
 abbrev pub largest_first : {X : Type 0} → (X → ℕ) → List X → List X
-largest_first number [] = []
-largest_first number (x ∷ xs) = put_by number x (largest_first number xs)
+largest_first number xs = in_order (λ a b. nat_le (number b) (number a)) xs
 
 abbrev pub path_length : StoredCookie → ℕ
 path_length cookie = length cookie.path

@@ -1,7 +1,7 @@
 -- Which fields a jar stores, and as which cookie (RFC 6265, 5.3).
 use Rattle.std.specs.Prelude.{ℕ, zero, suc, ℤ, pos, negsuc, ◌+◌, ◌-◌, ◌^◌, min, Bool, true, false, not, ◌&&◌, ◌||◌, List, [], ◌∷◌, length}
-use Rattle.std.specs.Prelude.{codes, filter, nat_lt, nat_eq, bytes_eq, is_some, Option, None, Some, option_map, unwrap_or, if◌then◌else◌}
-use Rattle.std.specs.List.{starts_with}
+use Rattle.std.specs.Prelude.{codes, filter, nat_lt, nat_eq, bytes_eq, is_some, Option, None, Some, option_map, unwrap_or, if◌then◌else◌, ◌≡◌}
+use Rattle.std.specs.List.{starts_with, AllByRecursion}
 use Rattle.url.specs.Parts.{Parts}
 use Rattle.fed_origin.specs.WebUrl.{host_of, scheme_of}
 use Rattle.fed_origin.specs.declared.scheme.Scheme.{Scheme}
@@ -12,7 +12,7 @@ use Rattle.fed_cookie.specs.declared.same_site.SameSite.{SameSite}
 use Rattle.fed_cookie.specs.declared.same_site.SameSite.TheVariants.{Strict, Lax, NoLimit}
 use Rattle.fed_cookie.specs.SetCookie.{SetCookie}
 use Rattle.fed_cookie.specs.Matches.{default_path, domain_matches}
-use Rattle.fed_jar.specs.Cookie.{StoredCookie}
+use Rattle.fed_jar.specs.Cookie.{StoredCookie, KeptCookie, JarParts}
 
 abbrev pub is_http : Scheme → Bool
 is_http Http = true
@@ -97,3 +97,11 @@ is_of_party rules name cookie = bytes_eq (party rules cookie.domain) name
 -- the cookies of the party among these
 abbrev pub part_of : RuleSet → List ℕ → List StoredCookie → List StoredCookie
 part_of rules name cookies = filter (is_of_party rules name) cookies
+
+-- the cookie is kept under its party
+abbrev pub IsOwn : RuleSet → KeptCookie → Type 0
+IsOwn rules k = k.party ≡ party rules k.cookie.domain
+
+-- each cookie of the jar is kept under its party
+abbrev pub IsKeptBy : RuleSet → JarParts → Type 0
+IsKeptBy rules jar = AllByRecursion (IsOwn rules) jar.kept

@@ -1,15 +1,16 @@
 //! The jar.
-ghost use Rattle.std.specs.Prelude.{◌≡◌, ◌≢◌, ℕ, List, [], OnOk, OnErr, IfOk, is_some, filter};
+ghost use Rattle.std.specs.Prelude.{◌≡◌, ◌≢◌, ◌<◌, ◌+◌, ◌-◌, ◌^◌, ℕ, List, [], OnOk, OnErr, IfOk, Some, is_some, filter, map, if◌then◌else◌};
 ghost use Rattle.fed_origin.specs.WebUrl.{host_of};
 ghost use Rattle.fed_suffix.specs.Registrable.{party};
 ghost use Rattle.fed_cookie.specs.SetCookie.{HasNoLineEnd};
-ghost use Rattle.fed_jar.specs.Cookie.{AreDistinct, with_cookie, written};
-ghost use Rattle.fed_jar.specs.Key.{cookie_at, entry_cookies};
-ghost use Rattle.fed_jar.specs.Store.{cookie_of, is_of_party};
+ghost use Rattle.fed_jar.specs.Cookie.{AreDistinct, cookies_in, cookies_of, has_key, jar_after, kept_under, written};
+ghost use Rattle.fed_jar.specs.Parts.{all_numbered, lent_cookies, lent_numbered, lists_of, numbered_cookies, numbered_of, smallest_first};
+ghost use Rattle.fed_jar.specs.Store.{IsKeptBy, cookie_of, is_of_party};
 ghost use Rattle.fed_jar.specs.Send as spec;
 
-use crate::entry::{CookieKey, CookieRest, copy_cookie};
-use crate::store::{entry_of, scope_of};
+use crate::lists::{Parties, all_lent, keep, listed};
+use crate::numbered::{Lent, Numbered};
+use crate::store::{cookie_from, scope_of};
 use crate::{Cookie, send};
 use fed_cookie::RawCookie;
 use fed_io::{Bytes, NoRoom};
@@ -19,32 +20,36 @@ use indexmap::IndexMap;
 use std::alloc::Global;
 use std::marker::Model;
 
-/// Cookies, no two with the same name, domain and path, which contracts see as their list in the
-/// order of first storing.
+/// Cookies, no two with the same name, domain and path, kept by the parties of the hosts that stored
+/// them. Contracts see them in the order of first storing over all parties, the party of each, and
+/// how many new keys ever entered.
 #[derive(Drop)]
 pub struct Jar {
-    cookies: IndexMap<CookieKey, CookieRest>,
+    parties: Parties,
+    entered: u64,
     alloc: Global,
 }
 
 impl Model for Jar {
-    ghost use Rattle.std.specs.Prelude.{List};
-    ghost use Rattle.fed_jar.specs.Cookie.{StoredCookie};
+    ghost use Rattle.fed_jar.specs.Cookie.{JarParts};
 
-    ghost Value = { List StoredCookie };
+    ghost Value = { JarParts };
 
-    ghost use Rattle.fed_jar.specs.Key.{entry_cookies};
+    ghost use Rattle.fed_jar.specs.Parts.{AreLists, jar_of, lists_of};
 
-    ghost view = { λ j. entry_cookies j.cookies.entries };
+    ghost view = { λ j. jar_of (lists_of (λ key. key.items) j.parties.entries) j.entered };
+
+    ghost invariant = { λ j. AreLists (lists_of (λ key. key.items) j.parties.entries) j.entered };
 }
 
 impl Jar {
     /// A jar without cookies. It takes no memory.
     pub fn new(alloc: Global) -> Jar
-        ensures { result ≡ [] }
+        ensures { result ≡ record { kept = []; entered = 0 } }
     {
         Jar {
-            cookies: IndexMap::new(alloc),
+            parties: IndexMap::new(alloc),
+            entered: 0,
             alloc,
         }
     }
@@ -63,13 +68,20 @@ impl Jar {
         now: u64,
         raw: RawCookie,
     ) -> Result<bool, NoRoom>
+        requires kept { IsKeptBy rules.now self.old }
+        requires entered { self.old.entered < 2 ^ 64 - 1 }
         ensures ok { IfOk result (λ stored. stored ≡ is_some (cookie_of rules.now url.now now raw)) }
-        ensures value { OnOk result (self.new ≡ written self.old (cookie_of rules.now url.now now raw)) }
+        ensures value { OnOk result (cookies_in self.new ≡ written (cookies_in self.old) (cookie_of rules.now url.now now raw)) }
         ensures err { OnErr result (self.new ≡ self.old) }
 
         // The cookies of every other party are as they were, in their order.
         ensures others { (name : List ℕ) → name ≢ party rules.now (host_of url.now)
-            → filter (is_of_party rules.now name) self.new ≡ filter (is_of_party rules.now name) self.old }
+            → filter (is_of_party rules.now name) (cookies_in self.new) ≡ filter (is_of_party rules.now name) (cookies_in self.old) }
+
+        // A new cookie is kept under the host's party with the number of the new keys before it, and one that replaces another
+        // under that one's party and number.
+        ensures parts { OnOk result (self.new ≡ jar_after (party rules.now (host_of url.now)) self.old (cookie_of rules.now url.now now raw)) }
+        ensures kept { IsKeptBy rules.now self.new }
     {
         self.write(rules, url, now, raw)
     }
@@ -81,21 +93,37 @@ impl Jar {
         now: u64,
         raw: RawCookie,
     ) -> Result<bool, NoRoom>
+        requires kept { IsKeptBy rules.now self.old }
+        requires entered { self.old.entered < 2 ^ 64 - 1 }
         ensures ok { IfOk result (λ stored. stored ≡ is_some (cookie_of rules.now url.now now raw)) }
-        ensures value { OnOk result (self.new ≡ written self.old (cookie_of rules.now url.now now raw)) }
+        ensures parts { OnOk result (self.new ≡ jar_after (party rules.now (host_of url.now)) self.old (cookie_of rules.now url.now now raw)) }
         ensures err { OnErr result (self.new ≡ self.old) }
     {
         let Some(host_only) = scope_of(rules, url, &raw) else {
             return Ok(false);
         };
-        let (key, rest) = entry_of(self.alloc, url, now, raw, host_only)?;
-        insert(&mut self.cookies, key, rest)?;
+        let cookie = cookie_from(self.alloc, url, now, raw, host_only)?;
+        self.put(rules.party(url.host()), cookie)?;
         Ok(true)
+    }
+
+    // Puts the cookie under the party, under which each cookie with its name, domain and path is kept.
+    fn put(&mut self, party: &[u8], cookie: Cookie) -> Result<(), NoRoom>
+        requires own { has_key cookie (cookies_in self.old) ≡ has_key cookie (cookies_of (kept_under party.now self.old.kept)) }
+        requires entered { self.old.entered < 2 ^ 64 - 1 }
+        ensures ok { OnOk result (self.new ≡ jar_after party.now self.old (Some cookie)) }
+        ensures err { OnErr result (self.new ≡ self.old) }
+    {
+        let number = self.entered;
+        let new = Numbered { cookie, number };
+        let is_new = keep(&mut self.parties, self.alloc, party, new)?;
+        self.entered = after(number, is_new);
+        Ok(())
     }
 
     /// The value of the Cookie field of a FedCM request to the URL at the time (RFC 6265, 5.4),
     /// empty where no cookie is sent. It is a function of the cookies of the party of the URL's
-    /// host, and holds no CR and no LF.
+    /// host, and holds no CR and no LF. No other party's cookies are looked at.
     pub fn cookie_text(
         &self,
         alloc: Global,
@@ -103,10 +131,12 @@ impl Jar {
         url: &WebUrl,
         now: u64,
     ) -> Result<Bytes, NoRoom>
-        ensures value { IfOk result (λ text. text ≡ spec.jar_text rules.now url.now now self.now) }
+        requires { IsKeptBy rules.now self.now }
+        ensures value { IfOk result (λ text. text ≡ spec.jar_text rules.now url.now now (cookies_in self.now)) }
         ensures line { IfOk result (λ text. HasNoLineEnd text) }
     {
-        send::cookie_text(alloc, &self.cookies, rules, url, now)
+        let cookies = self.of_party(rules.party(url.host()));
+        send::cookie_text(alloc, cookies, rules, url, now)
     }
 
     /// The cookies whose domain's party this is, in the jar's order.
@@ -116,72 +146,76 @@ impl Jar {
         rules: &Suffixes,
         party: &[u8],
     ) -> Result<Vec<Cookie>, NoRoom>
-        ensures { IfOk result (λ list. list.items ≡ filter (is_of_party rules.now party.now) self.now) }
+        requires { IsKeptBy rules.now self.now }
+        ensures { IfOk result (λ list. list.items ≡ filter (is_of_party rules.now party.now) (cookies_in self.now)) }
     {
-        cookies_of(alloc, &self.cookies, rules, party)
+        copies(alloc, self.of_party(party))
     }
 
     /// All cookies, in the jar's order. No two have the same name, domain and path.
     pub fn list(&self, alloc: Global) -> Result<Vec<Cookie>, NoRoom>
-        ensures value { IfOk result (λ list. list.items ≡ self.now) }
-        ensures distinct { AreDistinct self.now }
+        ensures value { IfOk result (λ list. list.items ≡ cookies_in self.now) }
+        ensures distinct { AreDistinct (cookies_in self.now) }
     {
-        all_cookies(alloc, &self.cookies)
+        all_cookies(alloc, &self.parties)
+    }
+
+    /// The cookies that are kept under the party, in the jar's order, each with the number of the new
+    /// keys that had entered before it. It takes no memory.
+    pub fn of_party(&self, party: &[u8]) -> &[Numbered]
+        ensures { result.now ≡ map numbered_of (kept_under party.now self.now.kept) }
+    {
+        listed(&self.parties, party)
     }
 }
 
-fn insert(
-    cookies: &mut IndexMap<CookieKey, CookieRest>,
-    key: CookieKey,
-    rest: CookieRest,
-) -> Result<(), NoRoom>
-    ensures ok { OnOk result (entry_cookies cookies.new.entries ≡ with_cookie (entry_cookies cookies.old.entries) (cookie_at key rest)) }
-    ensures err { OnErr result (cookies.new.entries ≡ cookies.old.entries) }
+// The number of the new keys, after one that is new or not.
+fn after(number: u64, is_new: bool) -> u64
+    requires { number < 2 ^ 64 - 1 }
+    ensures { result ≡ (if is_new then number + 1 else number) }
 {
-    match cookies.insert(key, rest) {
-        Ok(_) => Ok(()),
-        Err(_) => Err(NoRoom),
+    if is_new {
+        return number + 1;
     }
+    number
 }
 
-fn cookies_of(
-    alloc: Global,
-    cookies: &IndexMap<CookieKey, CookieRest>,
-    rules: &Suffixes,
-    party: &[u8],
-) -> Result<Vec<Cookie>, NoRoom>
-    ensures { IfOk result (λ list. list.items ≡ filter (is_of_party rules.now party.now) (entry_cookies cookies.now.entries)) }
+fn copies(alloc: Global, cookies: &[Numbered]) -> Result<Vec<Cookie>, NoRoom>
+    ensures { IfOk result (λ list. list.items ≡ numbered_cookies cookies.now) }
 {
     let mut list = Vec::new(alloc);
-    for (key, rest) in cookies.iter() {
-        if party_of(rules, key.domain.as_slice()) == party {
-            list.push(copy_cookie(alloc, key, rest)?)?;
-        }
+    for one in cookies {
+        list.push(one.cookie.copy(alloc)?)?;
     }
     Ok(list)
 }
 
-fn all_cookies(
-    alloc: Global,
-    cookies: &IndexMap<CookieKey, CookieRest>,
-) -> Result<Vec<Cookie>, NoRoom>
-    ensures value { IfOk result (λ list. list.items ≡ entry_cookies cookies.now.entries) }
-    ensures distinct { AreDistinct (entry_cookies cookies.now.entries) }
+fn all_cookies(alloc: Global, parties: &Parties) -> Result<Vec<Cookie>, NoRoom>
+    ensures { IfOk result (λ list. list.items
+        ≡ numbered_cookies (smallest_first (λ n. n.number) (all_numbered (lists_of (λ key. key.items) parties.now.entries)))) }
 {
-    let mut list = Vec::new(alloc);
-    for (key, rest) in cookies.iter() {
-        list.push(copy_cookie(alloc, key, rest)?)?;
-    }
-    Ok(list)
+    let mut all = all_lent(alloc, parties)?;
+    put_smallest_first(&mut all)?;
+    lent_copies(alloc, all.as_slice())
 }
 
-// The party of a cookie's domain, as of the host with this text.
-#[tactic(auto, unfolding(fed_suffix::specs::Registrable::party))]
-fn party_of<'a>(rules: &Suffixes, domain: &'a [u8]) -> &'a [u8]
-    ensures { result.now ≡ party rules.now domain.now }
+fn put_smallest_first(all: &mut Vec<Lent<'_>>) -> Result<(), NoRoom>
+    ensures { OnOk result (lent_numbered all.new.items ≡ smallest_first (λ n. n.number) (lent_numbered all.old.items)) }
 {
-    match rules.registrable_name(domain) {
-        Some(registrable) => registrable,
-        None => domain,
+    all.sort_by_key(
+        |lent: &Lent<'_>| -> u64
+            ensures { result ≡ lent.now.one.now.number }
+        { lent.one.number },
+    )?;
+    Ok(())
+}
+
+fn lent_copies(alloc: Global, all: &[Lent<'_>]) -> Result<Vec<Cookie>, NoRoom>
+    ensures { IfOk result (λ list. list.items ≡ lent_cookies all.now) }
+{
+    let mut list = Vec::new(alloc);
+    for lent in all {
+        list.push(lent.one.cookie.copy(alloc)?)?;
     }
+    Ok(list)
 }

@@ -2,11 +2,13 @@
 #![tactic(auto)]
 
 mod cookie;
-mod entry;
 mod jar;
 pub mod laws;
+mod lists;
+mod numbered;
 mod send;
 mod store;
 
 pub use cookie::Cookie;
 pub use jar::Jar;
+pub use numbered::Numbered;

@@ -5,36 +5,29 @@ ghost use Rattle.std.specs.Option.{option_copied};
 ghost use Rattle.fed_suffix.specs.Registrable.{registrable};
 ghost use Rattle.fed_cookie.specs.SetCookie.{HasNoLineEnd};
 ghost use Rattle.fed_origin.specs.WebUrl.{host_of};
-ghost use Rattle.fed_jar.specs.Key.{cookie_at, entry_cookies, sent_cookie, sent_cookies};
+ghost use Rattle.fed_jar.specs.Parts.{lent_cookie, lent_cookies, numbered_cookies};
 ghost use Rattle.fed_jar.specs.Send as spec;
 
-use crate::entry::{CookieKey, CookieRest};
+use crate::Cookie;
+use crate::numbered::{Lent, Numbered};
 use crate::store::is_within;
 use fed_cookie::{SameSite, path_matches};
 use fed_io::{Bytes, NoRoom};
 use fed_origin::{Host, WebUrl};
 use fed_suffix::Suffixes;
-use indexmap::IndexMap;
 use std::alloc::Global;
 use std::cmp::Reverse;
 
-/// A cookie that a request sends.
-#[derive(Clone, Copy)]
-pub struct Sent<'a> {
-    key: &'a CookieKey,
-    rest: &'a CookieRest,
-}
-
-/// The Cookie field of a request to the URL at the time, of a jar with these cookies.
+/// The Cookie field of a request to the URL at the time, of a jar with these cookies of the party.
 #[tactic(auto, unfolding(crate::specs::Send::jar_text))]
 pub fn cookie_text(
     alloc: Global,
-    cookies: &IndexMap<CookieKey, CookieRest>,
+    cookies: &[Numbered],
     rules: &Suffixes,
     url: &WebUrl,
     now: u64,
 ) -> Result<Bytes, NoRoom>
-    ensures value { IfOk result (λ text. text ≡ spec.jar_text rules.now url.now now (entry_cookies cookies.now.entries)) }
+    ensures value { IfOk result (λ text. text ≡ spec.jar_text rules.now url.now now (numbered_cookies cookies.now)) }
     ensures line { IfOk result (λ text. HasNoLineEnd text) }
 {
     let mut sent = cookies_sent(alloc, cookies, rules, url, now)?;
@@ -44,38 +37,41 @@ pub fn cookie_text(
 
 fn cookies_sent<'a>(
     alloc: Global,
-    cookies: &'a IndexMap<CookieKey, CookieRest>,
+    cookies: &'a [Numbered],
     rules: &Suffixes,
     url: &WebUrl,
     now: u64,
-) -> Result<Vec<Sent<'a>>, NoRoom>
-    ensures { IfOk result (λ sent. sent_cookies sent.items ≡ filter (spec.is_sent rules.now url.now now) (entry_cookies cookies.now.entries)) }
+) -> Result<Vec<Lent<'a>>, NoRoom>
+    ensures { IfOk result (λ sent. lent_cookies sent.items ≡ filter (spec.is_sent rules.now url.now now) (numbered_cookies cookies.now)) }
 {
     let site = rules.registrable(url.host());
     let mut sent = Vec::new(alloc);
-    for (key, rest) in cookies.iter() {
-        if is_sent(rules, url, site, now, key, rest) {
-            sent.push(Sent { key, rest })?;
+    for one in cookies {
+        if is_sent(rules, url, site, now, &one.cookie) {
+            sent.push(Lent { one })?;
         }
     }
     Ok(sent)
 }
 
 // Longer paths first, then in their order.
-fn put_longest_first(sent: &mut Vec<Sent<'_>>) -> Result<(), NoRoom>
-    ensures { OnOk result (sent_cookies sent.new.items ≡ spec.largest_first spec.path_length (sent_cookies sent.old.items)) }
+fn put_longest_first(sent: &mut Vec<Lent<'_>>) -> Result<(), NoRoom>
+    ensures { OnOk result (lent_cookies sent.new.items ≡ spec.largest_first spec.path_length (lent_cookies sent.old.items)) }
 {
     sent.sort_by_key(
-        |one: &Sent<'_>| -> Reverse<usize>
-            ensures { result.0 ≡ spec.path_length (sent_cookie one.now) }
-        { Reverse(one.key.path.as_slice().len()) },
+        |lent: &Lent<'_>| -> Reverse<usize>
+            ensures { result.0 ≡ spec.path_length (lent_cookie lent.now) }
+        {
+            let cookie = &lent.one.cookie;
+            Reverse(cookie.path.as_slice().len())
+        },
     )?;
     Ok(())
 }
 
 // The pairs joined by `; `.
-fn pairs_text(alloc: Global, sent: &[Sent<'_>]) -> Result<Bytes, NoRoom>
-    ensures value { IfOk result (λ text. text ≡ spec.pairs_text (sent_cookies sent.now)) }
+fn pairs_text(alloc: Global, sent: &[Lent<'_>]) -> Result<Bytes, NoRoom>
+    ensures value { IfOk result (λ text. text ≡ spec.pairs_text (lent_cookies sent.now)) }
     ensures line { IfOk result (λ text. HasNoLineEnd text) }
 {
     match sent {
@@ -84,35 +80,36 @@ fn pairs_text(alloc: Global, sent: &[Sent<'_>]) -> Result<Bytes, NoRoom>
     }
 }
 
-fn joined(alloc: Global, first: &Sent<'_>, others: &[Sent<'_>]) -> Result<Bytes, NoRoom>
-    ensures value { IfOk result (λ text. text ≡ spec.pair_text (sent_cookie first.now) ++ flat_map spec.next_text (sent_cookies others.now)) }
+fn joined(alloc: Global, first: &Lent<'_>, others: &[Lent<'_>]) -> Result<Bytes, NoRoom>
+    ensures value { IfOk result (λ text. text ≡ spec.pair_text (lent_cookie first.now) ++ flat_map spec.next_text (lent_cookies others.now)) }
     ensures line { IfOk result (λ text. HasNoLineEnd text) }
 {
     let mut text = Vec::new(alloc);
     push_pair(&mut text, first)?;
-    for one in others {
-        push_next(&mut text, one)?;
+    for lent in others {
+        push_next(&mut text, lent)?;
     }
     Ok(Bytes::from_vec(text))
 }
 
 #[tactic(auto, unfolding(crate::specs::Send::next_text))]
-fn push_next(text: &mut Vec<u8>, one: &Sent<'_>) -> Result<(), NoRoom>
-    ensures value { OnOk result (text.new.items ≡ text.old.items ++ spec.next_text (sent_cookie one.now)) }
+fn push_next(text: &mut Vec<u8>, lent: &Lent<'_>) -> Result<(), NoRoom>
+    ensures value { OnOk result (text.new.items ≡ text.old.items ++ spec.next_text (lent_cookie lent.now)) }
     ensures line { HasNoLineEnd text.old.items → OnOk result (HasNoLineEnd text.new.items) }
 {
     text.extend_from_slice(b"; ")?;
-    push_pair(text, one)
+    push_pair(text, lent)
 }
 
 #[tactic(auto, unfolding(crate::specs::Send::pair_text))]
-fn push_pair(text: &mut Vec<u8>, one: &Sent<'_>) -> Result<(), NoRoom>
-    ensures value { OnOk result (text.new.items ≡ text.old.items ++ spec.pair_text (sent_cookie one.now)) }
+fn push_pair(text: &mut Vec<u8>, lent: &Lent<'_>) -> Result<(), NoRoom>
+    ensures value { OnOk result (text.new.items ≡ text.old.items ++ spec.pair_text (lent_cookie lent.now)) }
     ensures line { HasNoLineEnd text.old.items → OnOk result (HasNoLineEnd text.new.items) }
 {
-    text.extend_from_slice(one.key.name.as_slice())?;
+    let cookie = &lent.one.cookie;
+    text.extend_from_slice(cookie.name.as_slice())?;
     text.push(b'=')?;
-    text.extend_from_slice(one.rest.value.as_slice())?;
+    text.extend_from_slice(cookie.value.as_slice())?;
     Ok(())
 }
 
@@ -124,17 +121,16 @@ pub fn is_sent(
     url: &WebUrl,
     site: Option<&[u8]>,
     now: u64,
-    key: &CookieKey,
-    rest: &CookieRest,
+    cookie: &Cookie,
 ) -> bool
     requires { option_copied site ≡ registrable rules.now (host_of url.now) }
-    ensures { result ≡ spec.is_sent rules.now url.now now (cookie_at key.now rest.now) }
+    ensures { result ≡ spec.is_sent rules.now url.now now cookie.now }
 {
-    rest.secure
-        && rest.same_site == SameSite::NoLimit
-        && is_fresh(now, rest.expiry)
-        && path_matches(url.path().as_bytes(), key.path.as_slice())
-        && goes_to(rules, url.host(), site, key, rest)
+    cookie.secure
+        && cookie.same_site == SameSite::NoLimit
+        && is_fresh(now, cookie.expiry)
+        && path_matches(url.path().as_bytes(), cookie.path.as_slice())
+        && goes_to(rules, url.host(), site, cookie)
 }
 
 fn is_fresh(now: u64, expiry: Option<u64>) -> bool
@@ -146,18 +142,12 @@ fn is_fresh(now: u64, expiry: Option<u64>) -> bool
     }
 }
 
-fn goes_to(
-    rules: &Suffixes,
-    host: &Host,
-    site: Option<&[u8]>,
-    key: &CookieKey,
-    rest: &CookieRest,
-) -> bool
+fn goes_to(rules: &Suffixes, host: &Host, site: Option<&[u8]>, cookie: &Cookie) -> bool
     requires { option_copied site ≡ registrable rules.now host.now }
-    ensures { result ≡ spec.goes_to rules.now host.now (cookie_at key.now rest.now) }
+    ensures { result ≡ spec.goes_to rules.now host.now cookie.now }
 {
-    if rest.host_only {
-        return key.domain.as_slice() == host.text.as_str().as_bytes();
+    if cookie.host_only {
+        return cookie.domain.as_slice() == host.text.as_str().as_bytes();
     }
-    is_within(rules, host, site, key.domain.as_slice())
+    is_within(rules, host, site, cookie.domain.as_slice())
 }

@@ -2,10 +2,9 @@
 ghost use Rattle.std.specs.Prelude.{◌≡◌, ◌+◌, IfOk, Some, length, nat_lt, unwrap_or};
 ghost use Rattle.std.specs.Option.{option_copied};
 ghost use Rattle.fed_suffix.specs.Registrable.{registrable};
-ghost use Rattle.fed_jar.specs.Key.{cookie_at};
 ghost use Rattle.fed_jar.specs.Store as spec;
 
-use crate::entry::{CookieKey, CookieRest, LineText};
+use crate::Cookie;
 use fed_cookie::{RawCookie, SameSite, default_path, domain_matches};
 use fed_io::{Bytes, NoRoom};
 use fed_origin::{Host, Scheme, WebUrl};
@@ -99,16 +98,16 @@ fn are_same(a: Option<&[u8]>, b: Option<&[u8]>) -> bool
     }
 }
 
-/// The entry of a cookie that is stored.
+/// The cookie that is stored.
 #[tactic(auto, unfolding(crate::specs::Store::cookie_from))]
-pub fn entry_of(
+pub fn cookie_from(
     alloc: Global,
     url: &WebUrl,
     now: u64,
     raw: RawCookie,
     host_only: bool,
-) -> Result<(CookieKey, CookieRest), NoRoom>
-    ensures { IfOk result (λ e. cookie_at e.0 e.1 ≡ spec.cookie_from url.now now raw host_only) }
+) -> Result<Cookie, NoRoom>
+    ensures { IfOk result (λ cookie. cookie ≡ spec.cookie_from url.now now raw host_only) }
 {
     let RawCookie {
         name,
@@ -122,20 +121,16 @@ pub fn entry_of(
     } = raw;
     let domain = or_copy(alloc, domain, url.host().text.as_str().as_bytes())?;
     let path = or_copy(alloc, path, default_path(url.path().as_bytes()))?;
-    Ok((
-        CookieKey {
-            name: LineText::of(name),
-            domain,
-            path,
-        },
-        CookieRest {
-            value: LineText::of(value),
-            host_only,
-            expiry: expiry_of(now, max_age, expires),
-            secure,
-            same_site,
-        },
-    ))
+    Ok(Cookie {
+        name,
+        value,
+        domain,
+        host_only,
+        path,
+        expiry: expiry_of(now, max_age, expires),
+        secure,
+        same_site,
+    })
 }
 
 // The bytes that are there, or else a copy of the others.

@@ -3,4 +3,5 @@ pub mod waits
 pub mod clauses
 pub mod stands
 pub mod events
+pub mod linked
 pub mod shown

@@ -1,4 +1,5 @@
 -- What private clauses say, by the trace.
+pub mod Cookies
 pub mod Outcome
 pub mod Sets
 pub mod Permissions

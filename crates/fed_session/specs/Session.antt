@@ -1,5 +1,5 @@
 -- What contracts see of a session, and which traces it stands for.
-use Rattle.std.specs.Prelude.{◌≡◌, ℕ, Bool, true, false, nat_eq, List, length, map, filter, Option, Some, option_map}
+use Rattle.std.specs.Prelude.{◌≡◌, ℕ, Bool, true, false, nat_eq, List, [], length, map, filter, Option, Some, option_map}
 use Rattle.std.specs.Prelude.{option_and_then, ⊤}
 use Rattle.std.specs.Option.{option_to_list}
 use Rattle.std.specs.List.{filter_map, list_any}
@@ -33,6 +33,10 @@ pub record TabsParts : Type 0 where
   -- the pages that were ever loaded, in order of first loading, each with its pending calls, and what is known of each pending call
   pub table : TableParts (Option Known)
 
+-- before a page is loaded
+abbrev pub no_table : TableParts (Option Known)
+no_table = record { pages = []; waits = []; items = []; links = record { pages = []; waits = []; free = []; spare = 0 }; nodes = [] }
+
 pub record State : Type 0 where
   -- no step found no memory
   pub alive : Bool
@@ -44,6 +48,8 @@ pub record State : Type 0 where
   pub rules : RuleSet
   -- the cookies, in order of first storing
   pub cookies : List StoredCookie
+  -- how many new keys of cookies ever entered
+  pub entered : ℕ
   -- the login statuses that were set, in order of first setting
   pub login : Logins
   -- the kept permissions, and the origins whose prevent-silent flag is set

@@ -34,6 +34,7 @@ use Rattle.fed_trace.specs.declared.out.Out.{Out}
 use Rattle.fed_session.specs.declared.sight.Sight.{Sight}
 use Rattle.fed_trace.specs.Effect.{Sent, Shown, Window, Result, Ignored}
 use Rattle.fed_trace.specs.Records.{record_of, records_of}
+use Rattle.fed_session.specs.Cookies.{CookieParts}
 use Rattle.fed_session.specs.Session.{State}
 
 -- the session as it was before a step began, and as it is after the step is counted
@@ -43,19 +44,23 @@ revived s = record s { alive = true }
 abbrev pub stepped : State → State
 stepped s = record s { alive = true; steps = s.steps + 1 }
 
+-- the rules and the jar of a session
+abbrev pub cookies_kept : State → CookieParts
+cookies_kept s = record { rules = s.rules; list = s.cookies; entered = s.entered }
+
 -- what all calls look at in a session
 abbrev pub sight_of : State → Sight
-sight_of s = record { time = s.time; rules = s.rules; jar = s.cookies; login = s.login; kept = s.kept; flags = s.flags }
+sight_of s = record { time = s.time; cookies = cookies_kept s; login = s.login; kept = s.kept; flags = s.flags }
 
 -- the part of it that is lent to a call
 abbrev pub world_in : Sight → World
-world_in sight = record { rules = sight.rules; login = sight.login; kept = sight.kept; flags = sight.flags }
+world_in sight = record { rules = sight.cookies.rules; login = sight.login; kept = sight.kept; flags = sight.flags }
 
 -- the Cookie field of a request by what is seen
 abbrev pub cookies_of : Sight → Ask → List ℕ
-cookies_of sight (asks.Accounts to) = jar_text sight.rules to sight.time sight.jar
-cookies_of sight (asks.Disconnect to client hint origin) = jar_text sight.rules to sight.time sight.jar
-cookies_of sight (asks.Assertion ask) = jar_text sight.rules ask.to sight.time sight.jar
+cookies_of sight (asks.Accounts to) = jar_text sight.cookies.rules to sight.time sight.cookies.list
+cookies_of sight (asks.Disconnect to client hint origin) = jar_text sight.cookies.rules to sight.time sight.cookies.list
+cookies_of sight (asks.Assertion ask) = jar_text sight.cookies.rules ask.to sight.time sight.cookies.list
 cookies_of sight _ = []
 
 -- The session can do it: a status that is set was said.

@@ -91,6 +91,16 @@ waits_next false call (Some origin) waits = with_last same_origin origin call wa
 waits_next true call None waits = all_without call waits
 waits_next true call (Some origin) waits = waits
 
+-- these calls wait from now on, and all else is as it was
+pub record Waits (waits : List (Origin × List ℕ)) (old new : TabsParts) : Type 0 where
+  pub pages : new.pages ≡ old.pages
+  pub listed : new.table.pages ≡ old.table.pages
+  pub gets : new.gets ≡ old.gets
+  pub taken : new.taken ≡ old.taken
+  pub waiting : new.table.waits ≡ waits
+  pub items : new.table.items ≡ old.table.items
+  pub nodes : new.table.nodes ≡ old.table.nodes
+
 -- this is known of it from now on, and these calls wait
 pub record Stays (call : ℕ) (after : Option Known) (waits : List (Origin × List ℕ)) (old new : TabsParts) : Type 0 where
   pub pages : new.pages ≡ old.pages

@@ -1,5 +1,5 @@
 //! Calls of `IdentityCredential.disconnect`.
-ghost use Rattle.std.specs.Prelude.{◌≡◌, nat_eq, is_some, false, IfOk, OnOk};
+ghost use Rattle.std.specs.Prelude.{◌≡◌, ◌≤◌, ◌+◌, nat_eq, is_some, false, IfOk, OnOk};
 ghost use Rattle.std.specs.List.{list_any};
 ghost use Rattle.std.specs.Map.{lookup};
 ghost use Rattle.fed_disconnect.specs.Facts.{disconnect_options};
@@ -44,7 +44,7 @@ pub(crate) fn disconnect<L: Ledger>(
     ensures tabs { OnOk result (BeginsIf page call (begin_kept (world_in sight.now) (lookup (nat_eq page) tabs.old.pages)
         (is_some (lookup (nat_eq page) tabs.old.gets)) page call
         (ToDisconnect (disconnect_options config.now client.now hint.now))) tabs.old tabs.new) }
-    ensures unticked { steps.new ≡ steps.old }
+    ensures steps { steps.new ≤ steps.old + 20 }
 {
     let Some(origin) = tabs.origin(page) else {
         return ignored(alloc, line, Why::NoPage);

@@ -1,5 +1,5 @@
 //! Events that name a call.
-ghost use Rattle.std.specs.Prelude.{◌≡◌, nat_eq, if◌then◌else◌, IfOk, OnOk};
+ghost use Rattle.std.specs.Prelude.{◌≡◌, ◌≤◌, ◌+◌, nat_eq, if◌then◌else◌, IfOk, OnOk};
 ghost use Rattle.std.specs.List.{list_any};
 ghost use Rattle.fed_consent.specs.declared.table.why.Why.TheVariants.{NoCall, CallEnded};
 ghost use Rattle.fed_trace.specs.Known as spec;
@@ -35,7 +35,7 @@ pub(crate) fn take_input<L: Ledger>(
         (item_known tabs.old.table.items call) input.now).effects sight.old) }
     ensures tabs { OnOk result (Takes call (item_known tabs.old.table.items call)
         (kept_next (world_in sight.old) (item_known tabs.old.table.items call) input.now) tabs.old tabs.new) }
-    ensures unticked { steps.new ≡ steps.old }
+    ensures steps { steps.new ≤ steps.old + 20 }
 {
     let Some(kept) = tabs.lend(call) else {
         return ignored(alloc, line, unpending(tabs, call));

@@ -3,6 +3,7 @@
 
 mod apply;
 mod calls;
+mod cookies;
 mod disconnect;
 mod get;
 mod input;

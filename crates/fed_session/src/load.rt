@@ -1,10 +1,10 @@
 //! What replies of page loads, and lines of the kind `have`, say of cookies and login statuses.
-ghost use Rattle.std.specs.Prelude.{◌≡◌, [], ◌∷◌, OnOk};
+ghost use Rattle.std.specs.Prelude.{◌≡◌, ◌<◌, ◌+◌, ◌-◌, ◌^◌, [], ◌∷◌, length, OnOk};
 ghost use Rattle.fed_origin.specs.WebUrl.{origin_of};
-ghost use Rattle.fed_jar.specs.Cookie.{cookies_after};
 ghost use Rattle.fed_reply.specs.Fields.{values};
 ghost use Rattle.fed_script.specs.Used.{SaysKnown};
 ghost use Rattle.fed_trace.specs.Row.{cookies_from, have_cookies, set_cookies, set_cookie_name, set_logins, set_login_name};
+ghost use Rattle.fed_session.specs.Cookies.{with_writes};
 ghost use Rattle.fed_session.specs.StepParts.{with_statuses, logins_in, have_statuses, have_kept, have_flags};
 
 use crate::sight::Sight;
@@ -23,9 +23,10 @@ pub(crate) fn take_head(
     url: &WebUrl,
     raw: &Option<Bytes>,
 ) -> Result<(), NoRoom>
+    requires { sight.old.cookies.entered + length (set_cookies raw.now) < 2 ^ 64 }
     ensures { OnOk result (sight.new ≡ record sight.old {
-      jar =
-          cookies_after sight.old.jar (cookies_from sight.old.rules url.now sight.old.time (set_cookies raw.now));
+      cookies =
+          with_writes sight.old.cookies (cookies_from sight.old.cookies.rules url.now sight.old.time (set_cookies raw.now));
       login =
           with_statuses (origin_of url.now) (set_logins raw.now) sight.old.login;
     }) }
@@ -46,9 +47,10 @@ pub(crate) fn take_head(
 
 // Stores each Set-Cookie value of a reply.
 fn store_fields(alloc: Global, sight: &mut Sight, url: &WebUrl, head: &Reply) -> Result<(), NoRoom>
+    requires { sight.old.cookies.entered + length (values set_cookie_name head.now.fields) < 2 ^ 64 }
     ensures { OnOk result (sight.new ≡ record sight.old {
-      jar =
-          cookies_after sight.old.jar (cookies_from sight.old.rules url.now sight.old.time (values set_cookie_name head.now.fields));
+      cookies =
+          with_writes sight.old.cookies (cookies_from sight.old.cookies.rules url.now sight.old.time (values set_cookie_name head.now.fields));
     }) }
 {
     for value in head.values("set-cookie") {
@@ -79,10 +81,11 @@ fn set_status(login: &mut LoginMap, origin: &Origin, field: &[u8]) -> Result<(),
 
 /// Stores the cookie, or sets the status, the permission or the flag, that a line of the kind `have` names.
 pub(crate) fn take_have(alloc: Global, sight: &mut Sight, have: &Have) -> Result<(), NoRoom>
-    requires { SaysKnown have.now }
+    requires known { SaysKnown have.now }
+    requires room { sight.old.cookies.entered < 2 ^ 64 - 1 }
     ensures { OnOk result (sight.new ≡ record sight.old {
-      jar =
-          cookies_after sight.old.jar (have_cookies sight.old.rules sight.old.time have.now);
+      cookies =
+          with_writes sight.old.cookies (have_cookies sight.old.cookies.rules sight.old.time have.now);
       login =
           have_statuses have.now sight.old.login;
       kept = have_kept have.now sight.old.kept;

@@ -1,8 +1,9 @@
 //! Events of pages that stand.
-ghost use Rattle.std.specs.Prelude.{◌≡◌, nat_eq, OnOk, IfOk, true};
+ghost use Rattle.std.specs.Prelude.{◌≡◌, ◌≤◌, ◌+◌, ◌*◌, length, nat_eq, OnOk, IfOk, true};
 ghost use Rattle.std.specs.Map.{lookup};
 ghost use Rattle.fed_origin.specs.Origin.{same_origin};
 ghost use Rattle.fed_script.specs.Used.{IsKnown};
+ghost use Rattle.fed_table.specs.Table.{page_calls};
 ghost use Rattle.fed_trace.specs.Effect.{Login, Flag, login_change};
 ghost use Rattle.fed_trace.specs.Keyed.{entries_after};
 ghost use Rattle.fed_trace.specs.Records.{records_of};
@@ -30,7 +31,7 @@ pub(crate) fn close<L: Ledger>(
 ) -> Result<Items<Out>, NoRoom>
     ensures outs { IfOk result (λ outs. outs ≡ close_records line (lookup (nat_eq page) tabs.old.pages)) }
     ensures tabs { OnOk result (Closes page (lookup (nat_eq page) tabs.old.pages) tabs.old tabs.new) }
-    ensures unticked { steps.new ≡ steps.old }
+    ensures steps { steps.new ≤ steps.old + (20 * length (page_calls tabs.old.table.pages page) + 8) }
 {
     if tabs.origin(page).is_none() {
         return ignored(alloc, line, Why::NoPage);

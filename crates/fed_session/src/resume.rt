@@ -1,9 +1,11 @@
 //! A page that says that the user has signed in at its origin (FedCM, "IdentityProvider.close").
-ghost use Rattle.std.specs.Prelude.{◌≡◌, nat_eq, IfOk, OnOk};
+ghost use Rattle.std.specs.Prelude.{◌≡◌, ◌≤◌, ◌+◌, ◌*◌, length, nat_eq, IfOk, OnOk};
 ghost use Rattle.std.specs.Map.{lookup};
 ghost use Rattle.fed_consent.specs.declared.table.input.Input.TheVariants.{Resume};
+ghost use Rattle.fed_table.specs.Table.{waiting_for};
 ghost use Rattle.fed_trace.specs.Records.{records_of};
 ghost use Rattle.fed_trace.specs.Row.{resume_effects};
+ghost use Rattle.fed_session.specs.Links.{resumed_calls};
 ghost use Rattle.fed_session.specs.Session.{item_known};
 ghost use Rattle.fed_session.specs.StepParts.{cookies_of, world_in, kept_next};
 ghost use Rattle.fed_session.specs.Tabs.{Takes, AreResumed, Resumed};
@@ -29,7 +31,8 @@ pub(crate) fn resume<L: Ledger>(
 ) -> Result<Items<Out>, NoRoom>
     ensures ok { IfOk result (λ outs. Resumed (world_in sight.now) (cookies_of sight.now) line (lookup (nat_eq page) tabs.old.pages)
         tabs.old outs tabs.new) }
-    ensures unticked { steps.new ≡ steps.old }
+    ensures steps { steps.new ≤ steps.old
+        + 20 * length (resumed_calls (waiting_for tabs.old.table.waits) (lookup (nat_eq page) tabs.old.pages)) }
 {
     let Some(origin) = tabs.origin(page) else {
         return ignored(alloc, line, Why::NoPage);
@@ -54,7 +57,7 @@ fn resume_all<L: Ledger>(
     steps: &mut Steps<L>,
 ) -> Result<Items<Out>, NoRoom>
     ensures ok { IfOk result (λ outs. AreResumed (world_in sight.now) (cookies_of sight.now) line calls.now tabs.old outs tabs.new) }
-    ensures unticked { steps.new ≡ steps.old }
+    ensures steps { steps.new ≤ steps.old + 20 * length calls.now }
 {
     let mut outs = Vec::new(alloc);
     for call in calls {
@@ -77,7 +80,7 @@ fn resume_one<L: Ledger>(
         (item_known tabs.old.table.items) call)) }
     ensures tabs { OnOk result (Takes call (item_known tabs.old.table.items call)
         (kept_next (world_in sight.now) (item_known tabs.old.table.items call) Resume) tabs.old tabs.new) }
-    ensures unticked { steps.new ≡ steps.old }
+    ensures steps { steps.new ≤ steps.old + 20 }
 {
     let Some(kept) = tabs.lend(call) else {
         return ignored(alloc, line, Why::CallEnded);

@@ -1,14 +1,18 @@
 //! One event at a time.
-ghost use Rattle.std.specs.Prelude.{◌≡◌, ◌<◌, ℕ, nat_eq, [], length, is_some, true, false, IfOk, OnErr, IsErr};
+ghost use Rattle.std.specs.Prelude.{◌≡◌, ◌<◌, ◌≤◌, ◌+◌, ◌*◌, ℕ, OnOk, nat_eq, [], length, is_some, true, false, IfOk, OnErr, IsErr};
 ghost use Rattle.std.specs.List.{list_any};
+ghost use Rattle.std.specs.Map.{lookup};
 ghost use Rattle.fed_script.specs.declared.event.Event.TheVariants as events;
 ghost use Rattle.fed_script.specs.Used.{HasOneProvider, HasKnownStatus, SaysKnown};
 ghost use Rattle.fed_trace.specs.Known.{input_of};
 ghost use Rattle.fed_trace.specs.Records.{records};
 ghost use Rattle.fed_trace.specs.Row.{row_of, with_event};
+ghost use Rattle.fed_table.specs.Table.{page_calls, waiting_for, node_in};
+ghost use Rattle.fed_session.specs.Links.{most_steps, resumed_calls, AreLinked};
 ghost use Rattle.fed_session.specs.Session.{Stands, Shows, IsFresh};
 ghost use Rattle.fed_session.specs.StepParts.{revived, stepped};
-ghost use Rattle.fed_trace.specs.Trace.{Trace};
+ghost use Rattle.fed_trace.specs.Trace.{Trace, pending_of, page_at};
+ghost use Rattle.fed_trace.specs.Windows.{windows_of};
 
 use crate::disconnect::disconnect;
 use crate::get::get;
@@ -20,6 +24,7 @@ use crate::sight::Sight;
 use crate::tabs::Tabs;
 use crate::view::{View, shown_flags, shown_logins};
 use fed_io::{Bytes, Items, NoRoom, Steps, Text};
+use fed_links::Links;
 use fed_origin::{GetOptions, Origin, WebUrl};
 use fed_script::{Event, Have, Header};
 use fed_trace::Out;
@@ -38,6 +43,7 @@ pub struct Session {
 }
 
 impl Model for Session {
+    ghost use Rattle.std.specs.Prelude.{◌≡◌, ◌≤◌, ◌*◌, true};
     ghost use Rattle.std.specs.Coded.{codes};
     ghost use Rattle.std.specs.FinSet as set;
     ghost use Rattle.fed_suffix.specs.Rule.{rule_cmp, rule_code};
@@ -51,14 +57,18 @@ impl Model for Session {
       alive = s.alive;
       steps = s.steps;
       time = s.sight.time;
-      rules = s.sight.rules;
-      cookies = s.sight.jar;
+      rules = s.sight.cookies.rules;
+      cookies = s.sight.cookies.list;
+      entered = s.sight.cookies.entered;
       login =
           s.sight.login;
       kept = s.sight.kept;
       flags = s.sight.flags;
       tabs = s.tabs;
     } };
+
+    // A step stores at most 128 cookies.
+    ghost invariant = { λ s. s.alive ≡ true → s.sight.cookies.entered ≤ 128 * s.steps };
 }
 
 // Written out, so that one function lets a session go wherever it ends.
@@ -104,7 +114,8 @@ impl Session {
             → IfOk result (λ outs. (outs ≡ records (row_of T line event.now)) × Stands self.new (with_event T line event.now)) }
         ensures dead { OnErr result (self.new.alive ≡ false) }
         ensures stays_dead { self.old.alive ≡ false → IsErr result }
-        ensures counted { steps.new ≡ steps.old }
+        ensures link_steps { (T : Trace) → Stands self.old T → steps.new ≤ steps.old + most_steps (λ page. length (pending_of T page))
+            (λ page. length (resumed_calls (windows_of T) (page_at T page))) event.now }
     {
         if !self.alive {
             return Err(NoRoom);
@@ -126,11 +137,16 @@ impl Session {
         requires fresh { IsFresh self.old event.now }
         requires providers { HasOneProvider event.now }
         requires status { HasKnownStatus event.now }
+        requires off { self.old.alive ≡ false }
+        requires few { self.old.steps < 1000000 }
+        requires room { self.old.entered ≤ 128 * self.old.steps }
+        ensures room { OnOk result (self.new.entered ≤ self.old.entered + 128) }
         ensures row { (T : Trace) → Stands (revived self.old) T
             → IfOk result (λ outs. (outs ≡ records (row_of T line event.now)) × Stands (stepped self.new) (with_event T line event.now)) }
         ensures steps { self.new.steps ≡ self.old.steps }
         ensures alive { self.new.alive ≡ self.old.alive }
-        ensures unticked { steps.new ≡ steps.old }
+        ensures link_steps { steps.new ≤ steps.old + most_steps (λ page. length (page_calls self.old.tabs.table.pages page))
+            (λ page. length (resumed_calls (waiting_for self.old.tabs.table.waits) (lookup (nat_eq page) self.old.tabs.pages))) event.now }
     {
         match event {
             Event::Have(have) => self.have(have),
@@ -178,7 +194,11 @@ impl Session {
 
     // What stands from before the script.
     fn have(&mut self, have: &Have) -> Result<Items<Out>, NoRoom>
-        requires { SaysKnown have.now }
+        requires known { SaysKnown have.now }
+        requires off { self.old.alive ≡ false }
+        requires few { self.old.steps < 1000000 }
+        requires room { self.old.entered ≤ 128 * self.old.steps }
+        ensures room { OnOk result (self.new.entered ≤ self.old.entered + 128) }
         ensures row { (T : Trace) (line : ℕ) → Stands (revived self.old) T
             → IfOk result (λ outs. (outs ≡ records (row_of T line (events.Have have.now)))
             × Stands (stepped self.new) (with_event T line (events.Have have.now))) }
@@ -197,12 +217,16 @@ impl Session {
         raw: &Option<Bytes>,
         steps: &mut Steps<L>,
     ) -> Result<Items<Out>, NoRoom>
+        requires off { self.old.alive ≡ false }
+        requires few { self.old.steps < 1000000 }
+        requires room { self.old.entered ≤ 128 * self.old.steps }
+        ensures room { OnOk result (self.new.entered ≤ self.old.entered + 128) }
         ensures row { (T : Trace) (line : ℕ) → Stands (revived self.old) T
             → IfOk result (λ outs. (outs ≡ records (row_of T line (events.Load page url.now raw.now)))
             × Stands (stepped self.new) (with_event T line (events.Load page url.now raw.now))) }
         ensures steps { self.new.steps ≡ self.old.steps }
         ensures alive { self.new.alive ≡ self.old.alive }
-        ensures unticked { steps.new ≡ steps.old }
+        ensures link_steps { steps.new ≤ steps.old + (20 * length (page_calls self.old.tabs.table.pages page) + 8) }
     {
         let origin = Origin::of_url(self.alloc, url)?;
         self.tabs.load(page, origin, steps)?;
@@ -221,12 +245,14 @@ impl Session {
     ) -> Result<Items<Out>, NoRoom>
         requires fresh { list_any (nat_eq call) self.old.tabs.taken ≡ false }
         requires one { length options.now.providers ≡ 1 }
+        requires off { self.old.alive ≡ false }
+        ensures stored { OnOk result (self.new.entered ≡ self.old.entered) }
         ensures row { (T : Trace) → Stands (revived self.old) T
             → IfOk result (λ outs. (outs ≡ records (row_of T line (events.Get page call options.now)))
             × Stands (stepped self.new) (with_event T line (events.Get page call options.now))) }
         ensures steps { self.new.steps ≡ self.old.steps }
         ensures alive { self.new.alive ≡ self.old.alive }
-        ensures unticked { steps.new ≡ steps.old }
+        ensures link_steps { steps.new ≤ steps.old + 20 }
     {
         let outs = get(
             self.alloc,
@@ -252,13 +278,15 @@ impl Session {
         hint: &Text,
         steps: &mut Steps<L>,
     ) -> Result<Items<Out>, NoRoom>
-        requires { list_any (nat_eq call) self.old.tabs.taken ≡ false }
+        requires fresh { list_any (nat_eq call) self.old.tabs.taken ≡ false }
+        requires off { self.old.alive ≡ false }
+        ensures stored { OnOk result (self.new.entered ≡ self.old.entered) }
         ensures row { (T : Trace) → Stands (revived self.old) T
             → IfOk result (λ outs. (outs ≡ records (row_of T line (events.Disconnect page call config.now client.now hint.now)))
             × Stands (stepped self.new) (with_event T line (events.Disconnect page call config.now client.now hint.now))) }
         ensures steps { self.new.steps ≡ self.old.steps }
         ensures alive { self.new.alive ≡ self.old.alive }
-        ensures unticked { steps.new ≡ steps.old }
+        ensures link_steps { steps.new ≤ steps.old + 20 }
     {
         let outs = disconnect(
             self.alloc,
@@ -282,12 +310,14 @@ impl Session {
         event: &Event,
         steps: &mut Steps<L>,
     ) -> Result<Items<Out>, NoRoom>
-        requires { is_some (input_of event.now) ≡ true }
+        requires brought { is_some (input_of event.now) ≡ true }
+        requires off { self.old.alive ≡ false }
+        ensures stored { OnOk result (self.new.entered ≡ self.old.entered) }
         ensures row { (T : Trace) → Stands (revived self.old) T
             → IfOk result (λ outs. (outs ≡ records (row_of T line event.now)) × Stands (stepped self.new) (with_event T line event.now)) }
         ensures steps { self.new.steps ≡ self.old.steps }
         ensures alive { self.new.alive ≡ self.old.alive }
-        ensures unticked { steps.new ≡ steps.old }
+        ensures link_steps { steps.new ≤ steps.old + 20 }
     {
         let Some((call, input)) = input_of(self.alloc, event)? else {
             unreachable!()
@@ -311,15 +341,34 @@ impl Session {
         page: u32,
         steps: &mut Steps<L>,
     ) -> Result<Items<Out>, NoRoom>
+        requires off { self.old.alive ≡ false }
+        ensures stored { OnOk result (self.new.entered ≡ self.old.entered) }
         ensures row { (T : Trace) → Stands (revived self.old) T
             → IfOk result (λ outs. (outs ≡ records (row_of T line (events.IdpClose page)))
             × Stands (stepped self.new) (with_event T line (events.IdpClose page))) }
         ensures steps { self.new.steps ≡ self.old.steps }
         ensures alive { self.new.alive ≡ self.old.alive }
-        ensures unticked { steps.new ≡ steps.old }
+        ensures link_steps { steps.new ≤ steps.old
+            + 20 * length (resumed_calls (waiting_for self.old.tabs.table.waits) (lookup (nat_eq page) self.old.tabs.pages)) }
     {
         let outs = resume(self.alloc, line, &self.sight, &mut self.tabs, page, steps)?;
         Ok(outs)
+    }
+
+    /// The linked lists of the nodes of pending calls. It takes no memory.
+    pub fn links(&self) -> &Links
+        ensures links { result.now ≡ self.now.tabs.table.links }
+        ensures linked { (T : Trace) → Stands self.now T → AreLinked self.now.tabs.table.links self.now.tabs.table.nodes T }
+    {
+        self.tabs.links()
+    }
+
+    /// The node of a call; `None` exactly where it is not pending. It takes no memory.
+    pub fn node_of(&self, call: u32) -> Option<u32>
+        ensures node { result ≡ node_in self.now.tabs.table.nodes call }
+        ensures linked { (T : Trace) → Stands self.now T → AreLinked self.now.tabs.table.links self.now.tabs.table.nodes T }
+    {
+        self.tabs.node_of(call)
     }
 
     /// What stands now. A dead session answers want of memory.
@@ -335,7 +384,7 @@ impl Session {
             login: shown_logins(self.alloc, &self.sight.login)?,
             kept: self.sight.kept.list(self.alloc)?,
             silent: shown_flags(self.alloc, &self.sight.flags)?,
-            cookies: Items::from_vec(self.sight.jar.list(self.alloc)?),
+            cookies: Items::from_vec(self.sight.cookies.list(self.alloc)?),
             pages: self.tabs.shown_pages(self.alloc)?,
             calls: self.tabs.shown_calls(self.alloc)?,
         })

@@ -1,30 +1,27 @@
 //! What all calls look at, and what their rows set.
-ghost use Rattle.std.specs.Prelude.{◌≡◌, [], ◌∷◌, IfOk, OnOk};
+ghost use Rattle.std.specs.Prelude.{◌≡◌, ◌<◌, ◌-◌, ◌^◌, [], ◌∷◌, IfOk, OnOk};
 ghost use Rattle.fed_cookie.specs.SetCookie.{HasNoLineEnd};
-ghost use Rattle.fed_jar.specs.Cookie.{cookies_after};
 ghost use Rattle.fed_request.specs.Request.{TakesCookies};
 ghost use Rattle.fed_status.specs.Shared.{world_of};
 ghost use Rattle.fed_trace.specs.Row.{cookies_from};
+ghost use Rattle.fed_session.specs.Cookies.{with_writes};
 ghost use Rattle.fed_session.specs.StepParts.{cookies_of, world_in, CanApply, sight_by};
 
+use crate::cookies::Cookies;
 use fed_consent::{Ask, Effect};
 use fed_cookie::read_set_cookie;
 use fed_io::{Bytes, NoRoom};
-use fed_jar::Jar;
 use fed_origin::WebUrl;
 use fed_script::Header;
 use fed_status::{KeptSet, LoginMap, Shared, SilentFlags};
-use fed_suffix::Suffixes;
 use std::alloc::Global;
 
 /// What all calls look at, and what their rows set.
 pub struct Sight {
     /// The time, in seconds since 1970.
     pub time: u64,
-    /// The public suffix rules.
-    pub rules: Suffixes,
-    /// The cookies.
-    pub jar: Jar,
+    /// The public suffix rules and the cookies.
+    pub cookies: Cookies,
     /// The login statuses of providers that were set.
     pub login: LoginMap,
     /// The kept permissions.
@@ -38,8 +35,7 @@ impl Drop for Sight {
     fn drop(self) {
         let Sight {
             time: _,
-            rules: _,
-            jar: _,
+            cookies: _,
             login: _,
             kept: _,
             flags: _,
@@ -50,12 +46,17 @@ impl Drop for Sight {
 impl Sight {
     /// Nothing is set or kept.
     pub(crate) fn new(alloc: Global, header: Header) -> Sight
-        ensures { result ≡ record { time = header.now; rules = header.rules; jar = []; login = []; kept = []; flags = [] } }
+        ensures { result ≡ record {
+          time = header.now;
+          cookies = record { rules = header.rules; list = []; entered = 0 };
+          login = [];
+          kept = [];
+          flags = [];
+        } }
     {
         Sight {
             time: header.now,
-            rules: header.rules,
-            jar: Jar::new(alloc),
+            cookies: Cookies::new(alloc, header.rules),
             login: LoginMap::new(alloc),
             kept: KeptSet::new(alloc),
             flags: SilentFlags::new(alloc),
@@ -67,7 +68,7 @@ impl Sight {
         ensures { world_of result ≡ world_in self.now }
     {
         Shared {
-            rules: &self.rules,
+            rules: self.cookies.rules(),
             login: &self.login,
             kept: &self.kept,
             flags: &self.flags,
@@ -82,12 +83,9 @@ impl Sight {
     {
         match ask {
             Ask::Accounts { to } | Ask::Disconnect { to, .. } => {
-                self.jar.cookie_text(alloc, &self.rules, to, self.time)
+                self.cookies.text(alloc, to, self.time)
             }
-            Ask::Assertion(ask) => {
-                self.jar
-                    .cookie_text(alloc, &self.rules, ask.to(), self.time)
-            }
+            Ask::Assertion(ask) => { self.cookies.text(alloc, ask.to(), self.time) }
             Ask::WellKnown { .. } | Ask::Config { .. } | Ask::Metadata { .. } => {
                 Bytes::of(alloc, b"")
             }
@@ -96,13 +94,14 @@ impl Sight {
 
     /// Stores the cookie of one Set-Cookie value of a reply from the URL, unless it is ignored (RFC 6265, 5.3).
     pub(crate) fn store(&mut self, alloc: Global, url: &WebUrl, field: &[u8]) -> Result<(), NoRoom>
+        requires { self.old.cookies.entered < 2 ^ 64 - 1 }
         ensures { OnOk result (self.new ≡ record self.old {
-          jar =
-              cookies_after self.old.jar (cookies_from self.old.rules url.now self.old.time (field.now ∷ []));
+          cookies =
+              with_writes self.old.cookies (cookies_from self.old.cookies.rules url.now self.old.time (field.now ∷ []));
         }) }
     {
         if let Some(raw) = read_set_cookie(alloc, field)? {
-            self.jar.store(&self.rules, url, self.time, raw)?;
+            self.cookies.store(url, self.time, raw)?;
         }
         Ok(())
     }

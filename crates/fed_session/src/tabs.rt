@@ -1,23 +1,24 @@
 //! The pages that stand, and the calls that were taken.
-ghost use Rattle.std.specs.Prelude.{◌≡◌, ◌<◌, [], nat_eq, is_some, true, false, cond, Some, None, IfOk, OnOk, OnErr, IfSome};
+ghost use Rattle.std.specs.Prelude.{◌≡◌, ◌<◌, ◌≤◌, ◌+◌, ◌*◌, length, [], nat_eq, is_some, true, false, cond, Some, None, IfOk, OnOk, OnErr, IfSome};
 ghost use Rattle.std.specs.Prelude.{option_copied, option_and_then};
 ghost use Rattle.fed_origin.specs.Origin.{same_origin};
 ghost use Rattle.std.specs.List.{list_any};
 ghost use Rattle.std.specs.Map.{lookup};
 ghost use Rattle.indexmap.specs.IndexMap.{insert_entry, shift_remove_entry};
 ghost use Rattle.fed_table.specs.Lists.{all_without, with_key, with_last, emptied, stands_in, total};
-ghost use Rattle.fed_table.specs.Table.{has_page, has_call, item_of, waiting_for, ChangesItem};
+ghost use Rattle.fed_table.specs.Table.{has_page, has_call, item_of, page_calls, waiting_for, node_in, ChangesItem, IsCallTable};
 ghost use Rattle.fed_trace.specs.Begun.{is_get};
 ghost use Rattle.fed_trace.specs.Call.{Known};
-ghost use Rattle.fed_session.specs.Session.{item_known};
+ghost use Rattle.fed_session.specs.Session.{item_known, no_table};
 ghost use Rattle.fed_session.specs.StepParts.{get_but, awaits, awaited_in};
-ghost use Rattle.fed_session.specs.Tabs.{ChangesGet, Ends, Begins, Enters, Stays, Leaves, GoesOn, waits_next};
+ghost use Rattle.fed_session.specs.Tabs.{ChangesGet, Ends, Begins, Enters, Stays, Waits, Leaves, GoesOn, waits_next};
 ghost use Rattle.fed_session.specs.StepParts as spec;
 
 use crate::calls::Kept;
 use crate::view::{shown_calls, shown_pages};
 use fed_entries::Entries;
 use fed_io::{Items, NoRoom, Steps};
+use fed_links::Links;
 use fed_origin::{Origin, Stage};
 use fed_table::Table;
 use indexmap::{IndexMap, IndexSet};
@@ -54,7 +55,7 @@ impl Model for Tabs {
 impl Tabs {
     /// No page and no call. It takes no memory.
     pub(crate) fn new(alloc: Global) -> Tabs
-        ensures { result ≡ record { pages = []; gets = []; taken = []; table = record { pages = []; waits = []; items = [] } } }
+        ensures { result ≡ record { pages = []; gets = []; taken = []; table = no_table } }
     {
         Tabs {
             pages: Entries::new(alloc),
@@ -95,7 +96,7 @@ impl Tabs {
     ) -> Result<(), NoRoom>
         ensures ok { OnOk result (Ends page (insert_entry nat_eq self.old.pages page origin)
             (with_key nat_eq page (emptied (nat_eq page) self.old.table.pages)) self.old self.new) }
-        ensures unticked { steps.new ≡ steps.old }
+        ensures steps { steps.new ≤ steps.old + (20 * length (page_calls self.old.table.pages page) + 8) }
     {
         self.end_calls(page, steps);
         let Some(changes) = self.changes.checked_add(1) else {
@@ -111,7 +112,7 @@ impl Tabs {
     pub(crate) fn close<L: Ledger>(&mut self, page: u32, steps: &mut Steps<L>)
         ensures tabs { Ends page (shift_remove_entry (nat_eq page) self.old.pages) (emptied (nat_eq page) self.old.table.pages)
             self.old self.new }
-        ensures unticked { steps.new ≡ steps.old }
+        ensures steps { steps.new ≤ steps.old + (20 * length (page_calls self.old.table.pages page) + 8) }
     {
         self.end_calls(page, steps);
         self.pages.remove(page);
@@ -120,7 +121,7 @@ impl Tabs {
     // A page's pending calls end.
     fn end_calls<L: Ledger>(&mut self, page: u32, steps: &mut Steps<L>)
         ensures tabs { Ends page self.old.pages (emptied (nat_eq page) self.old.table.pages) self.old self.new }
-        ensures unticked { steps.new ≡ steps.old }
+        ensures steps { steps.new ≤ steps.old + (20 * length (page_calls self.old.table.pages page) + 8) }
     {
         let _ = self.gets.swap_remove(&page);
         let _ = self.table.close_page(page, steps);
@@ -138,7 +139,7 @@ impl Tabs {
         requires fresh { list_any (nat_eq call) self.old.taken ≡ false }
         requires idle { awaited_in kept ≡ None }
         ensures ok { OnOk result (Begins page call kept self.old self.new) }
-        ensures unticked { steps.new ≡ steps.old }
+        ensures steps { steps.new ≤ steps.old + 20 }
     {
         if kept.page() == None {
             self.taken.insert(call)?;
@@ -159,7 +160,7 @@ impl Tabs {
         requires fresh { list_any (nat_eq call) self.old.taken ≡ false }
         requires idle { awaited_in kept ≡ None }
         ensures ok { OnOk result ((known : Known) → kept ≡ Some known → Enters page call known self.old self.new) }
-        ensures unticked { steps.new ≡ steps.old }
+        ensures steps { steps.new ≤ steps.old + 20 }
     {
         let Some(changes) = self.changes.checked_add(1) else {
             return Err(NoRoom);
@@ -197,7 +198,7 @@ impl Tabs {
         requires lent { item_of self.old.table.items call ≡ Some None }
         requires waits { stands_in call self.old.table.waits ≡ waited }
         ensures ok { OnOk result (GoesOn page call waited kept self.old self.new) }
-        ensures unticked { steps.new ≡ steps.old }
+        ensures steps { steps.new ≤ steps.old + 20 }
     {
         if kept.page() == None {
             self.leave(page, call, steps);
@@ -218,12 +219,8 @@ impl Tabs {
     ) -> Result<(), NoRoom>
         requires lent { item_of self.old.table.items call ≡ Some None }
         requires waits { stands_in call self.old.table.waits ≡ waited }
-        ensures ok { OnOk result (self.new ≡ record self.old {
-          table = record self.old.table {
-            waits = waits_next waited call (awaited_in kept.now) self.old.table.waits;
-          };
-        }) }
-        ensures unticked { steps.new ≡ steps.old }
+        ensures ok { OnOk result (Waits (waits_next waited call (awaited_in kept.now) self.old.table.waits) self.old self.new) }
+        ensures steps { steps.new ≤ steps.old + 20 }
     {
         match (waited, kept.waits_for()) {
             (false, Some(origin)) => self.wait(call, origin, steps),
@@ -244,12 +241,8 @@ impl Tabs {
     ) -> Result<(), NoRoom>
         requires lent { item_of self.old.table.items call ≡ Some None }
         requires idle { stands_in call self.old.table.waits ≡ false }
-        ensures ok { OnOk result (self.new ≡ record self.old {
-          table = record self.old.table {
-            waits = with_last same_origin origin.now call self.old.table.waits;
-          };
-        }) }
-        ensures unticked { steps.new ≡ steps.old }
+        ensures ok { OnOk result (Waits (with_last same_origin origin.now call self.old.table.waits) self.old self.new) }
+        ensures steps { steps.new ≤ steps.old + 20 }
     {
         let Some(changes) = self.changes.checked_add(1) else {
             return Err(NoRoom);
@@ -263,8 +256,8 @@ impl Tabs {
     fn unwait<L: Ledger>(&mut self, call: u32, steps: &mut Steps<L>)
         requires lent { item_of self.old.table.items call ≡ Some None }
         requires waits { stands_in call self.old.table.waits ≡ true }
-        ensures tabs { self.new ≡ record self.old { table = record self.old.table { waits = all_without call self.old.table.waits } } }
-        ensures unticked { steps.new ≡ steps.old }
+        ensures tabs { Waits (all_without call self.old.table.waits) self.old self.new }
+        ensures steps { steps.new ≤ steps.old + 20 }
     {
         self.table.unwait(call, steps);
     }
@@ -281,7 +274,7 @@ impl Tabs {
     // A call is no longer a pending call of its page.
     fn leave<L: Ledger>(&mut self, page: u32, call: u32, steps: &mut Steps<L>)
         ensures tabs { Leaves page call self.old self.new }
-        ensures unticked { steps.new ≡ steps.old }
+        ensures steps { steps.new ≤ steps.old + 20 }
     {
         let _ = self.table.drop_call(call, steps);
         drop_get(&mut self.gets, page, call);
@@ -292,6 +285,24 @@ impl Tabs {
         ensures { IfOk result (λ calls. calls ≡ waiting_for self.now.table.waits origin.now) }
     {
         self.table.waiting(alloc, origin)
+    }
+
+    /// The linked lists of the nodes of pending calls. It takes no memory.
+    pub(crate) fn links(&self) -> &Links
+        ensures links { result.now ≡ self.now.table.links }
+        ensures lists { IsCallTable self.now.table }
+    {
+        self.table.are_lists();
+        self.table.links()
+    }
+
+    /// The node of a call; `None` exactly where it is not pending. It takes no memory.
+    pub(crate) fn node_of(&self, call: u32) -> Option<u32>
+        ensures node { result ≡ node_in self.now.table.nodes call }
+        ensures lists { IsCallTable self.now.table }
+    {
+        self.table.are_lists();
+        self.table.node_of(call)
     }
 
     /// The pages that stand, with their origins, in order of entering.
@@ -324,7 +335,7 @@ fn add<L: Ledger>(
     ensures waits { table.new.waits ≡ table.old.waits }
     ensures items { OnOk result (ChangesItem call (Some (Some kept)) table.old.items table.new.items) }
     ensures err { OnErr result (table.new ≡ table.old) }
-    ensures unticked { steps.new ≡ steps.old }
+    ensures steps { steps.new ≤ steps.old + 20 }
 {
     match table.add(page, call, kept, steps) {
         Ok(()) => Ok(()),

@@ -1,3 +1,5 @@
+pub mod mapped
 pub mod found
-pub mod homes
+pub mod owned
+pub mod listed
 pub mod closing

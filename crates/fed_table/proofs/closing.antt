@@ -1,2 +1,3 @@
--- One call less of a page that closes.
+-- Closing a page.
+pub mod Counts
 pub mod Turns

@@ -1,3 +1,2 @@
--- What is found, and what changes, by the place of a list and by its key.
-pub mod Places
+-- What is found, and what changes, by the places of calls.
 pub mod Items

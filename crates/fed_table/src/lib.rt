@@ -2,7 +2,8 @@
 #![tactic(auto)]
 
 mod calls;
-mod lists;
+mod keys;
+mod owners;
 mod place;
 mod table;
 #[cfg(test)]

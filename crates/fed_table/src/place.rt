@@ -3,16 +3,14 @@ ghost use Rattle.std.specs.Prelude.{◌≡◌, ◌<◌, nat_eq, Some, None, opti
 ghost use Rattle.std.specs.Map.{lookup, set_value};
 ghost use Rattle.std.specs.Option.{option_map_or};
 ghost use Rattle.indexmap.specs.IndexMap.{spare};
-ghost use Rattle.fed_table.specs.Kept.{origin_index, with_item, with_origin, ChangesPlace};
+ghost use Rattle.fed_table.specs.Kept.{place_node, with_item, ChangesPlace};
 
 use indexmap::IndexMap;
 
-/// Where a call stands: the place of its page, and of the origin for which it waits, if it does. Its item is none while it is
-/// lent out.
+/// Where a call stands: its node. Its item is none while it is lent out.
 #[derive(Drop)]
 pub struct CallPlace<C> {
-    pub page: usize,
-    pub origin: Option<usize>,
+    pub node: u32,
     pub item: Option<C>,
 }
 
@@ -45,12 +43,12 @@ pub fn item<C>(places: &CallPlaces<C>, call: u32) -> Option<&C>
     }
 }
 
-/// The place of the origin for which a call waits.
-pub fn origin<C>(places: &CallPlaces<C>, call: u32) -> Option<usize>
-    ensures { result ≡ origin_index places.now.entries call }
+/// The node of a call.
+pub fn node<C>(places: &CallPlaces<C>, call: u32) -> Option<u32>
+    ensures { result ≡ place_node places.now.entries call }
 {
     match places.get(&call) {
-        Some(place) => place.origin,
+        Some(place) => Some(place.node),
         None => None,
     }
 }
@@ -60,6 +58,8 @@ pub fn lend<C: Drop>(places: &mut CallPlaces<C>, call: u32) -> Option<C>
     ensures item { result ≡ option_and_then (λ place. place.item) (lookup (nat_eq call) places.old.entries) }
     ensures places { ChangesPlace call (option_map (with_item None) (lookup (nat_eq call) places.old.entries)) places.old.entries
         places.new.entries }
+    ensures entries { places.new.entries ≡ option_map_or (λ place. set_value (nat_eq call) places.old.entries (with_item None place))
+        (lookup (nat_eq call) places.old.entries) places.old.entries }
 {
     match places.get_mut(&call) {
         Some(place) => place.item.take(),
@@ -69,22 +69,13 @@ pub fn lend<C: Drop>(places: &mut CallPlaces<C>, call: u32) -> Option<C>
 
 /// Puts the item of a call that is there; the call stays where it stands.
 pub fn give_back<C: Drop>(places: &mut CallPlaces<C>, call: u32, item: C)
-    ensures { ChangesPlace call (option_map (with_item (Some item)) (lookup (nat_eq call) places.old.entries)) places.old.entries
+    ensures places { ChangesPlace call (option_map (with_item (Some item)) (lookup (nat_eq call) places.old.entries)) places.old.entries
         places.new.entries }
+    ensures entries { places.new.entries
+        ≡ option_map_or (λ place. set_value (nat_eq call) places.old.entries (with_item (Some item) place))
+        (lookup (nat_eq call) places.old.entries) places.old.entries }
 {
     if let Some(place) = places.get_mut(&call) {
         place.item = Some(item);
-    }
-}
-
-/// A call that is there waits at this place, or nowhere; its page and its item stay.
-pub fn set_origin<C>(places: &mut CallPlaces<C>, call: u32, origin: Option<usize>)
-    ensures entries { places.new.entries ≡ option_map_or (λ place. set_value (nat_eq call) places.old.entries (with_origin origin place))
-        (lookup (nat_eq call) places.old.entries) places.old.entries }
-    ensures places { ChangesPlace call (option_map (with_origin origin) (lookup (nat_eq call) places.old.entries)) places.old.entries
-        places.new.entries }
-{
-    if let Some(place) = places.get_mut(&call) {
-        place.origin = origin;
     }
 }

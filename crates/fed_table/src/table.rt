@@ -1,20 +1,20 @@
 //! The table of pages and pending calls.
-ghost use Rattle.std.specs.Prelude.{◌≡◌, ◌<◌, ◌≤◌, ◌+◌, ◌*◌, ◌++◌, [], ◌∷◌, nat_eq, length, true};
+ghost use Rattle.std.specs.Prelude.{◌≡◌, ◌<◌, ◌≤◌, ◌+◌, ◌*◌, ◌++◌, [], ◌∷◌, nat_eq, length, true, position};
 ghost use Rattle.std.specs.Prelude.{false, Some, None, slice_get, OnOk, OnErr, IfOk, IfErr};
+ghost use Rattle.std.specs.List.{list_any};
+ghost use Rattle.std.specs.Map.{keys_of};
 ghost use Rattle.std.specs.Option.{option_copied};
-ghost use Rattle.indexmap.specs.IndexMap.{spare};
 ghost use Rattle.fed_origin.specs.Origin.{same_origin};
-ghost use Rattle.fed_table.specs.Kept.{changed_at};
 ghost use Rattle.fed_table.specs.Lists.{all_without, all_without_calls, stands_in, next_in, with_key, with_last, emptied, total};
-ghost use Rattle.fed_table.specs.Table.{has_page, page_calls, waiting_for, item_of, has_call, present_item, lent_out};
+ghost use Rattle.fed_table.specs.Table.{has_page, page_calls, waiting_for, item_of, has_call, present_item, lent_out, node_in};
 ghost use Rattle.fed_table.specs.Table.{ChangesItem, LosesItems, IsCallTable};
 
-use crate::calls::CallList;
-use crate::lists;
-use crate::place::{self, CallPlace, CallPlaces};
+use crate::calls::Calls;
+use crate::keys::{place_of, put};
 use fed_io::{Items, NoRoom, Steps};
+use fed_links::Links;
 use fed_origin::Origin;
-use indexmap::IndexMap;
+use indexmap::IndexSet;
 use std::alloc::Global;
 use std::marker::Model;
 use std::sync::ledger::Ledger;
@@ -23,9 +23,11 @@ use std::sync::ledger::Ledger;
 /// an item for each call, which is present or lent out.
 #[derive(Drop)]
 pub struct Table<C> {
-    pages: IndexMap<u32, CallList>,
-    waits: IndexMap<Origin, CallList>,
-    places: CallPlaces<C>,
+    /// The place of a page is the number of its list.
+    pages: IndexSet<u32>,
+    /// The place of an origin is the number of its list.
+    origins: IndexSet<Origin>,
+    calls: Calls<C>,
     alloc: Global,
 }
 
@@ -34,22 +36,28 @@ impl<C> Model for Table<C> {
 
     ghost Value = { TableParts C };
 
-    ghost use Rattle.fed_table.specs.Kept.{AreKept, items_in};
+    ghost use Rattle.fed_table.specs.Kept.{AreListed, table_shown};
 
-    ghost view = { λ t. record { pages = t.pages.entries; waits = t.waits.entries; items = items_in t.places.entries } };
+    ghost view = { λ t. table_shown t.pages.keys t.origins.keys t.calls };
 
-    ghost invariant = { λ t. AreKept t.pages.entries t.waits.entries t.places.entries };
+    ghost invariant = { λ t. AreListed t.pages.keys t.origins.keys t.calls };
 }
 
 impl<C: Drop> Table<C> {
     /// No page and no call. It takes no memory.
     pub fn new(alloc: Global) -> Table<C>
-        ensures { result ≡ record { pages = []; waits = []; items = [] } }
+        ensures { result ≡ record {
+          pages = [];
+          waits = [];
+          items = [];
+          links = record { pages = []; waits = []; free = []; spare = 0 };
+          nodes = [];
+        } }
     {
         Table {
-            pages: IndexMap::new(alloc),
-            waits: IndexMap::new(alloc),
-            places: IndexMap::new(alloc),
+            pages: IndexSet::new(alloc),
+            origins: IndexSet::new(alloc),
+            calls: Calls::new(alloc),
             alloc,
         }
     }
@@ -58,22 +66,25 @@ impl<C: Drop> Table<C> {
     pub fn are_lists(&self)
         ensures { IsCallTable self.now }
     {
+        self.calls.are_calls();
         let _ = self.pages.len();
-        let _ = self.waits.len();
+        let _ = self.origins.len();
     }
 
     /// Adds a page. One that was added before keeps its place and its calls; a new one goes last, with no calls. On want of
     /// memory nothing changes.
     pub fn add_page(&mut self, page: u32) -> Result<(), NoRoom>
         requires { length self.old.pages < 4294967295 }
-        ensures ok { OnOk result (self.new ≡ record self.old { pages = with_key nat_eq page self.old.pages }) }
+        ensures pages { OnOk result (self.new.pages ≡ with_key nat_eq page self.old.pages) }
+        ensures waits { self.new.waits ≡ self.old.waits }
+        ensures items { self.new.items ≡ self.old.items }
+        ensures nodes { self.new.nodes ≡ self.old.nodes }
         ensures err { OnErr result (self.new ≡ self.old) }
     {
-        if self.pages.contains_key(&page) {
-            return Ok(());
+        match place_of(&self.pages, &page) {
+            Some(_) => Ok(()),
+            None => enter_page(&mut self.pages, &mut self.calls, page),
         }
-        self.pages.insert(page, CallList::new(self.alloc))?;
-        Ok(())
     }
 
     /// Adds a call with its item, last in the list of its page. On want of memory nothing changes, and the item comes back.
@@ -97,32 +108,19 @@ impl<C: Drop> Table<C> {
         ensures err { OnErr result (self.new ≡ self.old) }
         ensures item_returned { IfErr result (λ e. e.1 ≡ item) }
 
-        // No link is read or written yet.
         ensures steps { steps.new ≤ steps.old + 20 }
-        ensures unticked { steps.new ≡ steps.old }
     {
-        let Some(place) = self.pages.get_index_of(&page) else {
+        let Some(list) = place_of(&self.pages, &page) else {
             return Err((NoRoom, item));
         };
-        match make_room(&mut self.pages, &mut self.places, place, call) {
-            Ok(()) => {
-                let place = CallPlace {
-                    page: place,
-                    origin: None,
-                    item: Some(item),
-                };
-                place::put(&mut self.places, call, place);
-                Ok(())
-            }
-            Err(NoRoom) => Err((NoRoom, item)),
-        }
+        self.calls.add(list, call, item, steps)
     }
 
     /// The present item of a call; `None` exactly where there is none. It takes no memory.
     pub fn get(&self, call: u32) -> Option<&C>
         ensures value { option_copied result ≡ present_item self.now.items call }
     {
-        place::item(&self.places, call)
+        self.calls.get(call)
     }
 
     /// Hands the present item of a call out; `None` exactly where there is none. It takes no memory.
@@ -131,8 +129,10 @@ impl<C: Drop> Table<C> {
         ensures items { ChangesItem call (lent_out (item_of self.old.items call)) self.old.items self.new.items }
         ensures pages { self.new.pages ≡ self.old.pages }
         ensures waits { self.new.waits ≡ self.old.waits }
+        ensures links { self.new.links ≡ self.old.links }
+        ensures nodes { self.new.nodes ≡ self.old.nodes }
     {
-        place::lend(&mut self.places, call)
+        self.calls.lend(call)
     }
 
     /// Makes the item of a call present again, which was lent out. It takes no memory.
@@ -141,8 +141,10 @@ impl<C: Drop> Table<C> {
         ensures items { ChangesItem call (Some (Some item)) self.old.items self.new.items }
         ensures pages { self.new.pages ≡ self.old.pages }
         ensures waits { self.new.waits ≡ self.old.waits }
+        ensures links { self.new.links ≡ self.old.links }
+        ensures nodes { self.new.nodes ≡ self.old.nodes }
     {
-        place::give_back(&mut self.places, call, item);
+        self.calls.give_back(call, item);
     }
 
     /// The first call of a page that was added; `None` exactly where it has none. It takes no memory.
@@ -150,19 +152,21 @@ impl<C: Drop> Table<C> {
         requires { has_page self.now.pages page ≡ true }
         ensures value { result ≡ slice_get (page_calls self.now.pages page) 0 }
     {
-        self.first_of(page)
+        match place_of(&self.pages, &page) {
+            Some(list) => self.first_at(page, list),
+            None => None,
+        }
     }
 
-    // The first call of a page, none where it was not added.
-    fn first_of(&self, page: u32) -> Option<u32>
+    // The first call of the page whose list has this number.
+    fn first_at(&self, page: u32, list: u32) -> Option<u32>
+        requires { position (nat_eq page) (keys_of self.now.pages) ≡ Some list }
         ensures value { result ≡ slice_get (page_calls self.now.pages page) 0 }
         ensures lists { IsCallTable self.now }
     {
+        let _ = page;
         self.are_lists();
-        match self.pages.get(&page) {
-            Some(calls) => calls.first(),
-            None => None,
-        }
+        self.calls.first(list)
     }
 
     /// The call after a call in the list of its page; `None` exactly where it is the last. It takes no memory.
@@ -170,10 +174,7 @@ impl<C: Drop> Table<C> {
         requires { has_call self.now.items call ≡ true }
         ensures value { result ≡ next_in call self.now.pages }
     {
-        match self.places.get(&call) {
-            Some(place) => lists::after(&self.pages, place.page, call),
-            None => None,
-        }
+        self.calls.next(call)
     }
 
     /// A call that does not wait yet waits for an origin from now on, last in its list. On want of memory nothing changes.
@@ -186,38 +187,46 @@ impl<C: Drop> Table<C> {
         requires call { has_call self.old.items call ≡ true }
         requires idle { stands_in call self.old.waits ≡ false }
         requires few { length self.old.waits < 4294967295 }
-        ensures ok { OnOk result (self.new ≡ record self.old { waits = with_last same_origin origin.now call self.old.waits }) }
+        ensures pages { self.new.pages ≡ self.old.pages }
+        ensures waits { OnOk result (self.new.waits ≡ with_last same_origin origin.now call self.old.waits) }
+        ensures items { self.new.items ≡ self.old.items }
+        ensures nodes { self.new.nodes ≡ self.old.nodes }
         ensures err { OnErr result (self.new ≡ self.old) }
 
-        // No link is read or written yet.
         ensures steps { steps.new ≤ steps.old + 20 }
-        ensures unticked { steps.new ≡ steps.old }
     {
-        let place = lists::enter(&mut self.waits, self.alloc, origin, call)?;
-        place::set_origin(&mut self.places, call, Some(place));
-        Ok(())
+        match place_of(&self.origins, origin) {
+            Some(list) => {
+                self.calls.wait(call, list, steps);
+                Ok(())
+            }
+            None => {
+                let list = enter_origin(&mut self.origins, &mut self.calls, self.alloc, origin)?;
+                self.calls.wait(call, list, steps);
+                Ok(())
+            }
+        }
     }
 
     /// A call that waits does so no longer. It takes no memory.
     pub fn unwait<L: Ledger>(&mut self, call: u32, steps: &mut Steps<L>)
         requires { stands_in call self.old.waits ≡ true }
-        ensures value { self.new ≡ record self.old { waits = all_without call self.old.waits } }
+        ensures pages { self.new.pages ≡ self.old.pages }
+        ensures waits { self.new.waits ≡ all_without call self.old.waits }
+        ensures items { self.new.items ≡ self.old.items }
+        ensures nodes { self.new.nodes ≡ self.old.nodes }
 
-        // No link is read or written yet.
         ensures steps { steps.new ≤ steps.old + 20 }
-        ensures unticked { steps.new ≡ steps.old }
     {
-        let origin = place::origin(&self.places, call);
-        lists::take_out_where(&mut self.waits, origin, call);
-        place::set_origin(&mut self.places, call, None);
+        self.calls.unwait(call, steps);
     }
 
     /// The first call that waits for an origin; `None` exactly where none does. It takes no memory.
     pub fn first_waiting(&self, origin: &Origin) -> Option<u32>
         ensures value { result ≡ slice_get (waiting_for self.now.waits origin.now) 0 }
     {
-        match self.waits.get(origin) {
-            Some(calls) => calls.first(),
+        match place_of(&self.origins, origin) {
+            Some(list) => self.calls.first_waiting(list),
             None => None,
         }
     }
@@ -226,8 +235,8 @@ impl<C: Drop> Table<C> {
     pub fn waiting(&self, alloc: Global, origin: &Origin) -> Result<Items<u32>, NoRoom>
         ensures value { IfOk result (λ calls. calls ≡ waiting_for self.now.waits origin.now) }
     {
-        match self.waits.get(origin) {
-            Some(calls) => calls.list(alloc),
+        match place_of(&self.origins, origin) {
+            Some(list) => self.calls.waiting(alloc, list),
             None => Ok(Items::new(alloc)),
         }
     }
@@ -237,10 +246,7 @@ impl<C: Drop> Table<C> {
         requires { stands_in call self.now.waits ≡ true }
         ensures value { result ≡ next_in call self.now.waits }
     {
-        match place::origin(&self.places, call) {
-            Some(origin) => lists::after(&self.waits, origin, call),
-            None => None,
-        }
+        self.calls.next_waiting(call)
     }
 
     /// A call leaves the table, with its item; `None` exactly where its item was lent out or it was not there. It takes no
@@ -251,16 +257,9 @@ impl<C: Drop> Table<C> {
         ensures waits { self.new.waits ≡ all_without call self.old.waits }
         ensures items { ChangesItem call None self.old.items self.new.items }
 
-        // No link is read or written yet.
         ensures steps { steps.new ≤ steps.old + 20 }
-        ensures unticked { steps.new ≡ steps.old }
     {
-        let Some(place) = place::take(&mut self.places, call) else {
-            return None;
-        };
-        lists::take_out(&mut self.pages, place.page, call);
-        lists::take_out_where(&mut self.waits, place.origin, call);
-        place.item
+        self.calls.drop_call(call, steps)
     }
 
     /// Every call of a page leaves the table, and their number is answered. It takes no memory.
@@ -270,33 +269,81 @@ impl<C: Drop> Table<C> {
         ensures waits { self.new.waits ≡ all_without_calls (page_calls self.old.pages page) self.old.waits }
         ensures items { LosesItems (page_calls self.old.pages page) self.old.items self.new.items }
 
-        // No link is read or written yet.
         ensures steps { steps.new ≤ steps.old + (20 * length (page_calls self.old.pages page) + 8) }
-        ensures unticked { steps.new ≡ steps.old }
     {
         self.are_lists();
+        let Some(list) = place_of(&self.pages, &page) else {
+            return 0;
+        };
         let mut count = 0;
-        while let Some(call) = self.first_of(page) {
+        while let Some(call) = self.first_at(page, list) {
             let _ = self.drop_call(call, steps);
             count += 1;
         }
         count
     }
+
+    /// The linked lists of the nodes. It takes no memory.
+    pub fn links(&self) -> &Links
+        ensures { result.now ≡ self.now.links }
+    {
+        self.calls.links()
+    }
+
+    /// The node of a call; `None` exactly where it is not in the table. It takes no memory.
+    pub fn node_of(&self, call: u32) -> Option<u32>
+        ensures { result ≡ node_in self.now.nodes call }
+    {
+        self.calls.node_of(call)
+    }
 }
 
-// The call goes last in the list of its page, and there is room for its place. On want of memory nothing changes.
-fn make_room<C: Drop>(
-    pages: &mut IndexMap<u32, CallList>,
-    places: &mut CallPlaces<C>,
-    page: usize,
-    call: u32,
+// A new page comes last, with an empty list. On want of memory nothing changes.
+fn enter_page<C: Drop>(
+    pages: &mut IndexSet<u32>,
+    calls: &mut Calls<C>,
+    page: u32,
 ) -> Result<(), NoRoom>
-    requires { page < length pages.old.entries }
-    ensures ok { OnOk result (pages.new.entries ≡ changed_at (λ calls. calls ++ call ∷ []) page pages.old.entries) }
-    ensures spare { OnOk result (0 < spare places.new) }
-    ensures err { OnErr result (pages.new.entries ≡ pages.old.entries) }
-    ensures places { places.new.entries ≡ places.old.entries }
+    requires few { length pages.old.keys < 4294967295 }
+    requires new { list_any (nat_eq page) pages.old.keys ≡ false }
+    requires lists { length pages.old.keys ≡ length calls.old.pages }
+    ensures keys { OnOk result (pages.new.keys ≡ pages.old.keys ++ page ∷ []) }
+    ensures pages { OnOk result (calls.new.pages ≡ calls.old.pages ++ [] ∷ []) }
+    ensures waits { calls.new.waits ≡ calls.old.waits }
+    ensures items { calls.new.items ≡ calls.old.items }
+    ensures nodes { calls.new.nodes ≡ calls.old.nodes }
+    ensures err { OnErr result (calls.new ≡ calls.old) }
+    ensures err_keys { OnErr result (pages.new.keys ≡ pages.old.keys) }
 {
-    places.reserve(1)?;
-    lists::push(pages, page, call)
+    pages.reserve(1)?;
+    calls.add_page_list(pages.len() as u32 + 1)?;
+    put(pages, page);
+    Ok(())
+}
+
+// A new origin comes last, with an empty list, whose number is answered. On want of memory nothing changes.
+fn enter_origin<C: Drop>(
+    origins: &mut IndexSet<Origin>,
+    calls: &mut Calls<C>,
+    alloc: Global,
+    origin: &Origin,
+) -> Result<u32, NoRoom>
+    requires few { length origins.old.keys < 4294967295 }
+    requires new { list_any (same_origin origin.now) origins.old.keys ≡ false }
+    requires lists { length origins.old.keys ≡ length calls.old.waits }
+    ensures keys { OnOk result (origins.new.keys ≡ origins.old.keys ++ origin.now ∷ []) }
+    ensures list { IfOk result (λ list. list ≡ length origins.old.keys) }
+    ensures pages { calls.new.pages ≡ calls.old.pages }
+    ensures waits { OnOk result (calls.new.waits ≡ calls.old.waits ++ [] ∷ []) }
+    ensures items { calls.new.items ≡ calls.old.items }
+    ensures nodes { calls.new.nodes ≡ calls.old.nodes }
+    ensures err { OnErr result (calls.new ≡ calls.old) }
+    ensures err_keys { OnErr result (origins.new.keys ≡ origins.old.keys) }
+{
+    let origin = origin.copy(alloc)?;
+    origins.reserve(1)?;
+    let list = origins.len() as u32;
+    calls.add_waiting_list(list + 1)?;
+    put(origins, origin);
+    Ok(list)
 }

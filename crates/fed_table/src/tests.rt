@@ -199,3 +199,43 @@ fn a_call_that_waits_again_stands_last(rt: HostRuntime) -> Result<(), Fail> {
     assert_eq!(rt; found, [Some(11), Some(10), None, Some(10)]);
     Ok(())
 }
+
+// The nodes of calls 10, 11 and 20, and that of call 10 once it is dropped; then that of a call that comes.
+fn fill_and_number<L: Ledger>(
+    table: &mut Table<Item>,
+    steps: &mut Steps<L>,
+) -> Result<[Option<u32>; 5], NoRoom>
+    requires pages { table.old.pages ≡ [] }
+    requires waits { table.old.waits ≡ [] }
+{
+    fill(table, steps)?;
+    let first = table.node_of(10);
+    let second = table.node_of(11);
+    let other = table.node_of(20);
+    let _ = table.drop_call(10, steps);
+    let gone = table.node_of(10);
+    table.are_lists();
+    put(table, 2, 21, steps)?;
+    let _ = table.links();
+    Ok([first, second, other, gone, table.node_of(21)])
+}
+
+fn numbering<L: Ledger>(alloc: Global, blank: Blank) -> Result<[Option<u32>; 5], NoRoom>
+    requires name { blank.name ≡ L.name }
+    requires parts { blank.parts ≡ L.parts }
+    requires some { 0 < L.parts }
+{
+    let mut steps: Steps<L> = Steps::new(blank);
+    let mut table = Table::new(alloc);
+    fill_and_number(&mut table, &mut steps)
+}
+
+#[test]
+fn a_call_has_a_node_of_its_own(rt: HostRuntime) -> Result<(), Fail> {
+    let [first, second, other, gone, next] = numbering::<Brand>(rt.alloc(), Blank::new(1))?;
+    assert!(rt; first.is_some() && second.is_some() && other.is_some() && next.is_some());
+    assert!(rt; first != second && first != other && second != other);
+    assert!(rt; next != second && next != other);
+    assert_eq!(rt; gone, None);
+    Ok(())
+}

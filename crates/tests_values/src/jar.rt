@@ -1,13 +1,11 @@
 //! The jar on worked examples, each a list of steps, and a table of what is stored.
-use fed_cookie::read_set_cookie;
-use fed_jar::{Cookie, Jar};
+use crate::filled::{Filled, NOW};
+use fed_jar::{Cookie, Numbered};
 use fed_origin::WebUrl;
 use fed_suffix::Suffixes;
 use std::alloc::{AllocError, Global};
 use std::process::Abort;
 use std::test::Fail;
-
-const NOW: u64 = 1700000000;
 
 // A cookie under a nested suffix names the registrable domain of the other suffix.
 const NESTED_SUFFIX: &str =
@@ -28,9 +26,14 @@ store | https://accounts.idp.example/login/start | a=5; Path=/; SameSite=None; S
 text | 0 | https://accounts.idp.example/accounts | b=2; a=5; d=4
 list | idp.example | a=5 /;b=2 /accounts;c=3 /;d=4 /;e=6 /login;
 all | - | a=5 /;b=2 /accounts;c=3 /;d=4 /;e=6 /login;
+numbers | idp.example | a=5 /;0 b=2 /accounts;1 c=3 /;2 d=4 /;3 e=6 /login;4 
 store | https://other.example/ | o=1 | yes
-list | idp.example | a=5 /;b=2 /accounts;c=3 /;d=4 /;e=6 /login;
-all | - | a=5 /;b=2 /accounts;c=3 /;d=4 /;e=6 /login;o=1 /;";
+store | https://idp.example/ | n=1 | yes
+list | idp.example | a=5 /;b=2 /accounts;c=3 /;d=4 /;e=6 /login;n=1 /;
+all | - | a=5 /;b=2 /accounts;c=3 /;d=4 /;e=6 /login;o=1 /;n=1 /;
+numbers | idp.example | a=5 /;0 b=2 /accounts;1 c=3 /;2 d=4 /;3 e=6 /login;4 n=1 /;6 
+numbers | other.example | o=1 /;5 
+numbers | accounts.idp.example | none";
 
 // Max-Age counts before Expires, and an expired cookie keeps its place.
 const EXPIRY: &str =
@@ -85,24 +88,21 @@ fn rules_of(alloc: Global, list: &str) -> Result<Suffixes, Fail> {
     Ok(rules)
 }
 
-// Whether the field of a page is stored.
-fn stores(
-    jar: &mut Jar,
-    alloc: Global,
-    rules: &Suffixes,
-    url: &str,
-    field: &[u8],
-) -> Result<bool, Fail> {
-    let url = WebUrl::read(alloc, url)?;
-    let raw = read_set_cookie(alloc, field)?.ok_or("no cookie")?;
-    Ok(jar.store(rules, &url, NOW, raw)?)
-}
-
 // Names, values and paths.
 fn shown(alloc: Global, cookies: &[Cookie]) -> Result<Vec<u8>, Fail> {
     let mut text = Vec::new(alloc);
     for cookie in cookies {
         add(&mut text, &cookie.copy(alloc)?)?;
+    }
+    Ok(text)
+}
+
+// The same, each with its number.
+fn numbered(alloc: Global, list: &[Numbered]) -> Result<Vec<u8>, Fail> {
+    let mut text = Vec::new(alloc);
+    for one in list {
+        add(&mut text, &one.cookie)?;
+        text.extend_from_slice(format!(in alloc; "{} ", one.number)?.as_bytes())?;
     }
     Ok(text)
 }
@@ -122,25 +122,19 @@ fn parts(step: &str) -> Result<(&str, &str), Fail> {
     Ok(step.split_once(" | ").ok_or("a step")?)
 }
 
-fn store_step(
-    rt: &impl Abort,
-    jar: &mut Jar,
-    alloc: Global,
-    rules: &Suffixes,
-    step: &str,
-) -> Result<(), Fail> {
+fn store_step(rt: &impl Abort, jar: &mut Filled, alloc: Global, step: &str) -> Result<(), Fail> {
     let (url, more) = parts(step)?;
     let (field, answer) = parts(more)?;
-    let is_stored = stores(jar, alloc, rules, url, field.as_bytes())?;
+    let is_stored = jar.store(alloc, url, field.as_bytes())?;
     assert_eq!(rt; is_stored, answer == "yes", "{step}");
     Ok(())
 }
 
-fn alone_step(rt: &impl Abort, alloc: Global, rules: &Suffixes, step: &str) -> Result<(), Fail> {
+fn alone_step(rt: &impl Abort, alloc: Global, list: &str, step: &str) -> Result<(), Fail> {
     let (url, more) = parts(step)?;
     let (field, scope) = parts(more)?;
-    let mut jar = Jar::new(alloc);
-    let is_stored = stores(&mut jar, alloc, rules, url, field.as_bytes())?;
+    let mut jar = Filled::new(alloc, rules_of(alloc, list)?);
+    let is_stored = jar.store(alloc, url, field.as_bytes())?;
     assert_eq!(rt; is_stored, scope != "no", "{step}");
     for cookie in jar.list(alloc)?.iter() {
         assert_eq!(rt; cookie.host_only, scope == "host", "{step}");
@@ -148,55 +142,53 @@ fn alone_step(rt: &impl Abort, alloc: Global, rules: &Suffixes, step: &str) -> R
     Ok(())
 }
 
-fn text_step(
-    rt: &impl Abort,
-    jar: &Jar,
-    alloc: Global,
-    rules: &Suffixes,
-    step: &str,
-) -> Result<(), Fail> {
+// A text that is wanted, where `none` stands for the empty one.
+fn wanted_text(word: &str) -> &[u8] {
+    if word == "none" {
+        return b"".as_slice();
+    }
+    word.as_bytes()
+}
+
+fn text_step(rt: &impl Abort, jar: &Filled, alloc: Global, step: &str) -> Result<(), Fail> {
     let (later, more) = parts(step)?;
     let (url, wanted) = parts(more)?;
     let url = WebUrl::read(alloc, url)?;
     let now = NOW.saturating_add(later.parse::<u64>().unwrap_or(0));
-    let text = jar.cookie_text(alloc, rules, &url, now)?;
-    let wanted = if wanted == "none" {
-        b"".as_slice()
-    } else {
-        wanted.as_bytes()
-    };
-    assert_eq!(rt; text.as_slice(), wanted, "{step}");
+    let text = jar.text(alloc, &url, now)?;
+    assert_eq!(rt; text.as_slice(), wanted_text(wanted), "{step}");
     Ok(())
 }
 
-fn list_step(
-    rt: &impl Abort,
-    jar: &Jar,
-    alloc: Global,
-    rules: &Suffixes,
-    step: &str,
-) -> Result<(), Fail> {
+fn list_step(rt: &impl Abort, jar: &Filled, alloc: Global, step: &str) -> Result<(), Fail> {
     let (party, wanted) = parts(step)?;
     let list = if party == "-" {
         jar.list(alloc)?
     } else {
-        jar.list_of(alloc, rules, party.as_bytes())?
+        jar.list_of(alloc, party.as_bytes())?
     };
     let text = shown(alloc, list.as_slice())?;
     assert_eq!(rt; text.as_slice(), wanted.as_bytes(), "{step}");
     Ok(())
 }
 
+fn number_step(rt: &impl Abort, jar: &Filled, alloc: Global, step: &str) -> Result<(), Fail> {
+    let (party, wanted) = parts(step)?;
+    let text = numbered(alloc, jar.of_party(party.as_bytes()))?;
+    assert_eq!(rt; text.as_slice(), wanted_text(wanted), "{step}");
+    Ok(())
+}
+
 fn follows(rt: &impl Abort, alloc: Global, list: &str, steps: &str) -> Result<(), Fail> {
-    let rules = rules_of(alloc, list)?;
-    let mut jar = Jar::new(alloc);
+    let mut jar = Filled::new(alloc, rules_of(alloc, list)?);
     for line in steps.split('\n') {
         let (word, step) = parts(line)?;
         match word {
-            "store" => store_step(rt, &mut jar, alloc, &rules, step)?,
-            "alone" => alone_step(rt, alloc, &rules, step)?,
-            "text" => text_step(rt, &jar, alloc, &rules, step)?,
-            _ => list_step(rt, &jar, alloc, &rules, step)?,
+            "store" => store_step(rt, &mut jar, alloc, step)?,
+            "alone" => alone_step(rt, alloc, list, step)?,
+            "text" => text_step(rt, &jar, alloc, step)?,
+            "numbers" => number_step(rt, &jar, alloc, step)?,
+            _ => list_step(rt, &jar, alloc, step)?,
         }
     }
     Ok(())
@@ -224,19 +216,12 @@ fn stored_fields(rt: HostRuntime) -> Result<(), Fail> {
 
 // Whether a cookie whose name and value have so many bytes together is stored.
 fn stores_bytes(alloc: Global, count: usize) -> Result<bool, Fail> {
-    let rules = Suffixes::new(alloc);
-    let mut jar = Jar::new(alloc);
+    let mut jar = Filled::new(alloc, Suffixes::new(alloc));
     let mut field = b"name=".to_vec(alloc)?;
     for _ in 4..count {
         field.push(b'v')?;
     }
-    stores(
-        &mut jar,
-        alloc,
-        &rules,
-        "https://a.example/",
-        field.as_slice(),
-    )
+    jar.store(alloc, "https://a.example/", field.as_slice())
 }
 
 #[test]

@@ -5,6 +5,8 @@ pub mod callers;
 #[cfg(test)]
 mod cookie;
 #[cfg(test)]
+mod filled;
+#[cfg(test)]
 mod jar;
 #[cfg(test)]
 mod origin;

@@ -57,6 +57,24 @@ pub stored_party : (rules : RuleSet) (url : Parts) (raw : SetCookie) (only : Boo
     → party rules (unwrap_or raw.domain (host_of url)) ≡ party rules (host_of url)
 stored_party rules url raw only e = named_party rules (host_of url) raw.domain only (taken _ only _ e)
 
+-- the same of the cookie that a field writes
+pub from_party : (rules : RuleSet) (url : Parts) (now : ℕ) (raw : SetCookie) (only : Bool) (cookie : StoredCookie)
+    → scope_of rules url raw ≡ Some only → cookie ≡ cookie_from url now raw only → party rules cookie.domain ≡ party rules (host_of url)
+unfolding cookie_from
+from_party rules url now raw only cookie e is = ap (λ c. party rules c.domain) is ∙ stored_party rules url raw only e
+
+one_cookie : (a b : StoredCookie) → Some a ≡ Some b → b ≡ a
+one_cookie a b e = cc
+
+pub written_party : (rules : RuleSet) (url : Parts) (now : ℕ) (raw : SetCookie) (cookie : StoredCookie)
+    → cookie_of rules url now raw ≡ Some cookie → party rules cookie.domain ≡ party rules (host_of url)
+written_party rules url now raw cookie e = go (scope_of rules url raw) refl e
+  where
+    go : (o : Option Bool) → scope_of rules url raw ≡ o → option_map (cookie_from url now raw) o ≡ Some cookie
+        → party rules cookie.domain ≡ party rules (host_of url)
+    go None s e = absurd (cc)
+    go (Some only) s e = from_party rules url now raw only cookie s (one_cookie _ _ e)
+
 -- a cookie of another party is out such one
 pub of_other : (rules : RuleSet) (name host : List ℕ) (cookie : StoredCookie) → party rules cookie.domain ≡ party rules host
     → (name ≡ party rules host → ⊥) → is_of_party rules name cookie ≡ false
@@ -116,7 +134,7 @@ sent_party rules url now cookie e =
     same_bytes _ _ (goes_party rules (host_of url) cookie cookie.host_only (both_true _ _ e).1)
 
 -- a filter of a filter, where what passes the one passes the other
-filter_within : (p q : StoredCookie → Bool) → ((c : StoredCookie) → p c ≡ true → q c ≡ true) → (cs : List StoredCookie)
+pub filter_within : (p q : StoredCookie → Bool) → ((c : StoredCookie) → p c ≡ true → q c ≡ true) → (cs : List StoredCookie)
     → filter p (filter q cs) ≡ filter p cs
 filter_within p q h [] = refl
 filter_within p q h (c ∷ cs) = pick (q c) refl (filter_within p q h cs)

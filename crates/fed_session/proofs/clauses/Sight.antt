@@ -14,8 +14,9 @@ use Rattle.fed_trace.specs.Trace.{Trace, now_at, writes}
 -- the parts of a session are those of what is seen in it
 pub record Sees (s : State) (sight : Sight) : Type 0 where
   pub time : s.time ≡ sight.time
-  pub rules : s.rules ≡ sight.rules
-  pub cookies : s.cookies ≡ sight.jar
+  pub rules : s.rules ≡ sight.cookies.rules
+  pub cookies : s.cookies ≡ sight.cookies.list
+  pub entered : s.entered ≡ sight.cookies.entered
   pub login : s.login ≡ sight.login
   pub kept : s.kept ≡ sight.kept
   pub flags : s.flags ≡ sight.flags
@@ -24,8 +25,9 @@ pub sees : (s : State) (sight : Sight) → sight_of s ≡ sight → Sees s sight
 sees s sight is =
     record {
       time = ap (λ (x : Sight). x.time) is;
-      rules = ap (λ (x : Sight). x.rules) is;
-      cookies = ap (λ (x : Sight). x.jar) is;
+      rules = ap (λ (x : Sight). x.cookies.rules) is;
+      cookies = ap (λ (x : Sight). x.cookies.list) is;
+      entered = ap (λ (x : Sight). x.cookies.entered) is;
       login = ap (λ (x : Sight). x.login) is;
       kept = ap (λ (x : Sight). x.kept) is;
       flags = ap (λ (x : Sight). x.flags) is;

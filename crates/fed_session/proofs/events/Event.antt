@@ -33,7 +33,8 @@ use Rattle.fed_trace.specs.Row.{login_effects, ends_of, load_effects, close_effe
 use Rattle.fed_trace.specs.Begun.{CallKind}
 use Rattle.fed_trace.specs.Call.{Known}
 use Rattle.fed_session.specs.Session.{State, Stands, windows, numbers_in, item_known, pending_call, pending_calls}
-use Rattle.fed_session.specs.StepParts.{sight_of, with_statuses, have_statuses, have_kept, have_flags, flags_set, close_records}
+use Rattle.fed_session.specs.Cookies.{with_writes}
+use Rattle.fed_session.specs.StepParts.{sight_of, cookies_kept, with_statuses, have_statuses, have_kept, have_flags, flags_set, close_records}
 use Rattle.fed_session.specs.Tabs.{Ends, Closes}
 use Rattle.fed_trace.specs.Trace.{Trace, standing, pages, pending, pending_of, page_at, calls_of, now_at}
 use Rattle.fed_trace.proofs.calls.Begins.{AreApart, apart_begun}
@@ -46,6 +47,7 @@ use Rattle.fed_trace.proofs.keyed.Keyed.{entries_after-append}
 use Rattle.fed_trace.proofs.happens.Ends.{last_said_front, ends_apart, ends_hit}
 use Rattle.fed_trace.proofs.calls.Pending.{is_among, others, ended, ends_silent, load_rest_silent, load_silent, load_pages, load_calls}
 use Rattle.fed_trace.proofs.calls.Pending.{load_writes, written_then, set_after}
+use Rattle.fed_session.proofs.clauses.Cookies.{list_after, rules_after}
 use Rattle.fed_session.proofs.clauses.Permissions.{have_keeps, have_marks, page_marks}
 use Rattle.fed_session.proofs.clauses.Sight.{sees}
 use Rattle.fed_session.proofs.clauses.Statuses.{load_sets}
@@ -65,7 +67,7 @@ have_sets (haves.Cookie url field) logins = refl
 
 pub owes_have : (s s' : State) (T : Trace) (line : ℕ) (have : Have) → Stands s T
     → sight_of s' ≡ record (sight_of s) {
-      jar = cookies_after s.cookies (have_cookies s.rules s.time have);
+      cookies = with_writes (cookies_kept s) (have_cookies s.rules s.time have);
       login =
           have_statuses have s.login;
       kept = have_kept have s.kept;
@@ -95,12 +97,13 @@ owes_have s s' T line have h sight tabs =
           (record { cookie = λ c. refl; login = λ o s. refl; kept = λ t k. refl; flag = λ o k. refl }) found have;
       inputs = λ q k. refl;
     })
-    seen.rules
+    (seen.rules ∙ rules_after (cookies_kept s) (have_cookies s.rules s.time have))
     (seen.kept ∙ ap (have_kept have) h.kept ∙ sym (have_keeps found have (standing same_triple kept_change T.rows)))
     (seen.flags ∙ ap (have_flags have) h.flags ∙ sym (have_marks found have (standing same_origin flag_change T.rows)))
     (seen.time ∙ sym (ap (λ o. unwrap_or o s.time) (last_silent time_of (cookie_effects found ++ have_states have)
     (have_silent time_of (record { cookie = λ c. refl; login = λ o s. refl; kept = λ t k. refl; flag = λ o k. refl }) found have))))
-    (seen.cookies ∙ ap (cookies_after s.cookies) (same ∙ sym (written_then found (have_states have) (states_write_none have))))
+    (seen.cookies ∙ list_after (cookies_kept s) (have_cookies s.rules s.time have)
+    ∙ ap (cookies_after s.cookies) (same ∙ sym (written_then found (have_states have) (states_write_none have))))
     (seen.login ∙ sym (set_after found (have_states have) s.login ∙ have_sets have s.login))
     tabs
 
@@ -263,7 +266,7 @@ ends_owe s s' T line event page standing listed rest h ends effects calls stages
 
 pub owes_load : (s s' : State) (T : Trace) (line page : ℕ) (url : Parts) (raw : Option (List ℕ)) → Stands s T
     → sight_of s' ≡ record (sight_of s) {
-      jar = cookies_after s.cookies (cookies_from s.rules url s.time (set_cookies raw));
+      cookies = with_writes (cookies_kept s) (cookies_from s.rules url s.time (set_cookies raw));
       login =
           with_statuses (origin_of url) (set_logins raw) s.login;
     }
@@ -286,7 +289,7 @@ owes_load s s' T line page url raw h sight ends =
     (load_silent begun_by (λ n c. refl) (λ p o. refl) (λ c. refl) (λ o s. refl) calls page url found statuses)
     (λ q. load_silent (begins q) (λ n c. refl) (λ p o. refl) (λ c. refl) (λ o s. refl) calls page url found statuses) (λ q k. refl) in
     record {
-      rules = seen.rules;
+      rules = seen.rules ∙ rules_after (cookies_kept s) (cookies_from s.rules url s.time (set_cookies raw));
       kept =
           kept_still s s' T (Load page url raw) h (load_silent kept_change (λ n c. refl) (λ p o. refl) (λ c. refl) (λ o s. refl) calls
           page
@@ -299,7 +302,9 @@ owes_load s s' T line page url raw h sight ends =
           seen.time ∙ sym (ap (λ o. unwrap_or o s.time)
           (last_silent time_of (load_effects calls page url found statuses)
           (load_silent time_of (λ n c. refl) (λ p o. refl) (λ c. refl) (λ o s. refl) calls page url found statuses)));
-      cookies = seen.cookies ∙ ap (cookies_after s.cookies) (same ∙ sym (load_writes calls page url found statuses));
+      cookies =
+          seen.cookies ∙ list_after (cookies_kept s) (cookies_from s.rules url s.time (set_cookies raw))
+          ∙ ap (cookies_after s.cookies) (same ∙ sym (load_writes calls page url found statuses));
       login = seen.login ∙ sym (load_sets calls page url found statuses s.login);
       pages =
           ends.pages ∙ ap (λ os. insert_entry nat_eq os page (origin_of url)) h.pages

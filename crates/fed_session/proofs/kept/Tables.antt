@@ -14,14 +14,14 @@ use Rattle.fed_origin.specs.Origin.{same_origin}
 use Rattle.fed_table.specs.Lists.{has, without, all_without, all_without_calls, with_last, with_key, emptied, stands_in, total, calls_at}
 use Rattle.fed_table.specs.Table.{TableParts, has_page, page_calls, item_of, has_call, present_item, lent_out, ChangesItem, LosesItems}
 use Rattle.fed_table.specs.Table.{IsCallTable}
-use Rattle.fed_table.proofs.homes.Sums.{total_loses, total_key}
+use Rattle.fed_table.proofs.closing.Counts.{length-without}
 use Rattle.fed_trace.specs.Begun.{is_get}
 use Rattle.fed_trace.specs.Call.{Known, kind_of, page_of}
 use Rattle.fed_trace.proofs.keyed.Entries.{lookup-set_value, insert_absent}
 use Rattle.fed_trace.proofs.keyed.Keyed.{lookup-insert_entry}
-use Rattle.fed_session.specs.Session.{TabsParts, item_known}
+use Rattle.fed_session.specs.Session.{TabsParts, item_known, no_table}
 use Rattle.fed_session.specs.StepParts.{get_but, awaits, awaited_in}
-use Rattle.fed_session.specs.Tabs.{AreTabs, ChangesGet, ChangesKnown, LosesKnown, Ends, Enters, waits_next, Stays, Leaves, GoesOn}
+use Rattle.fed_session.specs.Tabs.{AreTabs, ChangesGet, ChangesKnown, LosesKnown, Ends, Enters, waits_next, Stays, Waits, Leaves, GoesOn}
 use Rattle.fed_session.proofs.kept.Loaded.{keys_last}
 use Rattle.fed_session.proofs.kept.Waiting.{stands_without, stands_without_calls, stands_last, length_without_calls, length_last}
 use Rattle.fed_session.proofs.kept.Waiting.{none_stands}
@@ -51,6 +51,14 @@ total_emptied page (e ∷ lists) = go (nat_eq page e.0) (total_emptied page list
         → total (cond b ((e.0, []) ∷ lists) (e ∷ emptied (nat_eq page) lists)) ≤ total (e ∷ lists)
     go true rest = omega arith
     go false rest = omega (arith, rest)
+
+total_loses : (call : ℕ) (lists : Lists) → total (all_without call lists) ≤ total lists
+total_loses call [] = omega arith
+total_loses call (e ∷ lists) = let here = length-without call e.1 in let rest = total_loses call lists in omega (arith, here, rest)
+
+total_key : (page : ℕ) (lists : Lists) → total (lists ++ (page, []) ∷ []) ≡ total lists
+total_key page [] = refl
+total_key page (e ∷ lists) = ap (λ n. length e.1 + n) (total_key page lists)
 
 none_of : {A : Type 0} (found : Option A) → is_some found ≡ false → found ≡ None
 none_of None e = refl
@@ -207,23 +215,19 @@ module _ {pages : List (ℕ × Origin)} {taken : List ℕ} {table : TableParts (
           ap (stands_in call) waits ∙ stands_without_calls call gone table.waits apart ∙ h.waiting call known found
 
   -- a page is added
-  pub tabs_added : (table' : TableParts (Option Known)) (page changes' : ℕ)
-      → table' ≡ record table { pages = with_key nat_eq page table.pages } → changes' ≡ changes + 1 → AreTabs pages taken table' changes'
-  tabs_added table' page changes' is more = record {
+  pub tabs_added : (table' : TableParts (Option Known)) (page changes' : ℕ) → table'.pages ≡ with_key nat_eq page table.pages
+      → table'.waits ≡ table.waits → table'.items ≡ table.items → changes' ≡ changes + 1 → AreTabs pages taken table' changes'
+  tabs_added table' page changes' listed waits items more = record {
     opened = λ q stands. ap (λ lists. has_page lists q) listed ∙ key_stays page q table.pages (h.opened q stands);
-    begun = λ call there. h.begun call (sym (ap (λ (t : TableParts (Option Known)). has_call t.items call) is) ∙ there);
+    begun = λ call there. h.begun call (sym (ap (λ is. has_call is call) items) ∙ there);
     few_pages =
         (let l = length_keyed page table.pages in let e = ap length listed in let f = h.few_pages in omega (arith, l, e, f, more));
     few_calls = (let l = total_keyed page table.pages in let e = ap total listed in let f = h.few_calls in omega (arith, l, e, f, more));
     few_origins =
-        (let e = ap (λ (t : TableParts (Option Known)). length t.waits) is in let f = h.few_origins in omega (arith, e, f, more));
+        (let e = ap length waits in let f = h.few_origins in omega (arith, e, f, more));
     waiting = λ call known found.
-        ap (λ (t : TableParts (Option Known)). stands_in call t.waits) is
-        ∙ h.waiting call known (sym (ap (λ (t : TableParts (Option Known)). item_known t.items call) is) ∙ found);
+        ap (stands_in call) waits ∙ h.waiting call known (sym (ap (λ is. item_known is call) items) ∙ found);
   }
-    where
-      listed : table'.pages ≡ with_key nat_eq page table.pages
-      listed = ap (λ (t : TableParts (Option Known)). t.pages) is
 
   -- there may be more
   pub tabs_room : (changes' : ℕ) → changes' ≡ changes + 1 → AreTabs pages taken table changes'
@@ -381,19 +385,20 @@ module _ {pages : List (ℕ × Origin)} {taken : List ℕ} {table : TableParts (
 
   -- a call that is lent out waits, or waits no longer
   module _ (table' : TableParts (Option Known)) (call : ℕ) (lent : item_known table.items call ≡ None) where
-    waits_changed : (changes' : ℕ) (waits : List (Origin × List ℕ)) → table' ≡ record table { waits = waits }
-        → changes ≤ changes' → length waits ≤ changes'
+    waits_changed : (changes' : ℕ) (waits : List (Origin × List ℕ)) → table'.pages ≡ table.pages → table'.waits ≡ waits
+        → table'.items ≡ table.items → changes ≤ changes' → length waits ≤ changes'
         → ((other : ℕ) → nat_eq call other ≡ false → stands_in other waits ≡ stands_in other table.waits)
         → AreTabs pages taken table' changes'
-    waits_changed changes' waits is more few same =
-        subst (λ (t : TableParts (Option Known)). AreTabs pages taken t changes') (sym is) (record {
-          opened = h.opened;
-          begun = h.begun;
-          few_pages = (let f = h.few_pages in omega (arith, f, more));
-          few_calls = (let f = h.few_calls in omega (arith, f, more));
-          few_origins = few;
-          waiting = λ other known found. same other (other_call other known found (nat_eq call other) refl) ∙ h.waiting other known found;
-        })
+    waits_changed changes' waits listed is items more few same = record {
+      opened = λ q stands. ap (λ lists. has_page lists q) listed ∙ h.opened q stands;
+      begun = λ q there. h.begun q (sym (ap (λ is. has_call is q) items) ∙ there);
+      few_pages = (let e = ap length listed in let f = h.few_pages in omega (arith, e, f, more));
+      few_calls = (let e = ap total listed in let f = h.few_calls in omega (arith, e, f, more));
+      few_origins = (let e = ap length is in omega (arith, e, few));
+      waiting = λ other known found.
+          let before = sym (ap (λ is. item_known is other) items) ∙ found in
+          ap (stands_in other) is ∙ same other (other_call other known before (nat_eq call other) refl) ∙ h.waiting other known before;
+    }
       where
         other_call : (other : ℕ) (known : Known) → item_known table.items other ≡ Some known → (b : Bool) → nat_eq call other ≡ b
             → b ≡ false
@@ -403,16 +408,18 @@ module _ {pages : List (ℕ × Origin)} {taken : List ℕ} {table : TableParts (
             absurd (cc)
         other_call other known found false at = refl
 
-    pub tabs_waits : (origin : Origin) (changes' : ℕ) → table' ≡ record table { waits = with_last same_origin origin call table.waits }
+    pub tabs_waits : (origin : Origin) (changes' : ℕ) → table'.pages ≡ table.pages
+        → table'.waits ≡ with_last same_origin origin call table.waits → table'.items ≡ table.items
         → changes' ≡ changes + 1 → AreTabs pages taken table' changes'
-    tabs_waits origin changes' is more =
-        waits_changed changes' (with_last same_origin origin call table.waits) is (omega (arith, more))
+    tabs_waits origin changes' listed is items more =
+        waits_changed changes' (with_last same_origin origin call table.waits) listed is items (omega (arith, more))
         (let l = length_last call origin table.waits in let f = h.few_origins in omega (arith, l, f, more))
         (λ other ne. stands_last other call origin table.waits ne)
 
-    pub tabs_unwaits : table' ≡ record table { waits = all_without call table.waits } → AreTabs pages taken table' changes
-    tabs_unwaits is =
-        waits_changed changes (all_without call table.waits) is (omega arith)
+    pub tabs_unwaits : table'.pages ≡ table.pages → table'.waits ≡ all_without call table.waits → table'.items ≡ table.items
+        → AreTabs pages taken table' changes
+    tabs_unwaits listed is items =
+        waits_changed changes (all_without call table.waits) listed is items (omega arith)
         (let l = waits_without call table.waits in let f = h.few_origins in omega (arith, l, f))
         (λ other ne. stands_without other call table.waits ne)
 
@@ -501,20 +508,19 @@ closes_then page old mid inside pages ended is removed =
 -- and then it stands with this origin
 pub loads_then : (page : ℕ) (origin : Origin) (old mid inside : TabsParts) (pages : List (ℕ × Origin))
     (table : TableParts (Option Known)) → Ends page old.pages (emptied (nat_eq page) old.table.pages) old mid → inside ≡ mid
-    → pages ≡ insert_entry nat_eq inside.pages page origin
-    → table ≡ record inside.table { pages = with_key nat_eq page inside.table.pages }
+    → pages ≡ insert_entry nat_eq inside.pages page origin → table.pages ≡ with_key nat_eq page inside.table.pages
+    → table.waits ≡ inside.table.waits → table.items ≡ inside.table.items
     → Ends page (insert_entry nat_eq old.pages page origin) (with_key nat_eq page (emptied (nat_eq page) old.table.pages)) old
     (record inside { pages = pages; table = table })
-loads_then page origin old mid inside pages table ended is stands added =
+loads_then page origin old mid inside pages table ended is stands listed waits items =
     let e = subst (Ends page old.pages (emptied (nat_eq page) old.table.pages) old) (sym is) ended in
     record {
       pages = stands ∙ ap (λ ps. insert_entry nat_eq ps page origin) e.pages;
-      listed = ap (λ (t : TableParts (Option Known)). t.pages) added ∙ ap (with_key nat_eq page) e.listed;
+      listed = listed ∙ ap (with_key nat_eq page) e.listed;
       gets = e.gets;
       taken = e.taken;
-      waits = ap (λ (t : TableParts (Option Known)). t.waits) added ∙ e.waits;
-      known = subst (LosesKnown (page_calls old.table.pages page) old.table.items)
-          (sym (ap (λ (t : TableParts (Option Known)). t.items) added)) e.known;
+      waits = waits ∙ e.waits;
+      known = subst (LosesKnown (page_calls old.table.pages page) old.table.items) (sym items) e.known;
     }
 
 -- the pending calls of a page end
@@ -544,16 +550,16 @@ stays_from call after old inside table is listed waits known =
 
 -- and it waits, or waits no longer
 pub goes_on_from : (page call : ℕ) (waited : Bool) (kept : Option Known) (old mid new : TabsParts) → is_some kept ≡ true
-    → mid ≡ record old { table = record old.table { waits = waits_next waited call (awaited_in kept) old.table.waits } }
+    → Waits (waits_next waited call (awaited_in kept) old.table.waits) old mid
     → Stays call kept mid.table.waits mid new → GoesOn page call waited kept old new
 goes_on_from page call waited None old mid new there is stays = absurd (cc)
 goes_on_from page call waited (Some known) old mid new there is stays = record {
-  pages = stays.pages ∙ ap (λ (t : TabsParts). t.pages) is;
-  listed = stays.listed ∙ ap (λ (t : TabsParts). t.table.pages) is;
-  gets = stays.gets ∙ ap (λ (t : TabsParts). t.gets) is;
-  taken = stays.taken ∙ ap (λ (t : TabsParts). t.taken) is;
-  waiting = stays.waiting ∙ ap (λ (t : TabsParts). t.table.waits) is;
-  known = subst (λ items. ChangesKnown call (Some known) items new.table.items) (ap (λ (t : TabsParts). t.table.items) is) stays.known;
+  pages = stays.pages ∙ is.pages;
+  listed = stays.listed ∙ is.listed;
+  gets = stays.gets ∙ is.gets;
+  taken = stays.taken ∙ is.taken;
+  waiting = stays.waiting ∙ is.waiting;
+  known = subst (λ items. ChangesKnown call (Some known) items new.table.items) is.items stays.known;
 }
 
 -- a call that is over leaves its page
@@ -612,7 +618,7 @@ entered_from page call kept get old inside gets taken table same there fresh kin
 
 -- nothing came yet
 pub tabs_new : (pages : List (ℕ × Origin)) (taken : List ℕ) (table : TableParts (Option Known)) → pages ≡ []
-    → table ≡ record { pages = []; waits = []; items = [] } → AreTabs pages taken table 0
+    → table ≡ no_table → AreTabs pages taken table 0
 tabs_new pages taken table no_page empty = record {
   opened = λ q stands.
       let none : is_some (lookup (nat_eq q) pages) ≡ false = ap (λ ps. is_some (lookup (nat_eq q) ps)) no_page in

@@ -18,7 +18,7 @@ use Rattle.fed_trace.specs.Effect.{begins, written_by, time_of, loaded_change}
 use Rattle.fed_trace.specs.Keyed.{entries_after}
 use Rattle.fed_trace.specs.Known.{known_at}
 use Rattle.fed_trace.specs.Row.{effects_of, with_event, IsNew}
-use Rattle.fed_session.specs.Session.{State, TabsParts, Stands, windows, item_known, pending_call, pending_calls}
+use Rattle.fed_session.specs.Session.{State, TabsParts, Stands, windows, item_known, pending_call, pending_calls, no_table}
 use Rattle.fed_session.specs.StepParts.{sight_of}
 use Rattle.fed_trace.specs.Trace.{Trace, pages, pending, last_in, writes, standing}
 use Rattle.fed_trace.proofs.keyed.Keyed.{unwrap_or-option_or}
@@ -95,8 +95,14 @@ stands_after s s' T line event h new alive steps o =
 
 -- before the first event
 pub stands_new : (s : State) (header : Header) → s.alive ≡ true → s.steps ≡ 0
-    → sight_of s ≡ record { time = header.now; rules = header.rules; jar = []; login = []; kept = []; flags = [] }
-    → s.tabs ≡ record { pages = []; gets = []; taken = []; table = record { pages = []; waits = []; items = [] } }
+    → sight_of s ≡ record {
+      time = header.now;
+      cookies = record { rules = header.rules; list = []; entered = 0 };
+      login = [];
+      kept = [];
+      flags = [];
+    }
+    → s.tabs ≡ record { pages = []; gets = []; taken = []; table = no_table }
     → Stands s (record { header = header; rows = [] })
 stands_new s header alive steps sight tabs =
     let seen = sees s _ sight in

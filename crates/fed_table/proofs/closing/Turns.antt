@@ -6,7 +6,7 @@ use Rattle.std.proofs.lemmas.Bool.Decides.{nat_tests}
 use Rattle.std.specs.Map.{lookup, set_value}
 use Rattle.fed_table.specs.Lists.{has, without, without_calls, times, times_in, total, calls_at, all_without, all_without_calls, emptied}
 use Rattle.fed_table.specs.Table.{item_of, ChangesItem}
-use Rattle.fed_table.proofs.homes.Counts.{without_none}
+use Rattle.fed_table.proofs.closing.Counts.{without_none}
 
 pub first_is : (c : ℕ) (xs : List ℕ) → slice_get xs 0 ≡ Some c → xs ≡ c ∷ drop 1 xs
 first_is c [] h = absurd cc

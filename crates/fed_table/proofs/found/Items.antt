@@ -3,20 +3,13 @@ use Rattle.std.proofs.Common.{◌≡◌, ℕ, Bool, true, false, cond, nat_eq, L
 use Rattle.std.proofs.Common.{option_map, option_and_then, refl, sym, ap, ◌∙◌}
 use Rattle.std.specs.Map.{lookup, set_value}
 use Rattle.std.specs.Option.{option_map_or}
+use Rattle.std.proofs.lemmas.Bool.{eqb-true}
 use Rattle.std.proofs.lemmas.Map.Made.{lookup-map_values}
 use Rattle.fed_table.specs.declared.place.CallPlace.{CallPlace}
-use Rattle.fed_origin.specs.declared.origin.Origin.{Origin}
-use Rattle.fed_table.specs.Table.{TableParts, item_of, has_call, present_item, lent_out, ChangesItem}
-use Rattle.fed_table.specs.Kept.{items_in, page_index, origin_index, with_item, with_origin, ChangesPlace}
+use Rattle.fed_table.specs.Table.{item_of, has_call, present_item, lent_out, node_in, ChangesItem}
+use Rattle.fed_table.specs.Kept.{items_in, nodes_in, place_node, with_item, ChangesPlace}
 
 module _ {C : Type 0} where
-  -- equal lists of waiting calls and equal items are an equal table
-  pub parts_are : (pages : List (ℕ × List ℕ)) (waits waits' : List (Origin × List ℕ)) (items items' : List (ℕ × Option C))
-      → waits ≡ waits' → items ≡ items'
-      → ◌≡◌ {A = TableParts C} (record { pages = pages; waits = waits; items = items })
-      (record { pages = pages; waits = waits'; items = items' })
-  parts_are pages waits waits' items items' a b = λ i. record { pages = pages; waits = a i; items = b i }
-
   abbrev pub item_in : CallPlace C → Option C
   item_in place = place.item
 
@@ -31,10 +24,16 @@ module _ {C : Type 0} where
       by None = refl
       by (Some p) = refl
 
-  pub there_is : (c : ℕ) (es : List (ℕ × CallPlace C)) → has_call (items_in es) c ≡ is_some (page_index es c)
+  abbrev pub node_at : CallPlace C → ℕ
+  node_at place = place.node
+
+  pub node_is : (c : ℕ) (es : List (ℕ × CallPlace C)) → node_in (nodes_in es) c ≡ place_node es c
+  node_is c es = lookup-map_values node_at (nat_eq c) es
+
+  pub there_is : (c : ℕ) (es : List (ℕ × CallPlace C)) → has_call (items_in es) c ≡ is_some (place_node es c)
   there_is c es = ap is_some (item_is c es) ∙ by (lookup (nat_eq c) es)
     where
-      by : (o : Option (CallPlace C)) → is_some (option_map item_in o) ≡ is_some (option_map (λ (p : CallPlace C). p.page) o)
+      by : (o : Option (CallPlace C)) → is_some (option_map item_in o) ≡ is_some (option_map node_at o)
       by None = refl
       by (Some p) = refl
 
@@ -71,42 +70,46 @@ module _ {C : Type 0} where
       by None e = absurd cc
       by (Some p) e = refl
 
-  pub page_changes : (c : ℕ) (p : Option (CallPlace C)) (old new : List (ℕ × CallPlace C)) → ChangesPlace c p old new
-      → (q : ℕ) → page_index new q ≡ cond (nat_eq c q) (option_map (λ (p : CallPlace C). p.page) p) (page_index old q)
-  page_changes c p old new change q = ap (option_map (λ (p : CallPlace C). p.page)) (change q) ∙ by (nat_eq c q)
+  -- the node of this call is another, and each other call keeps its own
+  pub node_changes : (c : ℕ) (p : Option (CallPlace C)) (old new : List (ℕ × CallPlace C)) → ChangesPlace c p old new
+      → (q : ℕ) → place_node new q ≡ cond (nat_eq c q) (option_map node_at p) (place_node old q)
+  node_changes c p old new change q = ap (option_map node_at) (change q) ∙ by (nat_eq c q)
     where
-      by : (t : Bool) → option_map (λ (p : CallPlace C). p.page) (cond t p (lookup (nat_eq q) old))
-          ≡ cond t (option_map (λ (p : CallPlace C). p.page) p) (page_index old q)
+      by : (t : Bool) → option_map node_at (cond t p (lookup (nat_eq q) old)) ≡ cond t (option_map node_at p) (place_node old q)
       by true = refl
       by false = refl
 
-  pub origin_changes : (c : ℕ) (p : Option (CallPlace C)) (old new : List (ℕ × CallPlace C)) → ChangesPlace c p old new
-      → (q : ℕ) → origin_index new q ≡ cond (nat_eq c q) (option_and_then (λ (p : CallPlace C). p.origin) p) (origin_index old q)
-  origin_changes c p old new change q = ap (option_and_then (λ (p : CallPlace C). p.origin)) (change q) ∙ by (nat_eq c q)
+  pub node_stays : (c : ℕ) (item : Option C) (old new : List (ℕ × CallPlace C))
+      → ChangesPlace c (option_map (with_item item) (lookup (nat_eq c) old)) old new → (q : ℕ) → place_node new q ≡ place_node old q
+  node_stays c item old new change q = ap (option_map node_at) (change q) ∙ by (nat_eq c q) refl
     where
-      by : (t : Bool) → option_and_then (λ (p : CallPlace C). p.origin) (cond t p (lookup (nat_eq q) old))
-          ≡ cond t (option_and_then (λ (p : CallPlace C). p.origin) p) (origin_index old q)
-      by true = refl
-      by false = refl
+      same : (o : Option (CallPlace C)) → option_map node_at (option_map (with_item item) o) ≡ option_map node_at o
+      same None = refl
+      same (Some p) = refl
 
-  -- another origin is no other item
-  items_stay : (c : ℕ) (o : Option ℕ) (p : CallPlace C) (es : List (ℕ × CallPlace C)) → lookup (nat_eq c) es ≡ Some p
-      → items_in (set_value (nat_eq c) es (with_origin o p)) ≡ items_in es
-  items_stay c o p [] is = refl
-  items_stay c o p (e ∷ es) is = by (nat_eq c e.0) is (items_stay c o p es)
+      by : (t : Bool) → nat_eq c q ≡ t
+          → option_map node_at (cond t (option_map (with_item item) (lookup (nat_eq c) old)) (lookup (nat_eq q) old)) ≡ place_node old q
+      by true is = same (lookup (nat_eq c) old) ∙ ap (place_node old) (eqb-true c q is)
+      by false is = refl
+
+  -- another item is no other node
+  nodes_stay : (c : ℕ) (item : Option C) (p : CallPlace C) (es : List (ℕ × CallPlace C)) → lookup (nat_eq c) es ≡ Some p
+      → nodes_in (set_value (nat_eq c) es (with_item item p)) ≡ nodes_in es
+  nodes_stay c item p [] is = refl
+  nodes_stay c item p (e ∷ es) is = by (nat_eq c e.0) is (nodes_stay c item p es)
     where
       by : (t : Bool) → cond t (Some e.1) (lookup (nat_eq c) es) ≡ Some p
-          → (lookup (nat_eq c) es ≡ Some p → items_in (set_value (nat_eq c) es (with_origin o p)) ≡ items_in es)
-          → items_in (cond t ((e.0, with_origin o p) ∷ es) (e ∷ set_value (nat_eq c) es (with_origin o p))) ≡ items_in (e ∷ es)
-      by true is rest = let same : e.1 ≡ p = cc in ap (λ (p : CallPlace C). (e.0, p.item) ∷ items_in es) (sym same)
-      by false is rest = ap (λ ls. (e.0, e.1.item) ∷ ls) (rest is)
+          → (lookup (nat_eq c) es ≡ Some p → nodes_in (set_value (nat_eq c) es (with_item item p)) ≡ nodes_in es)
+          → nodes_in (cond t ((e.0, with_item item p) ∷ es) (e ∷ set_value (nat_eq c) es (with_item item p))) ≡ nodes_in (e ∷ es)
+      by true is rest = let same : e.1 ≡ p = cc in ap (λ (p : CallPlace C). (e.0, p.node) ∷ nodes_in es) (sym same)
+      by false is rest = ap (λ ls. (e.0, e.1.node) ∷ ls) (rest is)
 
-  pub same_items : (c : ℕ) (o : Option ℕ) (old new : List (ℕ × CallPlace C))
-      → new ≡ option_map_or (λ place. set_value (nat_eq c) old (with_origin o place)) (lookup (nat_eq c) old) old
-      → items_in new ≡ items_in old
-  same_items c o old new is = ap items_in is ∙ by (lookup (nat_eq c) old) refl
+  pub same_nodes : (c : ℕ) (item : Option C) (old new : List (ℕ × CallPlace C))
+      → new ≡ option_map_or (λ place. set_value (nat_eq c) old (with_item item place)) (lookup (nat_eq c) old) old
+      → nodes_in new ≡ nodes_in old
+  same_nodes c item old new is = ap nodes_in is ∙ by (lookup (nat_eq c) old) refl
     where
       by : (p : Option (CallPlace C)) → lookup (nat_eq c) old ≡ p
-          → items_in (option_map_or (λ place. set_value (nat_eq c) old (with_origin o place)) p old) ≡ items_in old
+          → nodes_in (option_map_or (λ place. set_value (nat_eq c) old (with_item item place)) p old) ≡ nodes_in old
       by None e = refl
-      by (Some p) e = items_stay c o p old e
+      by (Some p) e = nodes_stay c item p old e

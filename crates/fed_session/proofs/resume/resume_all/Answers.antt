@@ -1,4 +1,4 @@
-use Rattle.std.proofs.Common.{◌+◌, ◌++◌, ◌∙◌, ap, sym, subst, drop}
+use Rattle.std.proofs.Common.{◌+◌, ◌++◌, ◌∙◌, ap, sym, subst, drop, length, arith}
 use Rattle.std.proofs.lemmas.List.{drop_more, drop_all}
 use Rattle.fed_session.specs.StepParts.{cookies_of, world_in}
 use Rattle.fed_session.specs.Tabs.{AreResumed}
@@ -12,7 +12,10 @@ loop-call-preserved g c = (
       c.loop-call.tabs c.resume_one.new.tabs c.loop-call.outs.items _ c.append.new.self.items
       (drop_more c.args.calls.now c.loop-call.call-index 0 c.loop-call-test.true) c.loop-call.invariant.0 c.in_ok-resume_one.ensures.outs
       c.in_ok-resume_one.ensures.tabs (c.in_ok-append.ensures.items ∙ ap (λ xs. c.loop-call.outs.items ++ xs) c.into_vec-more.ensures),
-  c.in_ok-resume_one.ensures.unticked ∙ c.loop-call.invariant.1,
+  (let one = ap length (drop_more c.args.calls.now c.loop-call.call-index 0 c.loop-call-test.true) in
+      let now = c.resume_one.ensures.steps in
+      let before = c.loop-call.invariant.1 in
+      omega (arith, one, now, before)),
 )
 
 pub returns-clause-ok : goal.returns-clause-ok

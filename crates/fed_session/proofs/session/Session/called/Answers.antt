@@ -1,5 +1,6 @@
-use Rattle.std.proofs.Common.{◌≡◌, ◌∙◌, Some, sym, subst, refl}
+use Rattle.std.proofs.Common.{◌≡◌, ◌∙◌, Some, sym, ap, subst, refl}
 use Rattle.fed_trace.specs.Known.{input_of}
+use Rattle.fed_session.specs.declared.sight.Sight.{Sight}
 use Rattle.fed_session.specs.Session.{State, Stands}
 use Rattle.fed_session.specs.StepParts.{revived}
 use Rattle.fed_session.proofs.events.Input.{brings, owes_input, input_records}
@@ -16,3 +17,7 @@ returns-clause-row g c = λ T h.
           (owes_input _ _ T c.args.line c.args.event.now c.in-Some.call c.in-Some.input before one c.in_ok-outs.ensures.sight
           c.in_ok-outs.ensures.tabs),
     )
+
+pub returns-clause-stored : goal.returns-clause-stored
+returns-clause-stored g c =
+    ap (λ (s : Sight). s.cookies.entered) c.in_ok-outs.ensures.sight ∙ ap (λ (s : State). s.entered) c.self.view_is

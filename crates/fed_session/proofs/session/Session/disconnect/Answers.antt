@@ -12,7 +12,7 @@ use Rattle.fed_session.proofs.session.Session.disconnect.Goals as goal
 pub returns-clause-row : goal.returns-clause-row
 returns-clause-row g c = λ T h.
     let before = subst (λ (s : State). Stands (revived s) T) (sym c.self.view_is) h in
-    let fresh = subst (λ (s : State). list_any (nat_eq c.args.call) s.tabs.taken ≡ false) (sym c.self.view_is) c.requires in
+    let fresh = subst (λ (s : State). list_any (nat_eq c.args.call) s.tabs.taken ≡ false) (sym c.self.view_is) c.requires.fresh in
     let event = events.Disconnect c.args.page c.args.call c.args.config.now c.args.client.now c.args.hint.now in
     let begins : BeginsBy T event c.args.page c.args.call
     (ToDisconnect (disconnect_options c.args.config.now c.args.client.now c.args.hint.now)) =

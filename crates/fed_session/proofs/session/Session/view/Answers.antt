@@ -11,7 +11,7 @@ returns-clause-shows c = λ T h.
       login = c.in_ok-shown_logins.ensures ∙ stands.login;
       kept = c.in_ok-list.ensures ∙ stands.kept;
       silent = c.in_ok-shown_flags.ensures ∙ stands.flags;
-      cookies = c.from_vec.ensures ∙ c.in_ok-list-2.ensures.value ∙ stands.cookies;
+      cookies = c.from_vec.ensures ∙ c.in_ok-list-2.ensures ∙ stands.cookies;
       pages = c.in_ok-shown_pages.ensures ∙ stands.pages;
       calls = ap (map with_stage) c.in_ok-shown_calls.ensures ∙ shown _ T stands;
     }

@@ -9,4 +9,4 @@ invariant_of-self-2 g c =
     tabs_waits c.self.invariant c.wait.new.self c.args.call
     (lent_none c.self.inside.table.items c.args.call
     (ap (λ (t : TabsParts). item_of t.table.items c.args.call) c.self.view_is ∙ c.requires.lent)) c.args.origin.now c.in-Some.changes
-    c.in_ok-wait.ensures.ok c.in-Some.ensures.1
+    c.wait.ensures.pages c.in_ok-wait.ensures.waits c.wait.ensures.items c.in-Some.ensures.1

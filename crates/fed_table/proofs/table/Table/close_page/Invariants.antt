@@ -1,4 +1,6 @@
-use Rattle.std.proofs.Common.{◌≡◌, ℕ, ◌+◌, ◌<◌, cond, nat_eq, None, length}
+use Rattle.std.proofs.Common.{◌≡◌, ℕ, ◌+◌, ◌*◌, ◌<◌, ◌≤◌, cond, nat_eq, Some, None, length}
+use Rattle.std.specs.List.{position}
+use Rattle.std.specs.Map.{keys_of}
 use Rattle.fed_table.specs.Lists.{has, emptied, all_without_calls}
 use Rattle.fed_table.specs.Table.{page_calls, item_of}
 use Rattle.fed_table.proofs.table.Table.close_page.Given as goal
@@ -12,9 +14,10 @@ invariant-loop-call g l =
           ≡ all_without_calls (page_calls l.fn.self.pages l.page) l.fn.self.waits;
       items : (q : ℕ) → cond (has q (page_calls l.self.pages l.page)) None (item_of l.self.items q)
           ≡ cond (has q (page_calls l.fn.self.pages l.page)) None (item_of l.fn.self.items q);
+      at : position (nat_eq l.page) (keys_of l.self.pages) ≡ Some l.list;
       count : l.count + length (page_calls l.self.pages l.page) ≡ length (page_calls l.fn.self.pages l.page);
       few : length (page_calls l.fn.self.pages l.page) < 4294967296;
-      steps : l.steps ≡ l.fn.steps;
+      steps : l.steps + 20 * length (page_calls l.self.pages l.page) ≤ l.fn.steps + 20 * length (page_calls l.fn.self.pages l.page);
     }
 
 abbrev pub decreases-loop-call : goal.decreases-loop-call

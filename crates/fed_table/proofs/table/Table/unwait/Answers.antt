@@ -1,28 +1,17 @@
 use Rattle.std.proofs.Common.{ap, sym, ◌∙◌}
-use Rattle.fed_table.specs.Lists.{all_without}
+use Rattle.fed_table.specs.Lists.{all_without, stands_in}
 use Rattle.fed_table.specs.Table.{TableParts}
-use Rattle.fed_table.specs.Kept.{origin_index}
-use Rattle.fed_table.proofs.found.Items.{parts_are, same_items}
-use Rattle.fed_table.proofs.homes.Sums.{taken_home}
-use Rattle.fed_table.proofs.homes.Tables.{kept_unwaited}
+use Rattle.fed_table.specs.Kept.{keyed}
+use Rattle.fed_table.proofs.listed.Listed.{keyed_without, keyed_stands}
 use Rattle.fed_table.proofs.table.Table.unwait.Goals as goal
 
-pub invariant_of-self : goal.invariant_of-self
-invariant_of-self g c =
-    kept_unwaited c.self.inside.pages.entries c.self.inside.waits.entries c.self.inside.places.entries c.self.invariant c.args.call _ _
-    (c.take_out_where.ensures
-    ∙ taken_home (origin_index c.self.inside.places.entries) c.self.inside.waits.entries c.self.invariant.waiting c.args.call
-    c.origin-origin.result
-    (sym c.origin-origin.ensures))
-    c.set_origin.ensures.places
+pub unwait-requires : goal.unwait-requires
+unwait-requires g c =
+    sym (keyed_stands c.args.call c.self.inside.origins.keys c.self.inside.calls.waits c.self.invariant.origin_lists)
+    ∙ ap (λ (t : TableParts g.row.C.Denot). stands_in c.args.call t.waits) c.self.view_is ∙ c.requires
 
-pub returns-clause-value : goal.returns-clause-value
-returns-clause-value g c =
-    parts_are _ _ _ _ _
-    (c.take_out_where.ensures
-    ∙ taken_home (origin_index c.self.inside.places.entries) c.self.inside.waits.entries c.self.invariant.waiting c.args.call
-    c.origin-origin.result
-    (sym c.origin-origin.ensures))
-    (same_items c.args.call _ _ _ c.set_origin.ensures.entries)
-    ∙ ap (λ (t : TableParts g.row.C.Denot). record { pages = t.pages; waits = all_without c.args.call t.waits; items = t.items })
-    c.self.view_is
+pub returns-clause-waits : goal.returns-clause-waits
+returns-clause-waits g c =
+    ap (keyed c.self.inside.origins.keys) c.unwait.ensures.waits
+    ∙ keyed_without c.args.call c.self.inside.origins.keys c.self.inside.calls.waits
+    ∙ ap (λ (t : TableParts g.row.C.Denot). all_without c.args.call t.waits) c.self.view_is

@@ -1,0 +1,4 @@
+-- The lists of a jar by parties, and the jar that they make.
+pub mod Lists
+pub mod Kept
+pub mod Put

@@ -1,0 +1,88 @@
+//! The public suffix rules and the jar of a session.
+ghost use Rattle.std.specs.Prelude.{◌≡◌, ◌<◌, ◌-◌, ◌^◌, [], IfOk, OnOk};
+ghost use Rattle.fed_cookie.specs.SetCookie.{HasNoLineEnd};
+ghost use Rattle.fed_jar.specs.Send.{jar_text};
+ghost use Rattle.fed_jar.specs.Store.{cookie_of};
+ghost use Rattle.fed_session.specs.Cookies.{with_write};
+
+use fed_cookie::RawCookie;
+use fed_io::{Bytes, NoRoom};
+use fed_jar::{Cookie, Jar};
+use fed_origin::WebUrl;
+use fed_suffix::Suffixes;
+use std::alloc::Global;
+use std::marker::Model;
+
+/// The public suffix rules, and the cookies, each of which is kept under its party by these rules.
+pub struct Cookies {
+    rules: Suffixes,
+    jar: Jar,
+}
+
+impl Model for Cookies {
+    ghost use Rattle.std.specs.Coded.{codes};
+    ghost use Rattle.std.specs.FinSet as set;
+    ghost use Rattle.fed_suffix.specs.Rule.{rule_cmp, rule_code};
+    ghost use Rattle.fed_session.specs.Cookies.{CookieParts};
+
+    ghost Value = { CookieParts };
+
+    ghost coded = { Prim.hlevel (codes, set.code {R = rule_cmp} rule_code) };
+
+    ghost use Rattle.fed_jar.specs.Cookie.{cookies_in};
+    ghost use Rattle.fed_jar.specs.Store.{IsKeptBy};
+
+    ghost view = { λ c. record { rules = c.rules; list = cookies_in c.jar; entered = c.jar.entered } };
+
+    ghost invariant = { λ c. IsKeptBy c.rules c.jar };
+}
+
+// Written out, so that one function lets them go wherever they end.
+impl Drop for Cookies {
+    fn drop(self) {
+        let Cookies { rules: _, jar: _ } = self;
+    }
+}
+
+impl Cookies {
+    /// No cookies. It takes no memory.
+    pub(crate) fn new(alloc: Global, rules: Suffixes) -> Cookies
+        ensures { result ≡ record { rules = rules; list = []; entered = 0 } }
+    {
+        Cookies {
+            rules,
+            jar: Jar::new(alloc),
+        }
+    }
+
+    /// The public suffix rules.
+    pub(crate) fn rules(&self) -> &Suffixes
+        ensures { result.now ≡ self.now.rules }
+    {
+        &self.rules
+    }
+
+    /// The Cookie field of a request to the URL at the time.
+    pub(crate) fn text(&self, alloc: Global, to: &WebUrl, now: u64) -> Result<Bytes, NoRoom>
+        ensures value { IfOk result (λ text. text ≡ jar_text self.now.rules to.now now self.now.list) }
+        ensures line { IfOk result (λ text. HasNoLineEnd text) }
+    {
+        self.jar.cookie_text(alloc, &self.rules, to, now)
+    }
+
+    /// Stores the cookie of a Set-Cookie field of a page of the URL, unless it is ignored.
+    pub(crate) fn store(&mut self, url: &WebUrl, now: u64, raw: RawCookie) -> Result<(), NoRoom>
+        requires { self.old.entered < 2 ^ 64 - 1 }
+        ensures { OnOk result (self.new ≡ with_write self.old (cookie_of self.old.rules url.now now raw)) }
+    {
+        self.jar.store(&self.rules, url, now, raw)?;
+        Ok(())
+    }
+
+    /// The cookies, in order of first storing.
+    pub(crate) fn list(&self, alloc: Global) -> Result<Vec<Cookie>, NoRoom>
+        ensures { IfOk result (λ list. list.items ≡ self.now.list) }
+    {
+        self.jar.list(alloc)
+    }
+}

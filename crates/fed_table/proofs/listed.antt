@@ -1,0 +1,2 @@
+-- Lists by number as lists by key.
+pub mod Listed

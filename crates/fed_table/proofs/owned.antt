@@ -1,0 +1,3 @@
+-- Calls and their nodes, as calls come and go.
+pub mod Owned
+pub mod Comes
