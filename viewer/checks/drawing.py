@@ -1,0 +1,74 @@
+"""That what is drawn is what the transcript has: counts, order, marks, decisions, and the picture of README."""
+from .page import SVG, exported, groups, names, read, sample, values, wanted
+
+
+def title(group):
+    return "".join(next(group.iter(SVG + "tspan")).itertext())
+
+
+def gutter(group):
+    return next(text.text for text in group.findall(SVG + "text") if text.get("class") == "faint")
+
+
+# Every example: on the page and in the exported picture, each request in its place.
+def examples(tally, page):
+    for name in names():
+        script, transcript = sample(name)
+        page.show(script, transcript)
+        expected = wanted(script, transcript)
+        tally.same(name + ": drawn", page.drawn(), expected)
+        tree, counts = exported(page.export())
+        tally.same(name + ": exported", counts, expected)
+        requests = [(str(record["line"]), record["kind"]) for record in values(transcript) if record["out"] == "request"]
+        tally.same(name + ": order of requests", [(gutter(group), title(group)) for group in groups(tree, "request")], requests)
+
+
+# A transcript alone has its requests, dialogs and results too.
+def alone(tally, page):
+    for name in names():
+        transcript = sample(name)[1]
+        page.show(transcript)
+        tally.same(name + ": the transcript alone", page.drawn(), wanted(None, transcript))
+        tally.same(name + ": the transcript alone, problems", page.problems(), [])
+
+
+def sign_up(tally, page):
+    page.show(*sample("sign-up"))
+    marks = page.get("[...document.querySelectorAll('#chart .row.request')].map(row => ["
+                     "row.querySelector('.title').textContent, row.querySelector('.mark-text').textContent])")
+    tally.same("sign-up: marks", marks, [["wellknown", "nothing"], ["config", "nothing"], ["accounts", "user"], ["metadata", "page"],
+                                         ["assertion", "both"]])
+    tally.same("sign-up: what stands out", standing_out(page), [["10", "continue"], ["10", "assertion"]])
+    lanes = page.get("[...document.querySelectorAll('#chart .lanes g > title')].map(title => title.textContent)")
+    tally.same("sign-up: lanes", lanes, ["user", "https://shop.example", "browser", "https://accounts.idp.example", "https://idp.example"])
+
+
+def standing_out(page):
+    return page.get("[...document.querySelectorAll('#chart .row.first, #chart .row.decides')].map(row => ["
+                    "row.querySelector('.faint').textContent, row.querySelector('.title').textContent])")
+
+
+# Without a choice of this call, the decision is the one by which its permission came.
+def decisions(tally, page):
+    page.show(*sample("second-visit"))
+    after = page.get("[...document.querySelectorAll('#chart .row.first')].map(row => "
+                     "/after line (\\d+) /.exec(row.getAttribute('aria-label'))[1])")
+    tally.same("second-visit: decisions", after, ["10", "10", "24", "24"])
+    page.show(*sample("disconnect"))
+    after = page.get("[...document.querySelectorAll('#chart .row.first')].map(row => "
+                     "/by the permission of line (\\d+)/.exec(row.getAttribute('aria-label'))?.[1])")
+    tally.same("disconnect: permissions", after, ["5", "4", "4", "4", "6", "6"])
+    page.show(sample("second-visit")[1])
+    tally.true("a transcript alone: no decision is made up",
+               page.get("[...document.querySelectorAll('#chart .row.first')][0].getAttribute('aria-label')"
+                        ".includes('the decision before it is not in what was given')"))
+
+
+def picture(tally, page):
+    page.show(*sample("sign-up"))
+    text = page.export()
+    tally.true("docs/sign-up.svg is the export of the sign-up (viewer/check picture writes it)", read("docs/sign-up.svg") == text)
+    tally.true("README.md shows docs/sign-up.svg", "(docs/sign-up.svg)" in read("README.md"))
+    page.browser.size(700, 900, dark=True)
+    page.show(*sample("sign-up"))
+    tally.true("the export is the same in a narrow, dark window", page.export() == text)

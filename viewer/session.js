@@ -1,0 +1,277 @@
+'use strict';
+
+// The rows of the picture: each event of the script and each record of the transcript in their order, with the two lanes that it
+// joins, what a request tells, and which decision stood before the first request of a call that tells both. A row is the line that was
+// read, of which more is known.
+const Session = (() => {
+  const USER = 'user';
+  const BROWSER = 'browser';
+  const DECISIONS = ['choose', 'continue', 'cancel', 'signin', 'shutwindow'];
+  const AGREEMENTS = ['choose', 'continue'];
+  const ASIDES = ['have', 'at'];
+  const ROWS_AT_ONCE = 5000;
+  const LAST_RECORDS = ['end', 'bad', 'twins', 'not-twins', 'summary'];
+
+  class Builder {
+    constructor(reading) {
+      this.reading = reading;
+      this.rows = [];
+      this.problems = [...reading.problems];
+      this.providers = new Set();
+      this.hosts = new Map();
+      this.pageOfCall = new Map();
+      this.originOfCall = new Map();
+      this.badLine = Infinity;
+      this.pause = ROWS_AT_ONCE;
+      this.current = undefined;
+      this.beginPart(0);
+    }
+
+    // The second of two scripts has pages and calls of its own.
+    beginPart(part) {
+      this.part = part;
+      this.pages = new Map();
+      this.calls = new Map();
+      this.permissions = new Map();
+    }
+
+    // In a transcript alone the origin of a call's page stands in its later requests, and the page's number in its result.
+    lookAhead() {
+      for (const { record } of this.reading.records) {
+        if (record.out === 'bad') this.badLine = Math.min(this.badLine, record.line);
+        if (this.reading.hasScript) continue;
+        if (record.out === 'result') this.pageOfCall.set(record.call, record.page);
+        const origin = record.out === 'request' && /\r\norigin: *([^\r]+)/i.exec(Decoding.bytesOf(record))?.[1];
+        if (origin) this.originOfCall.set(record.call, origin);
+      }
+    }
+
+    // Stops after some events, to go on later.
+    * build() {
+      this.lookAhead();
+      const { events, records } = this.reading;
+      let next = 0;
+      for (const event of events) {
+        while (next < records.length && records[next].line < event.line) this.record(records[next++]);
+        this.event(event);
+        if (this.rows.length >= this.pause) {
+          this.pause = this.rows.length + ROWS_AT_ONCE;
+          yield;
+        }
+      }
+      while (next < records.length) this.record(records[next++]);
+      this.checkEnd();
+    }
+
+    // A transcript that lacks its last record, or counts other events than the script has, is not that script's whole one.
+    checkEnd() {
+      const { records, events, hasTranscript, hasScript } = this.reading;
+      if (!hasTranscript) return;
+      const last = records.at(-1)?.record;
+      const line = records.at(-1)?.recordLine ?? 1;
+      if (!last || !LAST_RECORDS.includes(last.out)) {
+        this.problems.push({ source: 'transcript', line, cause: 'no-end', note: 'the transcript stops before its last record' });
+      } else if (last.out === 'end' && hasScript && last.events !== events.length) {
+        const note = `the transcript counts ${last.events} events, and the script has ${events.length}`;
+        this.problems.unshift({ source: 'transcript', line, cause: 'other-script', note });
+      }
+    }
+
+    row(read, kind, from, to) {
+      read.kind = kind;
+      read.from = from;
+      read.to = to;
+      this.rows.push(read);
+      return read;
+    }
+
+    // A row of a call has its page and its provider, by which the filters find it.
+    callRow(read, kind, call, from, to) {
+      read.call = call.number;
+      read.page = call.page;
+      read.pageLane = call.pageLane;
+      read.providerLane = call.providerLane;
+      return this.row(read, kind, from, to);
+    }
+
+    callOf(number) {
+      if (!this.calls.has(number)) {
+        const page = this.pageOfCall.get(number);
+        const pageLane = this.originOfCall.get(number) ?? (page === undefined ? `page of call ${number}` : `page ${page}`);
+        this.calls.set(number, { number, page, pageLane, providerLane: `provider of call ${number}`, lanes: {} });
+      }
+      return this.calls.get(number);
+    }
+
+    event(read) {
+      if (read.part !== this.part) {
+        this.beginPart(read.part);
+        this.row({ line: this.reading.headers[read.part].line }, 'divider', BROWSER, BROWSER);
+      }
+      const { event } = read;
+      read.unread = read.line > this.badLine;
+      this.current = read;
+      if (ASIDES.includes(event.do)) this.row(read, 'note', BROWSER, BROWSER);
+      else if (event.do === 'reply') this.reply(read);
+      else if (DECISIONS.includes(event.do)) this.decision(read);
+      else this.pageEvent(read);
+      if (event.do === 'have' && event.what === 'kept') {
+        this.keep(Reading.originOf(event.page), Reading.originOf(event.provider), event.account, read);
+      }
+    }
+
+    reply(read) {
+      const call = this.callOf(read.event.call);
+      this.callRow(read, 'reply', call, call.lanes[read.event.to] ?? call.providerLane, BROWSER);
+    }
+
+    decision(read) {
+      const call = this.callOf(read.event.call);
+      this.callRow(read, 'decision', call, USER, BROWSER);
+      const { account } = read.event;
+      if (account !== undefined) read.name = call.accounts?.find(({ id }) => id === account)?.name;
+    }
+
+    // What a page does: its lane is its origin's, as the page was loaded last.
+    pageEvent(read) {
+      const { event } = read;
+      if (event.do === 'abort') return this.fromPage(read, this.callOf(event.call));
+      if (event.do === 'load') this.pages.set(event.page, Reading.originOf(event.url));
+      const lane = this.pages.get(event.page) ?? `page ${event.page}`;
+      if (event.do === 'get' || event.do === 'disconnect') return this.begin(read, lane);
+      read.page = event.page;
+      read.pageLane = lane;
+      return this.row(read, 'page', lane, BROWSER);
+    }
+
+    begin(read, pageLane) {
+      const { event } = read;
+      const providerLane = Reading.originOf(event.config ?? event.providers[0].config);
+      this.providers.add(providerLane);
+      const earlier = this.calls.get(event.call);
+      const call = { number: event.call, page: event.page, pageLane, providerLane, lanes: {}, earlier };
+      this.calls.set(event.call, call);
+      if (event.do === 'disconnect') call.permission = this.permissionBefore(call);
+      return this.fromPage(read, call);
+    }
+
+    fromPage(read, call) {
+      return this.callRow(read, 'page', call, call.pageLane, BROWSER);
+    }
+
+    record(read) {
+      const { record, recordLine } = read;
+      const cause = this.current?.line === read.line ? this.current : undefined;
+      if (this.reading.hasScript && !cause && read.line !== undefined && record.out !== 'bad') {
+        const note = `the script has no event on line ${read.line}`;
+        this.problems.push({ source: 'transcript', line: recordLine, cause: 'no-event', note });
+      }
+      if (record.out === 'request') this.request(read, cause);
+      else if (record.out === 'dialog' || record.out === 'window') this.shown(read);
+      else if (record.out === 'result') this.result(read, cause);
+      else if (record.out === 'ignored' && cause) this.ignore(cause, read);
+      else this.row(read, 'note', BROWSER, BROWSER).ignored = record.out === 'ignored' ? record.why : undefined;
+    }
+
+    // An ignored get or disconnect is not taken: its number goes on to name the call that it named before.
+    ignore(row, { record, recordLine, recordSource }) {
+      Object.assign(row, { ignored: record.why, record, recordLine, recordSource });
+      if (row.event.do !== 'get' && row.event.do !== 'disconnect') return;
+      const { earlier } = this.calls.get(row.event.call);
+      if (earlier) this.calls.set(row.event.call, earlier);
+      else this.calls.delete(row.event.call);
+    }
+
+    laneOfHost(bytes) {
+      const host = /\r\nhost: *([^\r]+)/i.exec(bytes)?.[1];
+      if (!this.hosts.has(host)) this.hosts.set(host, Reading.originOf('https://' + host));
+      return this.hosts.get(host);
+    }
+
+    request(read, cause) {
+      const { record } = read;
+      const call = this.callOf(record.call);
+      const bytes = Decoding.bytesOf(record);
+      const lane = this.laneOfHost(bytes) ?? call.providerLane;
+      call.lanes[record.kind] = lane;
+      if (record.kind !== 'wellknown' && call.providerLane.startsWith('provider ')) call.providerLane = lane;
+      this.providers.add(lane);
+      this.callRow(read, 'request', call, BROWSER, lane);
+      read.tells = Decoding.tells(bytes);
+      if (read.tells === 'both') this.tellsBoth(read, call, cause, bytes);
+    }
+
+    tellsBoth(row, call, cause, bytes) {
+      call.account = Decoding.formMember(bytes, 'account_id');
+      if (call.first) return;
+      call.first = row;
+      row.first = true;
+      const byPermission = row.record.kind === 'disconnect' || Decoding.formMember(bytes, 'is_auto_selected') === 'true';
+      row.decision = byPermission ? call.permission ?? this.permissionBefore(call) : this.agreement(cause);
+      if (row.decision) row.decision.decides = true;
+    }
+
+    agreement(cause) {
+      return cause && AGREEMENTS.includes(cause.event.do) ? cause : undefined;
+    }
+
+    // The row by which the permission came that the call goes by: a decision of an earlier call, or a line that says it was kept. A
+    // disconnect call looks when it begins, a get call when it asks for its token.
+    permissionBefore(call) {
+      const kept = this.permissions.get(call.pageLane + ' ' + call.providerLane) ?? [];
+      return kept.findLast(({ account }) => call.account === undefined || account === call.account)?.row;
+    }
+
+    keep(page, provider, account, row) {
+      const key = page + ' ' + provider;
+      if (!this.permissions.has(key)) this.permissions.set(key, []);
+      this.permissions.get(key).push({ account, row });
+    }
+
+    // A reply to a disconnect request takes the permission that it names, and else all of the page and the provider (rows E9 to E11).
+    drop({ pageLane, providerLane }, cause) {
+      const key = pageLane + ' ' + providerLane;
+      const bytes = cause?.event.do === 'reply' ? Decoding.bytesOf(cause.event) : undefined;
+      const named = bytes && Decoding.replyOf(bytes).value?.account_id;
+      const kept = this.permissions.get(key) ?? [];
+      const isNamed = kept.some(({ account }) => account === named);
+      this.permissions.set(key, isNamed ? kept.filter(({ account }) => account !== named) : []);
+    }
+
+    shown(read) {
+      const { record } = read;
+      const call = this.callOf(record.call);
+      if (record.dialog === 'choose') call.accounts = record.accounts;
+      this.callRow(read, record.out, call, BROWSER, BROWSER);
+    }
+
+    result(read, cause) {
+      const { record } = read;
+      const call = this.callOf(record.call);
+      call.page ??= record.page;
+      this.callRow(read, 'result', call, BROWSER, call.pageLane);
+      if (record.see === 'token') this.keep(call.pageLane, call.providerLane, call.account, call.first?.decision ?? read);
+      if (record.see === 'disconnected') this.drop(call, cause);
+      if (record.step?.startsWith('disconnect-')) this.drop(call, undefined);
+    }
+  }
+
+  function counts(rows) {
+    const counted = { request: 0, reply: 0, dialog: 0, window: 0, result: 0, ignored: 0 };
+    for (const row of rows) {
+      if (row.kind in counted) counted[row.kind] += 1;
+      if (row.ignored) counted.ignored += 1;
+    }
+    return counted;
+  }
+
+  // Builds the session of what was read step by step; it stands in the answer.
+  function* steps(reading) {
+    const builder = new Builder(reading);
+    yield* builder.build();
+    const { rows, problems, providers } = builder;
+    return { rows, problems, providers, counts: counts(rows) };
+  }
+
+  return { steps, USER, BROWSER };
+})();
