@@ -11,20 +11,11 @@ import subprocess
 import sys
 import tempfile
 
+from lines import ENDPOINTS, HEADER, line, reply
 from measure import PROGRAM, run, transcript
 
-OK = "HTTP/1.1 200 OK\r\nContent-Type: application/json\r\n"
 PROVIDER = "https://accounts.idp.example"
 CONFIG = PROVIDER + "/fedcm.json"
-ENDPOINTS = {"accounts_endpoint": "/accounts", "id_assertion_endpoint": "/assert", "login_url": "/login"}
-
-
-def line(**members):
-    return json.dumps(members, separators=(",", ":")) + "\n"
-
-
-def reply(call, to, body, fields=""):
-    return line(do="reply", call=call, to=to, text=OK + fields + "\r\n" + json.dumps(body, separators=(",", ":")))
 
 
 def token(call):
@@ -45,7 +36,7 @@ ITEMS = [
 
 
 def made(calls):
-    yield '{"fedcm":1,"now":0,"rules":""}\n'
+    yield HEADER
     for item in ITEMS:
         for call in range(1, calls + 1):
             yield item(call)

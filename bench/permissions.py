@@ -6,30 +6,20 @@ accounts.
 
     bench/permissions.py [ACCOUNTS ..]
 """
-import json
 import sys
 
+from lines import ENDPOINTS, HEADER, line, reply
 from measure import each, measured
 
-HEADER = '{"fedcm":1,"now":0,"rules":""}\n'
 PROVIDER = "https://accounts.idp.example"
 CONFIG = PROVIDER + "/fedcm.json"
 PAGE = "https://rp.example"
-OK = "HTTP/1.1 200 OK\r\nContent-Type: application/json\r\n"
 CORS = f"Access-Control-Allow-Origin: {PAGE}\r\nAccess-Control-Allow-Credentials: true\r\n"
-ENDPOINTS = {name + "_endpoint": "/" + name for name in ("accounts", "id_assertion", "disconnect")} | {"login_url": "/login"}
-
-
-def line(**members):
-    return json.dumps(members, separators=(",", ":")) + "\n"
+DISCONNECTS = ENDPOINTS | {"disconnect_endpoint": "/disconnect"}
 
 
 def kept(page, account):
     return line(do="have", what="kept", page=page, provider=PROVIDER, account=account)
-
-
-def reply(call, to, body, fields=""):
-    return line(do="reply", call=call, to=to, text=OK + fields + "\r\n" + json.dumps(body, separators=(",", ":")))
 
 
 def disconnects(accounts, others):
@@ -41,7 +31,7 @@ def disconnects(accounts, others):
     for i in range(accounts):
         yield line(do="disconnect", page=1, call=i, config=CONFIG, client="c", hint=f"u{i}")
         yield reply(i, "wellknown", {"provider_urls": [CONFIG]})
-        yield reply(i, "config", ENDPOINTS)
+        yield reply(i, "config", DISCONNECTS)
         yield reply(i, "disconnect", {"account_id": f"u{i}"}, CORS)
 
 

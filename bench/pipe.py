@@ -6,25 +6,14 @@ alone: what else was read is not kept.
     bench/pipe.py [EVENTS ..]
 """
 import itertools
-import json
 import sys
 
+from lines import ENDPOINTS, HEADER, line, reply
 from measure import piped
 
-HEADER = '{"fedcm":1,"now":0,"rules":""}\n'
 CALLS = 1_000
 PAGES = 100
-OK = "HTTP/1.1 200 OK\r\nContent-Type: application/json\r\n\r\n"
 CONFIG = "https://accounts.idp.example/fedcm.json"
-ENDPOINTS = {name + "_endpoint": "/" + name for name in ("accounts", "id_assertion")} | {"login_url": "/login"}
-
-
-def line(**members):
-    return json.dumps(members, separators=(",", ":")) + "\n"
-
-
-def reply(call, to, body):
-    return line(do="reply", call=call, to=to, text=OK + json.dumps(body))
 
 
 def standing():

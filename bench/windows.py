@@ -5,38 +5,27 @@ processor, peak memory, and instructions an event where valgrind is found and th
 
     bench/windows.py [CALLS ..]
 """
-import json
 import random
 import sys
 
+from lines import ENDPOINTS, HEADER, line, raw_reply, reply
 from measure import each, measured
 
-HEADER = '{"fedcm":1,"now":0,"rules":""}\n'
 PROVIDERS = 50
-OK = "HTTP/1.1 200 OK\r\nContent-Type: application/json\r\n\r\n"
 LOST = "HTTP/1.1 404 Not Found\r\nContent-Type: application/json\r\n\r\n{}"
-ENDPOINTS = {name + "_endpoint": "/" + name for name in ("accounts", "id_assertion")} | {"login_url": "/login"}
-
-
-def line(**members):
-    return json.dumps(members, separators=(",", ":")) + "\n"
 
 
 def provider(call):
     return f"https://accounts.idp{call % PROVIDERS}.example"
 
 
-def reply(call, to, text):
-    return line(do="reply", call=call, to=to, text=text)
-
-
 def wait(call):
     config = provider(call) + "/fedcm.json"
     yield line(do="load", page=call, url=f"https://rp{call}.example/")
     yield line(do="get", page=call, call=call, mode="active", activation=True, providers=[{"config": config, "client": "c"}])
-    yield reply(call, "wellknown", OK + json.dumps({"provider_urls": [config]}))
-    yield reply(call, "config", OK + json.dumps(ENDPOINTS))
-    yield reply(call, "accounts", LOST)
+    yield reply(call, "wellknown", {"provider_urls": [config]})
+    yield reply(call, "config", ENDPOINTS)
+    yield raw_reply(call, "accounts", LOST)
 
 
 def windows(calls):
