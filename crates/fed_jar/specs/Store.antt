@@ -1,6 +1,7 @@
 -- Which fields a jar stores, and as which cookie (RFC 6265, 5.3).
 use Rattle.std.specs.Prelude.{ℕ, zero, suc, ℤ, pos, negsuc, ◌+◌, ◌-◌, ◌^◌, min, Bool, true, false, not, ◌&&◌, ◌||◌, List, [], ◌∷◌, length}
-use Rattle.std.specs.Prelude.{codes, filter, nat_lt, nat_eq, bytes_eq, is_some, Option, None, Some, option_map, unwrap_or, if◌then◌else◌, ◌≡◌}
+use Rattle.std.specs.Prelude.{codes, filter, nat_lt, nat_eq, bytes_eq, is_some, Option, None, Some, option_map, unwrap_or, if◌then◌else◌}
+use Rattle.std.specs.Prelude.{◌≡◌}
 use Rattle.std.specs.List.{starts_with, AllByRecursion}
 use Rattle.url.specs.Parts.{Parts}
 use Rattle.fed_origin.specs.WebUrl.{host_of, scheme_of}

@@ -1,5 +1,6 @@
 //! The jar.
-ghost use Rattle.std.specs.Prelude.{◌≡◌, ◌≢◌, ◌<◌, ◌+◌, ◌-◌, ◌^◌, ℕ, List, [], OnOk, OnErr, IfOk, Some, is_some, filter, map, if◌then◌else◌};
+ghost use Rattle.std.specs.Prelude.{◌≡◌, ◌≢◌, ◌<◌, ◌+◌, ◌-◌, ◌^◌, ℕ, List, [], OnOk, OnErr, IfOk, Some, is_some, filter, map};
+ghost use Rattle.std.specs.Prelude.{if◌then◌else◌};
 ghost use Rattle.fed_origin.specs.WebUrl.{host_of};
 ghost use Rattle.fed_suffix.specs.Registrable.{party};
 ghost use Rattle.fed_cookie.specs.SetCookie.{HasNoLineEnd};

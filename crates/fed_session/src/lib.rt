@@ -18,3 +18,6 @@ mod view;
 pub use fed_trace::Out;
 pub use session::Session;
 pub use view::View;
+
+#[cfg(test)]
+mod tests;

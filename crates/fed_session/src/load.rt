@@ -50,7 +50,8 @@ fn store_fields(alloc: Global, sight: &mut Sight, url: &WebUrl, head: &Reply) ->
     requires { sight.old.cookies.entered + length (values set_cookie_name head.now.fields) < 2 ^ 64 }
     ensures { OnOk result (sight.new ≡ record sight.old {
       cookies =
-          with_writes sight.old.cookies (cookies_from sight.old.cookies.rules url.now sight.old.time (values set_cookie_name head.now.fields));
+          with_writes sight.old.cookies
+          (cookies_from sight.old.cookies.rules url.now sight.old.time (values set_cookie_name head.now.fields));
     }) }
 {
     for value in head.values("set-cookie") {

@@ -114,6 +114,7 @@ impl Session {
             → IfOk result (λ outs. (outs ≡ records (row_of T line event.now)) × Stands self.new (with_event T line event.now)) }
         ensures dead { OnErr result (self.new.alive ≡ false) }
         ensures stays_dead { self.old.alive ≡ false → IsErr result }
+        ensures count { self.new.steps ≤ self.old.steps + 1 }
         ensures link_steps { (T : Trace) → Stands self.old T → steps.new ≤ steps.old + most_steps (λ page. length (pending_of T page))
             (λ page. length (resumed_calls (windows_of T) (page_at T page))) event.now }
     {

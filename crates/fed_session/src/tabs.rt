@@ -1,5 +1,6 @@
 //! The pages that stand, and the calls that were taken.
-ghost use Rattle.std.specs.Prelude.{◌≡◌, ◌<◌, ◌≤◌, ◌+◌, ◌*◌, length, [], nat_eq, is_some, true, false, cond, Some, None, IfOk, OnOk, OnErr, IfSome};
+ghost use Rattle.std.specs.Prelude.{◌≡◌, ◌<◌, ◌≤◌, ◌+◌, ◌*◌, length, [], nat_eq, is_some, true, false, cond, Some, None, IfOk, OnOk, OnErr};
+ghost use Rattle.std.specs.Prelude.{IfSome};
 ghost use Rattle.std.specs.Prelude.{option_copied, option_and_then};
 ghost use Rattle.fed_origin.specs.Origin.{same_origin};
 ghost use Rattle.std.specs.List.{list_any};

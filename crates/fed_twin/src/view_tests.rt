@@ -2,7 +2,7 @@
 ghost use Rattle.std.specs.Prelude.{◌≡◌, ◌<◌};
 
 use crate::comparison::take_events;
-use fed_io::Steps;
+use fed_io::{NoRoom, Steps};
 use fed_origin::{LoginStatus, Stage};
 use fed_script::{Script, read_script};
 use fed_session::{Session, View};
@@ -97,6 +97,20 @@ const PAGES: &str = r#"{"fedcm":1,"now":1700000000,"rules":"example"}
 {"do":"abort","call":7}
 "#;
 
+// The user has signed in at the site of the pages.
+const HEADER: &str = r#"{"fedcm":1,"now":1700000000,"rules":"example"}
+{"do":"have","what":"kept","page":"https://shop.example/","provider":"https://accounts.idp.example/","account":"u1"}
+"#;
+
+const PROVIDER: &str = r#"{"config":"https://accounts.idp.example/fedcm.json","client":"shop"}"#;
+
+// Three disconnect calls of page 1.
+const DISCONNECTS: &str =
+    r#"{"do":"disconnect","page":1,"call":2001,"config":"https://accounts.idp.example/fedcm.json","client":"shop","hint":"u1"}
+{"do":"disconnect","page":1,"call":2002,"config":"https://accounts.idp.example/fedcm.json","client":"shop","hint":"u1"}
+{"do":"disconnect","page":1,"call":2003,"config":"https://accounts.idp.example/fedcm.json","client":"shop","hint":"u1"}
+"#;
+
 // What stands after the events of a script, which goes to no token.
 fn view_by<L: Ledger>(alloc: Global, blank: Blank, script: &Script) -> Result<View, Fail>
     requires name { blank.name ≡ L.name }
@@ -109,7 +123,7 @@ fn view_by<L: Ledger>(alloc: Global, blank: Blank, script: &Script) -> Result<Vi
     Ok(session.view()?)
 }
 
-fn view_after(alloc: Global, text: &'static str) -> Result<View, Fail> {
+fn view_after(alloc: Global, text: &str) -> Result<View, Fail> {
     let bytes = text.as_bytes();
     if bytes.len() >= 2_147_483_648 {
         return Err(Fail::from("too long"));
@@ -231,5 +245,40 @@ fn permissions_and_flags_of_lines_stand_in_order(rt: HostRuntime) -> Result<(), 
     assert_eq!(rt; view.kept.len(), 2);
     assert_eq!(rt; first_account(&view), "u1");
     assert_eq!(rt; view.silent.len(), 1);
+    Ok(())
+}
+
+// A page, and a get of it whose call has the page's number.
+fn push_page(alloc: Global, text: &mut String, page: u32) -> Result<(), NoRoom> {
+    let load = format!(in alloc; r#"{{"do":"load","page":{page},"url":"https://shop.example/"}}"#)?;
+    let get = format!(in alloc; r#"{{"do":"get","page":{page},"call":{page},"providers":["#)?;
+    for piece in [load.as_str(), "\n", get.as_str(), PROVIDER, "]}\n"] {
+        text.push_str(piece)?;
+    }
+    Ok(())
+}
+
+// Page 1 has a get and three disconnects, as a thousand other pages have a get each.
+fn thousand_pages(alloc: Global) -> Result<String, NoRoom> {
+    let mut text = String::from_str(alloc, HEADER)?;
+    for page in 1..1_002u32 {
+        push_page(alloc, &mut text, page)?;
+    }
+    text.push_str(DISCONNECTS)?;
+    Ok(text)
+}
+
+#[test]
+fn a_page_closes_among_a_thousand(rt: HostRuntime) -> Result<(), Fail> {
+    let alloc = rt.alloc();
+    let mut script = thousand_pages(alloc)?;
+    let before = view_after(alloc, script.as_str())?;
+    assert_eq!(rt; before.pages.len(), 1_001);
+    assert_eq!(rt; before.calls.len(), 1_004);
+    script.push_str("{\"do\":\"closepage\",\"page\":1}\n")?;
+    let after = view_after(alloc, script.as_str())?;
+    assert_eq!(rt; after.pages.len(), 1_000);
+    assert_eq!(rt; after.calls.len(), 1_000);
+    assert!(rt; after.calls.as_slice().iter().all(|call| call.1 != 1));
     Ok(())
 }

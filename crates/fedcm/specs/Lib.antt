@@ -6,3 +6,4 @@ pub mod Streams
 pub mod Ends
 pub mod Alike
 pub mod Make
+pub mod Memory

@@ -11,6 +11,7 @@ pub mod laws;
 mod make;
 #[cfg(test)]
 mod make_tests;
+mod memory;
 #[cfg(test)]
 mod permission_tests;
 #[cfg(test)]
@@ -39,6 +40,7 @@ mod twin_tests;
 mod window_tests;
 
 pub use make::make_script;
+pub use memory::fedcm_in_memory;
 use program::program;
 pub use status::Status;
 use std::marker::Brand;

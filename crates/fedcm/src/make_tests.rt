@@ -1,9 +1,11 @@
 ghost use Rattle.std.specs.Prelude.{◌≡◌, ◌<◌, ◌≤◌};
 
+use crate::Status;
 use crate::make::make_script;
 use crate::summary::make;
-use crate::{Status, fedcm};
-use fed_io::{MemSink, MemSource, NoRoom, Steps, Text};
+use crate::test_lines::{block, told};
+use crate::tests::{QUIET, ran};
+use fed_io::{NoRoom, Steps};
 use std::alloc::Global;
 use std::marker::Brand;
 use std::sync::ledger::{Blank, Ledger};
@@ -28,46 +30,6 @@ fn summary(alloc: Global, calls: u32) -> Result<Vec<u8>, NoRoom>
     summary_by::<Brand>(alloc, Blank::new(1), calls)
 }
 
-fn words_of(alloc: Global, words: &[&str]) -> Result<Vec<Text>, NoRoom> {
-    let mut list = Vec::new(alloc);
-    for word in words {
-        list.push(Text::of(alloc, word)?)?;
-    }
-    Ok(list)
-}
-
-// The bytes of the pieces, joined.
-fn joined(alloc: Global, pieces: &[&str]) -> Result<Vec<u8>, NoRoom> {
-    let mut bytes = Vec::new(alloc);
-    for piece in pieces {
-        bytes.extend_from_slice(piece.as_bytes())?;
-    }
-    Ok(bytes)
-}
-
-// What the words write for a script.
-fn ran_by<L: Ledger>(
-    alloc: Global,
-    blank: Blank,
-    words: &[&str],
-    script: &[&str],
-) -> Result<(Status, Vec<u8>), NoRoom>
-    requires name { blank.name ≡ L.name }
-    requires parts { blank.parts ≡ L.parts }
-    requires positive { 0 < L.parts }
-{
-    let words = words_of(alloc, words)?;
-    let mut source = MemSource::new(joined(alloc, script)?, 65_536, Vec::new(alloc));
-    let mut sink = MemSink::new(alloc, 65_536, 65_536, Vec::new(alloc))?;
-    let mut steps: Steps<L> = Steps::new(blank);
-    let status = fedcm(alloc, &words, &mut source, &mut sink, &mut steps);
-    Ok((status, sink.taken().to_vec(alloc)?))
-}
-
-fn ran(alloc: Global, words: &[&str], script: &[&str]) -> Result<(Status, Vec<u8>), NoRoom> {
-    ran_by::<Brand>(alloc, Blank::new(1), words, script)
-}
-
 // The number over these bytes.
 fn mix(bytes: &[u8]) -> u32 {
     let mut mix: u32 = 0;
@@ -77,66 +39,62 @@ fn mix(bytes: &[u8]) -> u32 {
     mix
 }
 
-// The script of `make 3`, written out.
-const SCRIPT_OF_3: &str = concat!(
-    r#"{"fedcm":1,"now":0,"rules":""}"#,
-    "\n",
-    r#"{"do":"have","what":"kept","page":"https://rp2.example","provider":"https://accounts.idp.example","account":"u2""#,
-    r#"}"#,
-    "\n",
-    r#"{"do":"load","page":1,"url":"https://rp1.example/"}"#,
-    "\n",
-    r#"{"do":"load","page":2,"url":"https://rp2.example/"}"#,
-    "\n",
-    r#"{"do":"load","page":3,"url":"https://rp3.example/"}"#,
-    "\n",
-    r#"{"do":"get","page":1,"call":1,"providers":[{"config":"https://accounts.idp.example/fedcm.json","client":"c1"}]}"#,
-    "\n",
-    r#"{"do":"get","page":2,"call":2,"providers":[{"config":"https://accounts.idp.example/fedcm.json","client":"c2"}]}"#,
-    "\n",
-    r#"{"do":"get","page":3,"call":3,"providers":[{"config":"https://accounts.idp.example/fedcm.json","client":"c3"}]}"#,
-    "\n",
-    r#"{"do":"reply","call":1,"to":"wellknown","text":"HTTP/1.1 200 OK\r\nContent-Type: application/json\r\n\r\n{\"prov"#,
-    r#"ider_urls\":[\"https://accounts.idp.example/fedcm.json\"]}"}"#,
-    "\n",
-    r#"{"do":"reply","call":2,"to":"wellknown","text":"HTTP/1.1 200 OK\r\nContent-Type: application/json\r\n\r\n{\"prov"#,
-    r#"ider_urls\":[\"https://accounts.idp.example/fedcm.json\"]}"}"#,
-    "\n",
-    r#"{"do":"reply","call":3,"to":"wellknown","text":"HTTP/1.1 200 OK\r\nContent-Type: application/json\r\n\r\n{\"prov"#,
-    r#"ider_urls\":[\"https://accounts.idp.example/fedcm.json\"]}"}"#,
-    "\n",
-    r#"{"do":"reply","call":1,"to":"config","text":"HTTP/1.1 200 OK\r\nContent-Type: application/json\r\n\r\n{\"account"#,
-    r#"s_endpoint\":\"/accounts\",\"id_assertion_endpoint\":\"/assert\",\"login_url\":\"/login\"}"}"#,
-    "\n",
-    r#"{"do":"reply","call":2,"to":"config","text":"HTTP/1.1 200 OK\r\nContent-Type: application/json\r\n\r\n{\"account"#,
-    r#"s_endpoint\":\"/accounts\",\"id_assertion_endpoint\":\"/assert\",\"login_url\":\"/login\"}"}"#,
-    "\n",
-    r#"{"do":"reply","call":3,"to":"config","text":"HTTP/1.1 200 OK\r\nContent-Type: application/json\r\n\r\n{\"account"#,
-    r#"s_endpoint\":\"/accounts\",\"id_assertion_endpoint\":\"/assert\",\"login_url\":\"/login\"}"}"#,
-    "\n",
-    r#"{"do":"reply","call":1,"to":"accounts","text":"HTTP/1.1 200 OK\r\nContent-Type: application/json\r\n\r\n{\"accou"#,
-    r#"nts\":[{\"id\":\"u1\",\"name\":\"U\",\"email\":\"u@idp.example\"}]}"}"#,
-    "\n",
-    r#"{"do":"reply","call":2,"to":"accounts","text":"HTTP/1.1 200 OK\r\nContent-Type: application/json\r\n\r\n{\"accou"#,
-    r#"nts\":[{\"id\":\"u2\",\"name\":\"U\",\"email\":\"u@idp.example\"}]}"}"#,
-    "\n",
-    r#"{"do":"reply","call":3,"to":"accounts","text":"HTTP/1.1 200 OK\r\nContent-Type: application/json\r\n\r\n{\"accou"#,
-    r#"nts\":[{\"id\":\"u3\",\"name\":\"U\",\"email\":\"u@idp.example\"}]}"}"#,
-    "\n",
-    r#"{"do":"continue","call":1}"#,
-    "\n",
-    r#"{"do":"continue","call":3}"#,
-    "\n",
-    r#"{"do":"reply","call":1,"to":"assertion","text":"HTTP/1.1 200 OK\r\nContent-Type: application/json\r\nAccess-Cont"#,
-    r#"rol-Allow-Origin: https://rp1.example\r\nAccess-Control-Allow-Credentials: true\r\n\r\n{\"token\":\"t1\"}"}"#,
-    "\n",
-    r#"{"do":"reply","call":2,"to":"assertion","text":"HTTP/1.1 200 OK\r\nContent-Type: application/json\r\nAccess-Cont"#,
-    r#"rol-Allow-Origin: https://rp2.example\r\nAccess-Control-Allow-Credentials: true\r\n\r\n{\"token\":\"t2\"}"}"#,
-    "\n",
-    r#"{"do":"reply","call":3,"to":"assertion","text":"HTTP/1.1 200 OK\r\nContent-Type: application/json\r\nAccess-Cont"#,
-    r#"rol-Allow-Origin: https://rp3.example\r\nAccess-Control-Allow-Credentials: true\r\n\r\n{\"token\":\"t3\"}"}"#,
-    "\n",
-);
+// The script of `make 3`, written out below lines of its own (test_lines.rt).
+fn blocks() -> &'static str {
+    r##"GET_BY
+{"do":"get","page":#,"call":#,"providers":[{"config":"https://accounts.idp.example/fedcm.json","client":"#"}]}
+
+SHORT_CONFIG_REPLY
+{"do":"reply","call":#,"to":"config","text":"HTTP/1.1 200 OK\r\nContent-Type: application/json\r\n\r\n\
+{\"accounts_endpoint\":\"/accounts\",\"id_assertion_endpoint\":\"/assert\",\"login_url\":\"/login\"}"}
+
+ONE_ACCOUNT
+{"do":"reply","call":#,"to":"accounts","text":"HTTP/1.1 200 OK\r\nContent-Type: application/json\r\n\r\n\
+{\"accounts\":[{\"id\":\"#\",\"name\":\"U\",\"email\":\"u@idp.example\"}]}"}
+
+TOKEN
+{"do":"reply","call":#,"to":"assertion","text":"HTTP/1.1 200 OK\r\nContent-Type: application/json\r\n\
+Access-Control-Allow-Origin: #\r\nAccess-Control-Allow-Credentials: true\r\n\r\n{\"token\":\"#\"}"}
+
+# The script of three calls
+{"fedcm":1,"now":0,"rules":""}
+{"do":"have","what":"kept","page":"https://rp2.example","provider":"https://accounts.idp.example","account":"u2"}
+LOAD 1 https://rp1.example/
+LOAD 2 https://rp2.example/
+LOAD 3 https://rp3.example/
+GET_BY 1 1 c1
+GET_BY 2 2 c2
+GET_BY 3 3 c3
+WELL_KNOWN_REPLY 1
+WELL_KNOWN_REPLY 2
+WELL_KNOWN_REPLY 3
+SHORT_CONFIG_REPLY 1
+SHORT_CONFIG_REPLY 2
+SHORT_CONFIG_REPLY 3
+ONE_ACCOUNT 1 u1
+ONE_ACCOUNT 2 u2
+ONE_ACCOUNT 3 u3
+{"do":"continue","call":1}
+{"do":"continue","call":3}
+TOKEN 1 https://rp1.example t1
+TOKEN 2 https://rp2.example t2
+TOKEN 3 https://rp3.example t3"##
+}
+
+fn script_of_three(alloc: Global) -> Result<String, NoRoom> {
+    let rows = block(blocks(), "# The script of three calls").unwrap_or("");
+    told(alloc, blocks(), rows)
+}
+
+// The number over the records of a run that is done with 21 events.
+fn mix_of(alloc: Global, script: &str) -> Result<Option<u32>, NoRoom> {
+    let (status, text) = ran(alloc, "run", script, QUIET)?;
+    let end = b"{\"events\":21,\"out\":\"end\"}\n";
+    match text.as_slice().strip_suffix(end) {
+        Some(records) if status == Status::Done => Ok(Some(mix(records))),
+        _ => Ok(None),
+    }
+}
 
 #[test]
 fn three_calls_are_made(rt: HostRuntime) -> Result<(), Fail> {
@@ -159,13 +117,8 @@ fn one_call_is_made(rt: HostRuntime) -> Result<(), Fail> {
 // The same script as lines: the number over the records before the end.
 #[test]
 fn run_writes_the_records_that_make_counts(rt: HostRuntime) -> Result<(), Fail> {
-    let (status, text) = ran(rt.alloc(), &["run"], &[SCRIPT_OF_3])?;
-    assert!(rt; status == Status::Done);
-    let records = text
-        .as_slice()
-        .strip_suffix(b"{\"events\":21,\"out\":\"end\"}\n")
-        .expect(&rt, "it ends so");
-    assert_eq!(rt; mix(records), 509568392);
+    let script = script_of_three(rt.alloc())?;
+    assert_eq!(rt; mix_of(rt.alloc(), script.as_str())?, Some(509568392));
     Ok(())
 }
 

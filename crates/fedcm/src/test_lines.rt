@@ -1,75 +1,148 @@
-//! Lines of scripts, and records of transcripts, that tests share.
+//! Scripts and transcripts of tests as rows, and the lines that they share.
+//!
+//! Rows stand in blocks, with an empty row between two of them. A block is a name and the line that it stands for; or a scenario: a title
+//! after `# `, the lines of a script, a row of `= ` and the status that it ends with, and its transcript. A row is a line, or the name
+//! of one and what stands for each `#` in it. Where a row ends in a backslash, its line goes on in the next, or has no line feed.
+use fed_io::NoRoom;
+use std::alloc::Global;
 
-pub const HEADER: &str = "{\"fedcm\":1,\"now\":1700000000,\"rules\":\"\"}\n";
+// Lines of scripts, and then of transcripts.
+fn shared() -> &'static str {
+    r##"HEADER
+{"fedcm":1,"now":1700000000,"rules":""}
 
-pub const LOAD: &str = "{\"do\":\"load\",\"page\":1,\"url\":\"https://rp.example/\"}\n";
+LOAD
+{"do":"load","page":#,"url":"#"}
 
-pub const GET: &str = concat!(
-    r#"{"do":"get","page":1,"call":1,"providers":[{"config":"https://accounts.idp.example/fedcm.json","client":"c1","nonce":"n1"}]}"#,
-    "\n",
-);
+GET
+{"do":"get","page":#,"call":#,"providers":[{"config":"https://accounts.idp.example/fedcm.json","client":"c1","nonce":"n1"}]}
 
-pub const WELL_KNOWN_REPLY: &str = concat!(
-    r#"{"do":"reply","call":1,"to":"wellknown","text":"HTTP/1.1 200 OK\r\nContent-Type: application/json\r\n\r\n"#,
-    r#"{\"provider_urls\":[\"https://accounts.idp.example/fedcm.json\"]}"}"#,
-    "\n",
-);
+WELL_KNOWN_REPLY
+{"do":"reply","call":#,"to":"wellknown","text":"HTTP/1.1 200 OK\r\nContent-Type: application/json\r\n\r\n\
+{\"provider_urls\":[\"https://accounts.idp.example/fedcm.json\"]}"}
 
-pub const CONFIG_REPLY: &str = concat!(
-    r#"{"do":"reply","call":1,"to":"config","text":"HTTP/1.1 200 OK\r\nContent-Type: application/json\r\n\r\n"#,
-    r#"{\"accounts_endpoint\":\"/accounts\",\"id_assertion_endpoint\":\"/assert\",\"login_url\":\"/login\","#,
-    r#"\"client_metadata_endpoint\":\"/client\",\"disconnect_endpoint\":\"/bye\"}"}"#,
-    "\n",
-);
+CONFIG_REPLY
+{"do":"reply","call":#,"to":"config","text":"HTTP/1.1 200 OK\r\nContent-Type: application/json\r\n\r\n\
+{\"accounts_endpoint\":\"/accounts\",\"id_assertion_endpoint\":\"/assert\",\"login_url\":\"/login\",\
+\"client_metadata_endpoint\":\"/client\",\"disconnect_endpoint\":\"/bye\"}"}
 
-pub const TWO_ACCOUNTS: &str = concat!(
-    r#"{"do":"reply","call":1,"to":"accounts","text":"HTTP/1.1 200 OK\r\nContent-Type: application/json\r\n\r\n"#,
-    r#"{\"accounts\":[{\"id\":\"u1\",\"name\":\"Ann\",\"email\":\"ann@idp.example\"},{\"id\":\"u2\",\"name\":\"Bob\","#,
-    r#"\"email\":\"bob@idp.example\"}]}"}"#,
-    "\n",
-);
+ACCOUNTS_REPLY
+{"do":"reply","call":#,"to":"accounts","text":"HTTP/1.1 200 OK\r\nContent-Type: application/json\r\n\r\n\
+{\"accounts\":[{\"id\":\"u1\",\"name\":\"Ann\",\"email\":\"ann@idp.example\"}]}"}
 
-pub const LINKS: &str = concat!(
-    r#"{"do":"reply","call":1,"to":"metadata","text":"HTTP/1.1 200 OK\r\nContent-Type: application/json\r\n\r\n"#,
-    r#"{\"privacy_policy_url\":\"https://rp.example/privacy\"}"}"#,
-    "\n",
-);
+TWO_ACCOUNTS
+{"do":"reply","call":1,"to":"accounts","text":"HTTP/1.1 200 OK\r\nContent-Type: application/json\r\n\r\n\
+{\"accounts\":[{\"id\":\"u1\",\"name\":\"Ann\",\"email\":\"ann@idp.example\"},\
+{\"id\":\"u2\",\"name\":\"Bob\",\"email\":\"bob@idp.example\"}]}"}
 
-// The requests of a call whose line is the third, and then of one whose line is the fourth.
-pub const WELL_KNOWN: &str = concat!(
-    r#"{"call":1,"kind":"wellknown","line":3,"out":"request","provider":0,"#,
-    r#""text":"GET /.well-known/web-identity HTTP/1.1\r\nHost: idp.example\r\nAccept: application/json\r\n"#,
-    r#"Sec-Fetch-Dest: webidentity\r\n\r\n"}"#,
-    "\n",
-);
+LOST_ACCOUNTS
+{"do":"reply","call":#,"to":"accounts","text":"HTTP/1.1 404 Not Found\r\nContent-Type: application/json\r\n\r\n{}"}
 
-pub const CONFIG: &str = concat!(
-    r#"{"call":1,"kind":"config","line":3,"out":"request","provider":0,"text":"GET /fedcm.json HTTP/1.1\r\n"#,
-    r#"Host: accounts.idp.example\r\nAccept: application/json\r\nSec-Fetch-Dest: webidentity\r\n\r\n"}"#,
-    "\n",
-);
+METADATA_REPLY
+{"do":"reply","call":#,"to":"metadata","text":"HTTP/1.1 200 OK\r\nContent-Type: application/json\r\n\r\n\
+{\"privacy_policy_url\":\"https://rp.example/privacy\"}"}
 
-pub const ACCOUNTS_REQUEST: &str = concat!(
-    r#"{"call":1,"kind":"accounts","line":5,"out":"request","provider":0,"text":"GET /accounts HTTP/1.1\r\n"#,
-    r#"Host: accounts.idp.example\r\nAccept: application/json\r\nSec-Fetch-Dest: webidentity\r\n\r\n"}"#,
-    "\n",
-);
+LOGIN
+{"do":"have","what":"login","origin":"https://accounts.idp.example","status":"#"}
 
-pub const WELL_KNOWN_ON_LINE_4: &str = concat!(
-    r#"{"call":1,"kind":"wellknown","line":4,"out":"request","provider":0,"#,
-    r#""text":"GET /.well-known/web-identity HTTP/1.1\r\nHost: idp.example\r\nAccept: application/json\r\n"#,
-    r#"Sec-Fetch-Dest: webidentity\r\n\r\n"}"#,
-    "\n",
-);
+WELL_KNOWN_REQUEST
+{"call":#,"kind":"wellknown","line":#,"out":"request","provider":0,"text":"GET /.well-known/web-identity HTTP/1.1\r\n\
+Host: idp.example\r\nAccept: application/json\r\nSec-Fetch-Dest: webidentity\r\n\r\n"}
 
-pub const CONFIG_ON_LINE_4: &str = concat!(
-    r#"{"call":1,"kind":"config","line":4,"out":"request","provider":0,"text":"GET /fedcm.json HTTP/1.1\r\n"#,
-    r#"Host: accounts.idp.example\r\nAccept: application/json\r\nSec-Fetch-Dest: webidentity\r\n\r\n"}"#,
-    "\n",
-);
+CONFIG_REQUEST
+{"call":#,"kind":"config","line":#,"out":"request","provider":0,"text":"GET /fedcm.json HTTP/1.1\r\n\
+Host: accounts.idp.example\r\nAccept: application/json\r\nSec-Fetch-Dest: webidentity\r\n\r\n"}
 
-pub const ACCOUNTS_REQUEST_ON_LINE_6: &str = concat!(
-    r#"{"call":1,"kind":"accounts","line":6,"out":"request","provider":0,"text":"GET /accounts HTTP/1.1\r\n"#,
-    r#"Host: accounts.idp.example\r\nAccept: application/json\r\nSec-Fetch-Dest: webidentity\r\n\r\n"}"#,
-    "\n",
-);
+ACCOUNTS_REQUEST
+{"call":#,"kind":"accounts","line":#,"out":"request","provider":0,"text":"GET /accounts HTTP/1.1\r\n\
+Host: accounts.idp.example\r\nAccept: application/json\r\nSec-Fetch-Dest: webidentity\r\n\r\n"}
+
+METADATA_REQUEST
+{"call":1,"kind":"metadata","line":#,"out":"request","provider":0,"text":"GET /client?client_id=c1 HTTP/1.1\r\n\
+Host: accounts.idp.example\r\nAccept: application/json\r\nSec-Fetch-Dest: webidentity\r\n\
+Origin: https://rp.example\r\n\r\n"}
+
+ASSERTION_REQUEST
+{"call":1,"kind":"assertion","line":#,"out":"request","provider":0,"text":"POST /assert HTTP/1.1\r\n\
+Host: accounts.idp.example\r\nAccept: application/json\r\nSec-Fetch-Dest: webidentity\r\n\
+Origin: https://rp.example\r\nContent-Type: application/x-www-form-urlencoded\r\nContent-Length: 85\r\n\r\n\
+client_id=c1&nonce=n1&account_id=#&disclosure_text_shown=#&is_auto_selected=#"}
+
+MISMATCH
+{"call":1,"detail":"status","dialog":"mismatch","line":#,"out":"dialog","provider":0,"site":"rp.example",\
+"step":"accounts-reply"}
+
+FAILED
+{"call":#,"line":#,"out":"result","page":#,"see":"NetworkError","step":"#"}
+
+IGNORED
+{"line":#,"out":"ignored","why":"#"}
+
+BAD
+{"cause":"#","line":#,"out":"bad"}
+
+END
+{"events":#,"out":"end"}"##
+}
+
+/// The rows of the block of this name or title.
+pub fn block<'a>(blocks: &'a str, name: &str) -> Option<&'a str> {
+    for block in blocks.split("\n\n") {
+        match block.split_once('\n') {
+            Some((first, rows)) if first == name => return Some(rows),
+            _ => {}
+        }
+    }
+    None
+}
+
+// Puts what stands in one row or in several.
+fn push_piece(piece: &str, text: &mut String) -> Result<(), NoRoom> {
+    for part in piece.split("\\\n") {
+        text.push_str(part)?;
+    }
+    Ok(())
+}
+
+// Puts a named line, with these words for its marks.
+fn push_named(line: &str, words: &str, text: &mut String) -> Result<(), NoRoom> {
+    let mut words = words.split(' ');
+    let (first, rest) = line.split_once('#').unwrap_or((line, ""));
+    push_piece(first, text)?;
+    for piece in rest.split('#') {
+        text.push_str(words.next().unwrap_or(""))?;
+        push_piece(piece, text)?;
+    }
+    text.push_str("\n")?;
+    Ok(())
+}
+
+// Puts a row as it stands.
+fn push_plain(row: &str, text: &mut String) -> Result<(), NoRoom> {
+    match row.strip_suffix('\\') {
+        Some(front) => text.push_str(front)?,
+        None => {
+            text.push_str(row)?;
+            text.push_str("\n")?;
+        }
+    }
+    Ok(())
+}
+
+// Puts a row, by its name among these or those that are shared, if it has one.
+fn push_row(names: &str, row: &str, text: &mut String) -> Result<(), NoRoom> {
+    let (name, words) = row.split_once(' ').unwrap_or((row, ""));
+    match block(names, name).or(block(shared(), name)) {
+        Some(line) => push_named(line, words, text),
+        None => push_plain(row, text),
+    }
+}
+
+/// The text of these rows.
+pub fn told(alloc: Global, names: &str, rows: &str) -> Result<String, NoRoom> {
+    let mut text = String::new(alloc);
+    for row in rows.split_terminator('\n') {
+        push_row(names, row, &mut text)?;
+    }
+    Ok(text)
+}

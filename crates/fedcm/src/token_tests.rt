@@ -1,218 +1,159 @@
 //! Consent, assertion and token: whole scripts and their transcripts.
-use crate::Status;
-use crate::test_lines::{
-    ACCOUNTS_REQUEST, CONFIG, CONFIG_REPLY, GET, HEADER, LINKS, LOAD, TWO_ACCOUNTS, WELL_KNOWN,
-    WELL_KNOWN_REPLY,
-};
-use crate::tests::gives;
+use crate::test_lines::{block, told};
+use crate::tests::first_wrong;
 use fed_io::NoRoom;
 use std::alloc::Global;
 use std::test::Fail;
 
-const TOKEN_REPLY: &str = concat!(
-    r#"{"do":"reply","call":1,"to":"assertion","text":"HTTP/1.1 200 OK\r\nContent-Type: application/json\r\n"#,
-    r#"Access-Control-Allow-Origin: https://rp.example\r\nAccess-Control-Allow-Credentials: true\r\n\r\n{\"token\":\"T1\"}"}"#,
-    "\n",
-);
+// Lines of their own, and scenarios (test_lines.rt).
+fn scenarios() -> &'static str {
+    r##"TOKEN_REPLY
+{"do":"reply","call":1,"to":"assertion","text":"HTTP/1.1 200 OK\r\nContent-Type: application/json\r\n\
+Access-Control-Allow-Origin: #\r\nAccess-Control-Allow-Credentials: true\r\n\r\n{\"token\":\"T1\"}"}
 
-const CHOOSER: &str = concat!(
-    r#"{"accounts":[{"connected":false,"email":"ann@idp.example","id":"u1","name":"Ann","provider":0},"#,
-    r#"{"connected":false,"email":"bob@idp.example","id":"u2","name":"Bob","provider":0}],"call":1,"context":"signin","#,
-    r#""dialog":"choose","line":6,"out":"dialog","site":"rp.example"}"#,
-    "\n",
-);
+CHOOSER
+{"accounts":[{"connected":false,"email":"ann@idp.example","id":"u1","name":"Ann","provider":0},\
+{"connected":false,"email":"bob@idp.example","id":"u2","name":"Bob","provider":0}],"call":1,"context":"signin",\
+"dialog":"choose","line":6,"out":"dialog","site":"rp.example"}
 
-const METADATA_REQUEST: &str = concat!(
-    r#"{"call":1,"kind":"metadata","line":7,"out":"request","provider":0,"text":"GET /client?client_id=c1 HTTP/1.1\r\n"#,
-    r#"Host: accounts.idp.example\r\nAccept: application/json\r\nSec-Fetch-Dest: webidentity\r\n"#,
-    r#"Origin: https://rp.example\r\n\r\n"}"#,
-    "\n",
-);
+PROMPT
+{"account":{"connected":false,"email":"#","id":"#","name":"#","provider":0},"call":1,\
+"context":"signin","dialog":"prompt","disclosure":true,"line":8,"out":"dialog",\
+"privacy":"https://rp.example/privacy","site":"rp.example"}
 
-const PROMPT: &str = concat!(
-    r#"{"account":{"connected":false,"email":"bob@idp.example","id":"u2","name":"Bob","provider":0},"call":1,"#,
-    r#""context":"signin","dialog":"prompt","disclosure":true,"line":8,"out":"dialog","#,
-    r#""privacy":"https://rp.example/privacy","site":"rp.example"}"#,
-    "\n",
-);
+# A sign-up as users make it
+HEADER
+LOAD 1 https://rp.example/
+GET 1 1
+WELL_KNOWN_REPLY 1
+CONFIG_REPLY 1
+TWO_ACCOUNTS
+{"do":"choose","call":1,"account":"u2"}
+METADATA_REPLY 1
+{"do":"continue","call":1}
+TOKEN_REPLY https://rp.example
+= done
+WELL_KNOWN_REQUEST 1 3
+CONFIG_REQUEST 1 3
+ACCOUNTS_REQUEST 1 5
+CHOOSER
+METADATA_REQUEST 7
+PROMPT bob@idp.example u2 Bob
+ASSERTION_REQUEST 9 u2 true false
+{"auto":false,"call":1,"line":10,"out":"result","page":1,"provider":0,"see":"token","token":"T1"}
+END 9
 
-const ASSERTION_REQUEST: &str = concat!(
-    r#"{"call":1,"kind":"assertion","line":9,"out":"request","provider":0,"text":"POST /assert HTTP/1.1\r\n"#,
-    r#"Host: accounts.idp.example\r\nAccept: application/json\r\nSec-Fetch-Dest: webidentity\r\n"#,
-    r#"Origin: https://rp.example\r\nContent-Type: application/x-www-form-urlencoded\r\nContent-Length: 85\r\n\r\n"#,
-    r#"client_id=c1&nonce=n1&account_id=u2&disclosure_text_shown=true&is_auto_selected=false"}"#,
-    "\n",
-);
+# A continue comes too early, and twice
+HEADER
+LOAD 1 https://rp.example/
+GET 1 1
+WELL_KNOWN_REPLY 1
+CONFIG_REPLY 1
+ACCOUNTS_REPLY 1
+{"do":"continue","call":1}
+METADATA_REPLY 1
+{"do":"continue","call":1}
+{"do":"continue","call":1}
+= done
+WELL_KNOWN_REQUEST 1 3
+CONFIG_REQUEST 1 3
+ACCOUNTS_REQUEST 1 5
+METADATA_REQUEST 6
+IGNORED 7 not-offered
+PROMPT ann@idp.example u1 Ann
+ASSERTION_REQUEST 9 u1 true false
+IGNORED 10 not-offered
+END 9
 
-// A sign-up as users make it, and what is written of it.
-pub const SIGN_UP: [&str; 10] = [
-    HEADER,
-    LOAD,
-    GET,
-    WELL_KNOWN_REPLY,
-    CONFIG_REPLY,
-    TWO_ACCOUNTS,
-    "{\"do\":\"choose\",\"call\":1,\"account\":\"u2\"}\n",
-    LINKS,
-    "{\"do\":\"continue\",\"call\":1}\n",
-    TOKEN_REPLY,
-];
+# A token for any origin
+HEADER
+LOAD 1 https://rp.example/
+GET 1 1
+WELL_KNOWN_REPLY 1
+CONFIG_REPLY 1
+TWO_ACCOUNTS
+{"do":"choose","call":1,"account":"u2"}
+METADATA_REPLY 1
+{"do":"continue","call":1}
+TOKEN_REPLY *
+= done
+WELL_KNOWN_REQUEST 1 3
+CONFIG_REQUEST 1 3
+ACCOUNTS_REQUEST 1 5
+CHOOSER
+METADATA_REQUEST 7
+PROMPT bob@idp.example u2 Bob
+ASSERTION_REQUEST 9 u2 true false
+FAILED 1 10 1 assertion-cors
+END 9
 
-pub const SIGN_UP_RECORDS: [&str; 9] = [
-    WELL_KNOWN,
-    CONFIG,
-    ACCOUNTS_REQUEST,
-    CHOOSER,
-    METADATA_REQUEST,
-    PROMPT,
-    ASSERTION_REQUEST,
-    "{\"auto\":false,\"call\":1,\"line\":10,\"out\":\"result\",\"page\":1,\"provider\":0,\"see\":\"token\",\"token\":\"T1\"}\n",
-    "{\"events\":9,\"out\":\"end\"}\n",
-];
+# The provider gives an error
+HEADER
+LOAD 1 https://rp.example/
+GET 1 1
+WELL_KNOWN_REPLY 1
+CONFIG_REPLY 1
+TWO_ACCOUNTS
+{"do":"choose","call":1,"account":"u2"}
+METADATA_REPLY 1
+{"do":"continue","call":1}
+{"do":"reply","call":1,"to":"assertion","text":"HTTP/1.1 200 OK\r\nContent-Type: application/json\r\n\
+Access-Control-Allow-Origin: https://rp.example\r\nAccess-Control-Allow-Credentials: true\r\n\r\n\
+{\"error\":{\"code\":\"access_denied\",\"url\":\"https://idp.example/why\"}}"}
+= done
+WELL_KNOWN_REQUEST 1 3
+CONFIG_REQUEST 1 3
+ACCOUNTS_REQUEST 1 5
+CHOOSER
+METADATA_REQUEST 7
+PROMPT bob@idp.example u2 Bob
+ASSERTION_REQUEST 9 u2 true false
+{"call":1,"code":"access_denied","line":10,"out":"result","page":1,"see":"IdentityCredentialError","step":"provider-error",\
+"url":"https://idp.example/why"}
+END 9
 
-#[test]
-fn a_sign_up_as_users_make_it(rt: HostRuntime) -> Result<(), Fail> {
-    assert!(rt;
-        gives(
-            rt.alloc(),
-            &["run"],
-            &SIGN_UP,
-            Status::Done,
-            &SIGN_UP_RECORDS
-        )?
-    );
-    Ok(())
+# The page is loaded anew before the token comes
+HEADER
+LOAD 1 https://rp.example/
+GET 1 1
+WELL_KNOWN_REPLY 1
+CONFIG_REPLY 1
+TWO_ACCOUNTS
+{"do":"choose","call":1,"account":"u2"}
+METADATA_REPLY 1
+{"do":"continue","call":1}
+LOAD 1 https://rp.example/
+TOKEN_REPLY https://rp.example
+= done
+WELL_KNOWN_REQUEST 1 3
+CONFIG_REQUEST 1 3
+ACCOUNTS_REQUEST 1 5
+CHOOSER
+METADATA_REQUEST 7
+PROMPT bob@idp.example u2 Bob
+ASSERTION_REQUEST 9 u2 true false
+IGNORED 11 call-ended
+END 10"##
+}
+
+// The rows of the script of a sign-up as users make it, and of its transcript.
+fn sign_up_rows() -> (&'static str, &'static str) {
+    let rows = block(scenarios(), "# A sign-up as users make it").unwrap_or("");
+    rows.split_once("= done\n").unwrap_or((rows, ""))
+}
+
+/// A sign-up as users make it.
+pub fn sign_up(alloc: Global) -> Result<String, NoRoom> {
+    told(alloc, scenarios(), sign_up_rows().0)
+}
+
+/// What is written of it.
+pub fn sign_up_records(alloc: Global) -> Result<String, NoRoom> {
+    told(alloc, scenarios(), sign_up_rows().1)
 }
 
 #[test]
-fn a_continue_comes_too_early_and_twice(rt: HostRuntime) -> Result<(), Fail> {
-    let alloc = rt.alloc();
-    let script = [
-        HEADER,
-        LOAD,
-        GET,
-        WELL_KNOWN_REPLY,
-        CONFIG_REPLY,
-        concat!(
-            r#"{"do":"reply","call":1,"to":"accounts","text":"HTTP/1.1 200 OK\r\nContent-Type: application/json\r\n\r\n"#,
-            r#"{\"accounts\":[{\"id\":\"u1\",\"name\":\"Ann\",\"email\":\"ann@idp.example\"}]}"}"#,
-            "\n",
-        ),
-        "{\"do\":\"continue\",\"call\":1}\n",
-        LINKS,
-        "{\"do\":\"continue\",\"call\":1}\n",
-        "{\"do\":\"continue\",\"call\":1}\n",
-    ];
-    let transcript = [
-        WELL_KNOWN,
-        CONFIG,
-        ACCOUNTS_REQUEST,
-        concat!(
-            r#"{"call":1,"kind":"metadata","line":6,"out":"request","provider":0,"text":"GET /client?client_id=c1 HTTP/1.1\r\n"#,
-            r#"Host: accounts.idp.example\r\nAccept: application/json\r\nSec-Fetch-Dest: webidentity\r\n"#,
-            r#"Origin: https://rp.example\r\n\r\n"}"#,
-            "\n",
-        ),
-        "{\"line\":7,\"out\":\"ignored\",\"why\":\"not-offered\"}\n",
-        concat!(
-            r#"{"account":{"connected":false,"email":"ann@idp.example","id":"u1","name":"Ann","provider":0},"call":1,"#,
-            r#""context":"signin","dialog":"prompt","disclosure":true,"line":8,"out":"dialog","#,
-            r#""privacy":"https://rp.example/privacy","site":"rp.example"}"#,
-            "\n",
-        ),
-        concat!(
-            r#"{"call":1,"kind":"assertion","line":9,"out":"request","provider":0,"text":"POST /assert HTTP/1.1\r\n"#,
-            r#"Host: accounts.idp.example\r\nAccept: application/json\r\nSec-Fetch-Dest: webidentity\r\n"#,
-            r#"Origin: https://rp.example\r\nContent-Type: application/x-www-form-urlencoded\r\nContent-Length: 85\r\n\r\n"#,
-            r#"client_id=c1&nonce=n1&account_id=u1&disclosure_text_shown=true&is_auto_selected=false"}"#,
-            "\n",
-        ),
-        "{\"line\":10,\"out\":\"ignored\",\"why\":\"not-offered\"}\n",
-        "{\"events\":9,\"out\":\"end\"}\n",
-    ];
-    assert!(rt; gives(alloc, &["run"], &script, Status::Done, &transcript)?);
-    Ok(())
-}
-
-// Whether a call that asked for its token goes on so, with these two pieces of a script.
-fn goes_on(
-    alloc: Global,
-    first: &str,
-    second: &str,
-    record: &str,
-    end: &str,
-) -> Result<bool, NoRoom> {
-    let script = [
-        HEADER,
-        LOAD,
-        GET,
-        WELL_KNOWN_REPLY,
-        CONFIG_REPLY,
-        TWO_ACCOUNTS,
-        "{\"do\":\"choose\",\"call\":1,\"account\":\"u2\"}\n",
-        LINKS,
-        "{\"do\":\"continue\",\"call\":1}\n",
-        first,
-        second,
-    ];
-    let transcript = [
-        WELL_KNOWN,
-        CONFIG,
-        ACCOUNTS_REQUEST,
-        CHOOSER,
-        METADATA_REQUEST,
-        PROMPT,
-        ASSERTION_REQUEST,
-        record,
-        end,
-    ];
-    gives(alloc, &["run"], &script, Status::Done, &transcript)
-}
-
-#[test]
-fn no_token_is_given(rt: HostRuntime) -> Result<(), Fail> {
-    let alloc = rt.alloc();
-    let nine = "{\"events\":9,\"out\":\"end\"}\n";
-    let ten = "{\"events\":10,\"out\":\"end\"}\n";
-    assert!(rt;
-        goes_on(
-            alloc,
-            "",
-            concat!(
-                r#"{"do":"reply","call":1,"to":"assertion","text":"HTTP/1.1 200 OK\r\nContent-Type: application/json\r\n"#,
-                r#"Access-Control-Allow-Origin: *\r\nAccess-Control-Allow-Credentials: true\r\n\r\n{\"token\":\"T1\"}"}"#,
-                "\n",
-            ),
-            "{\"call\":1,\"line\":10,\"out\":\"result\",\"page\":1,\"see\":\"NetworkError\",\"step\":\"assertion-cors\"}\n",
-            nine
-        )?
-    );
-    assert!(rt;
-        goes_on(
-            alloc,
-            "",
-            concat!(
-                r#"{"do":"reply","call":1,"to":"assertion","text":"HTTP/1.1 200 OK\r\nContent-Type: application/json\r\n"#,
-                r#"Access-Control-Allow-Origin: https://rp.example\r\nAccess-Control-Allow-Credentials: true\r\n\r\n"#,
-                r#"{\"error\":{\"code\":\"access_denied\",\"url\":\"https://idp.example/why\"}}"}"#,
-                "\n",
-            ),
-            concat!(
-                r#"{"call":1,"code":"access_denied","line":10,"out":"result","page":1,"see":"IdentityCredentialError","#,
-                r#""step":"provider-error","url":"https://idp.example/why"}"#,
-                "\n",
-            ),
-            nine
-        )?
-    );
-    assert!(rt;
-        goes_on(
-            alloc,
-            LOAD,
-            TOKEN_REPLY,
-            "{\"line\":11,\"out\":\"ignored\",\"why\":\"call-ended\"}\n",
-            ten
-        )?
-    );
+fn tokens(rt: HostRuntime) -> Result<(), Fail> {
+    assert_eq!(rt; first_wrong(rt.alloc(), "run", scenarios())?, ("", 5));
     Ok(())
 }

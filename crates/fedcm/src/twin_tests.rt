@@ -1,422 +1,408 @@
 //! Two scripts and a dividing line: whether they are twins.
-use crate::Status;
-use crate::test_lines::{GET, HEADER, LINKS, LOAD, WELL_KNOWN_REPLY};
-use crate::tests::gives;
-use fed_io::NoRoom;
-use std::alloc::Global;
+use crate::tests::first_wrong;
 use std::test::Fail;
 
-const NEXT: &str = r#"{"next":"script"}
-"#;
+// Lines of their own, and scenarios (test_lines.rt).
+fn scenarios() -> &'static str {
+    r##"NEXT
+{"next":"script"}
 
-const SHOP: &str = r#"{"do":"load","page":2,"url":"https://shop.example/"}
-"#;
+BLANK
+#
 
-const OTHER_PAGE: &str = r#"{"do":"load","page":1,"url":"https://a.example/"}
-"#;
+OTHER_GET
+{"do":"get","page":1,"call":1,"context":"use",\
+"providers":[{"config":"https://accounts.idp.example/fedcm.json","client":"x"}]}
 
-const OTHER_SHOP: &str = r#"{"do":"load","page":2,"url":"https://b.example/"}
-"#;
+OTHER_SHOP_GET
+{"do":"get","page":2,"call":2,\
+"providers":[{"config":"https://accounts.idp.example/fedcm.json","client":"y","params":"p"}]}
 
-const SHOP_GET: &str = concat!(
-    r#"{"do":"get","page":2,"call":2,"providers":[{"config":"https://accounts.idp.example/fedcm.json","client":"c1","nonce":"n1"}]}"#,
-    "\n",
-);
+CONFIG
+{"do":"reply","call":#,"to":"config","text":"HTTP/1.1 200 OK\r\nContent-Type: application/json\r\n\r\n\
+{\"accounts_endpoint\":\"/accounts\",\"id_assertion_endpoint\":\"/assert\",\"login_url\":\"/login\",\
+\"client_metadata_endpoint\":\"/client\"}"}
 
-const OTHER_GET: &str = concat!(
-    r#"{"do":"get","page":1,"call":1,"context":"use","providers":[{"config":"https://accounts.idp.example/fedcm.json","#,
-    r#""client":"x"}]}"#,
-    "\n",
-);
+KEPT
+{"do":"have","what":"kept","page":"https://rp.example/","provider":"https://accounts.idp.example/","account":"#"}
 
-const OTHER_SHOP_GET: &str = concat!(
-    r#"{"do":"get","page":2,"call":2,"providers":[{"config":"https://accounts.idp.example/fedcm.json","client":"y","params":"p"}]}"#,
-    "\n",
-);
+SILENT
+{"do":"have","what":"silent","origin":"#"}
 
-const CONFIG: &str = concat!(
-    r#"{"do":"reply","call":1,"to":"config","text":"HTTP/1.1 200 OK\r\nContent-Type: application/json\r\n\r\n"#,
-    r#"{\"accounts_endpoint\":\"/accounts\",\"id_assertion_endpoint\":\"/assert\",\"login_url\":\"/login\","#,
-    r#"\"client_metadata_endpoint\":\"/client\"}"}"#,
-    "\n",
-);
+SILENT_GET
+{"do":"get","page":1,"call":1,"mediation":"silent",\
+"providers":[{"config":"https://accounts.idp.example/fedcm.json","client":"c1"}]}
 
-const ACCOUNTS: &str = concat!(
-    r#"{"do":"reply","call":1,"to":"accounts","text":"HTTP/1.1 200 OK\r\nContent-Type: application/json\r\n\r\n"#,
-    r#"{\"accounts\":[{\"id\":\"u1\",\"name\":\"Ann\",\"email\":\"ann@idp.example\"}]}"}"#,
-    "\n",
-);
+DISCONNECT
+{"do":"disconnect","page":1,"call":3,"config":"https://accounts.idp.example/fedcm.json","client":"#","hint":"#"}
 
-const SHOP_WELL_KNOWN: &str = concat!(
-    r#"{"do":"reply","call":2,"to":"wellknown","text":"HTTP/1.1 200 OK\r\nContent-Type: application/json\r\n\r\n"#,
-    r#"{\"provider_urls\":[\"https://accounts.idp.example/fedcm.json\"]}"}"#,
-    "\n",
-);
+DISCONNECT_CONFIG
+{"do":"reply","call":3,"to":"config","text":"HTTP/1.1 200 OK\r\nContent-Type: application/json\r\n\r\n\
+{\"accounts_endpoint\":\"/accounts\",\"id_assertion_endpoint\":\"/assert\",\"login_url\":\"/login\",\
+\"disconnect_endpoint\":\"/disconnect\"}"}
 
-const SHOP_CONFIG: &str = concat!(
-    r#"{"do":"reply","call":2,"to":"config","text":"HTTP/1.1 200 OK\r\nContent-Type: application/json\r\n\r\n"#,
-    r#"{\"accounts_endpoint\":\"/accounts\",\"id_assertion_endpoint\":\"/assert\",\"login_url\":\"/login\","#,
-    r#"\"client_metadata_endpoint\":\"/client\"}"}"#,
-    "\n",
-);
+TWINS
+{"compared":#,"out":"twins","quiet":#}
 
-const SHOP_ACCOUNTS: &str = concat!(
-    r#"{"do":"reply","call":2,"to":"accounts","text":"HTTP/1.1 200 OK\r\nContent-Type: application/json\r\n\r\n"#,
-    r#"{\"accounts\":[{\"id\":\"u1\",\"name\":\"Ann\",\"email\":\"ann@idp.example\"}]}"}"#,
-    "\n",
-);
+NOT_TWINS
+{"clause":"#","event":#,"out":"not-twins"}
 
-const SHOP_LINKS: &str = concat!(
-    r#"{"do":"reply","call":2,"to":"metadata","text":"HTTP/1.1 200 OK\r\nContent-Type: application/json\r\n\r\n"#,
-    r#"{\"privacy_policy_url\":\"https://rp.example/privacy\"}"}"#,
-    "\n",
-);
+# Twins differ in relying parties
+HEADER
+LOAD 1 https://rp.example/
+LOAD 2 https://shop.example/
+GET 1 1
+GET 2 2
+WELL_KNOWN_REPLY 1
+CONFIG 1
+WELL_KNOWN_REPLY 2
+CONFIG 2
+ACCOUNTS_REPLY 1
+ACCOUNTS_REPLY 2
+METADATA_REPLY 1
+METADATA_REPLY 2
+NEXT
+HEADER
+LOAD 1 https://a.example/
+LOAD 2 https://b.example/
+OTHER_GET
+OTHER_SHOP_GET
+WELL_KNOWN_REPLY 1
+CONFIG 1
+WELL_KNOWN_REPLY 2
+CONFIG 2
+ACCOUNTS_REPLY 1
+ACCOUNTS_REPLY 2
+METADATA_REPLY 2
+METADATA_REPLY 1
+= done
+TWINS 6 10
 
-const GO_ON: &str = r#"{"do":"continue","call":1}
-"#;
+# Both pages have one origin in the second script alone
+HEADER
+LOAD 1 https://rp.example/
+LOAD 2 https://shop.example/
+GET 1 1
+NEXT
+HEADER
+LOAD 1 https://a.example/
+LOAD 2 https://a.example/
+OTHER_GET
+= not-twins
+NOT_TWINS origins 2
 
-// Whether the input is told with this status and record.
-fn tells(alloc: Global, input: &[&str], status: Status, record: &str) -> Result<bool, NoRoom> {
-    gives(alloc, &["twin"], input, status, &[record])
+# Both pages have one origin in the first script alone
+HEADER
+LOAD 1 https://a.example/
+LOAD 2 https://a.example/
+NEXT
+HEADER
+LOAD 1 https://rp.example/
+LOAD 2 https://shop.example/
+= not-twins
+NOT_TWINS origins 2
+
+# In one world the prompt is ready, in the other it waits for the client's links
+HEADER
+LOAD 1 https://rp.example/
+GET 1 1
+WELL_KNOWN_REPLY 1
+CONFIG 1
+ACCOUNTS_REPLY 1
+METADATA_REPLY 1
+{"do":"continue","call":1}
+NEXT
+HEADER
+LOAD 1 https://a.example/
+OTHER_GET
+WELL_KNOWN_REPLY 1
+CONFIG 1
+ACCOUNTS_REPLY 1
+{"do":"continue","call":1}
+= done
+TWINS 3 5
+
+# Headers of two times
+HEADER
+LOAD 1 https://rp.example/
+NEXT
+{"fedcm":1,"now":1700000001,"rules":""}
+LOAD 1 https://rp.example/
+= not-twins
+NOT_TWINS header 0
+
+# Events of two kinds
+HEADER
+LOAD 1 https://rp.example/
+{"do":"abort","call":1}
+NEXT
+HEADER
+LOAD 1 https://rp.example/
+{"do":"cancel","call":1}
+= not-twins
+NOT_TWINS kind 2
+
+# Aborts of two calls
+HEADER
+LOAD 1 https://rp.example/
+{"do":"abort","call":1}
+NEXT
+HEADER
+LOAD 1 https://rp.example/
+{"do":"abort","call":2}
+= not-twins
+NOT_TWINS member 2
+
+# Pages over https and http
+HEADER
+LOAD 1 https://rp.example/
+LOAD 2 https://b.example/
+NEXT
+HEADER
+LOAD 1 https://rp.example/
+LOAD 2 http://b.example/
+= not-twins
+NOT_TWINS load 2
+
+# An origin twice in the first script alone
+HEADER
+LOAD 1 https://rp.example/
+LOAD 2 https://rp.example/
+NEXT
+HEADER
+LOAD 1 https://rp.example/
+LOAD 2 https://b.example/
+= not-twins
+NOT_TWINS origins 2
+
+# One event more
+HEADER
+LOAD 1 https://rp.example/
+{"do":"abort","call":1}
+NEXT
+HEADER
+LOAD 1 https://rp.example/
+BLANK
+= not-twins
+NOT_TWINS count 2
+
+# A page of the provider's own party has to be the same in both scripts
+HEADER
+LOAD 1 https://rp.example/
+{"do":"load","page":2,"url":"https://www.idp.example/","text":"HTTP/1.1 200 OK\r\nSet-Login: logged-in\r\n\r\n"}
+GET 1 1
+NEXT
+HEADER
+LOAD 1 https://a.example/
+{"do":"load","page":2,"url":"https://www.idp.example/","text":"HTTP/1.1 200 OK\r\nSet-Login: logged-in\r\n\r\n"}
+OTHER_GET
+= done
+TWINS 2 3
+
+# The same page with another reply
+HEADER
+LOAD 1 https://rp.example/
+{"do":"load","page":2,"url":"https://www.idp.example/","text":"HTTP/1.1 200 OK\r\nSet-Login: logged-in\r\n\r\n"}
+GET 1 1
+NEXT
+HEADER
+LOAD 1 https://a.example/
+LOAD 2 https://www.idp.example/
+OTHER_GET
+= not-twins
+NOT_TWINS load 2
+
+# A page of another party
+HEADER
+LOAD 1 https://rp.example/
+{"do":"load","page":2,"url":"https://www.idp.example/","text":"HTTP/1.1 200 OK\r\nSet-Login: logged-in\r\n\r\n"}
+GET 1 1
+NEXT
+HEADER
+LOAD 1 https://a.example/
+LOAD 2 https://b.example/
+OTHER_GET
+= not-twins
+NOT_TWINS load 2
+
+# No line
+= bad-script
+BAD not-json 1
+
+# No first script
+NEXT
+HEADER
+= bad-script
+BAD not-json 1
+
+# No dividing line
+HEADER
+LOAD 1 https://rp.example/
+= bad-script
+BAD no-next 3
+
+# No second script
+HEADER
+LOAD 1 https://rp.example/
+NEXT
+= bad-script
+BAD not-json 4
+
+# A second dividing line
+HEADER
+LOAD 1 https://rp.example/
+NEXT
+HEADER
+NEXT
+= bad-script
+BAD no-kind 5
+
+# A bad line before the dividing line
+HEADER
+{"do":"abort"}
+NEXT
+= bad-script
+{"cause":"member","line":2,"member":"call","out":"bad"}
+
+# A permission that is kept in one script alone is not compared
+HEADER
+KEPT u9
+LOAD 1 https://rp.example/
+GET 1 1
+WELL_KNOWN_REPLY 1
+CONFIG 1
+ACCOUNTS_REPLY 1
+NEXT
+HEADER
+LOAD 1 https://a.example/
+OTHER_GET
+WELL_KNOWN_REPLY 1
+CONFIG 1
+ACCOUNTS_REPLY 1
+= done
+TWINS 3 5
+
+# An account is reselected by one, so a token is asked for
+HEADER
+KEPT u1
+LOAD 1 https://rp.example/
+GET 1 1
+WELL_KNOWN_REPLY 1
+CONFIG 1
+ACCOUNTS_REPLY 1
+NEXT
+HEADER
+LOAD 1 https://a.example/
+OTHER_GET
+WELL_KNOWN_REPLY 1
+CONFIG 1
+ACCOUNTS_REPLY 1
+= done
+TWINS 3 4
+
+# The origin of a flag is free
+HEADER
+SILENT https://rp.example/
+LOAD 1 https://rp.example/
+SILENT_GET
+NEXT
+HEADER
+SILENT https://a.example/
+LOAD 1 https://a.example/
+SILENT_GET
+= done
+TWINS 0 3
+
+# The origin of a flag is that of a page in both scripts or in neither
+HEADER
+SILENT https://rp.example/
+LOAD 1 https://rp.example/
+SILENT_GET
+NEXT
+HEADER
+SILENT https://shop.example/
+LOAD 1 https://a.example/
+SILENT_GET
+= not-twins
+NOT_TWINS origins 2
+
+# A flag in the place of a login status
+HEADER
+SILENT https://rp.example/
+NEXT
+HEADER
+{"do":"have","what":"login","origin":"https://rp.example/","status":"logged-in"}
+= not-twins
+NOT_TWINS member 1
+
+# A page prevents silent access in both
+HEADER
+LOAD 1 https://rp.example/
+{"do":"prevent","page":1}
+SILENT_GET
+NEXT
+HEADER
+LOAD 1 https://a.example/
+{"do":"prevent","page":1}
+SILENT_GET
+= done
+TWINS 0 3
+
+# The first requests of a disconnect are not compared
+HEADER
+KEPT u1
+LOAD 1 https://rp.example/
+DISCONNECT c1 u1
+NEXT
+HEADER
+LOAD 1 https://a.example/
+DISCONNECT x u1
+= done
+TWINS 0 2
+
+# The last request of a disconnect ends what is compared
+HEADER
+KEPT u1
+LOAD 1 https://rp.example/
+DISCONNECT c1 u1
+WELL_KNOWN_REPLY 3
+DISCONNECT_CONFIG
+NEXT
+HEADER
+LOAD 1 https://a.example/
+DISCONNECT x u1
+WELL_KNOWN_REPLY 3
+DISCONNECT_CONFIG
+= done
+TWINS 0 3
+
+# Disconnects of two accounts
+HEADER
+LOAD 1 https://rp.example/
+DISCONNECT c1 u1
+NEXT
+HEADER
+LOAD 1 https://rp.example/
+DISCONNECT c1 u2
+= not-twins
+NOT_TWINS member 2
+
+# The party of a disconnect's provider is one of those from which pages have to be far
+HEADER
+LOAD 1 https://rp.example/
+LOAD 2 https://www.idp.example/
+DISCONNECT c1 u1
+NEXT
+HEADER
+LOAD 1 https://a.example/
+LOAD 2 https://b.example/
+DISCONNECT c1 u1
+= not-twins
+NOT_TWINS load 2"##
 }
 
 #[test]
-fn twins_differ_in_relying_parties(rt: HostRuntime) -> Result<(), Fail> {
-    let input = [
-        HEADER,
-        LOAD,
-        SHOP,
-        GET,
-        SHOP_GET,
-        WELL_KNOWN_REPLY,
-        CONFIG,
-        SHOP_WELL_KNOWN,
-        SHOP_CONFIG,
-        ACCOUNTS,
-        SHOP_ACCOUNTS,
-        LINKS,
-        SHOP_LINKS,
-        NEXT,
-        HEADER,
-        OTHER_PAGE,
-        OTHER_SHOP,
-        OTHER_GET,
-        OTHER_SHOP_GET,
-        WELL_KNOWN_REPLY,
-        CONFIG,
-        SHOP_WELL_KNOWN,
-        SHOP_CONFIG,
-        ACCOUNTS,
-        SHOP_ACCOUNTS,
-        SHOP_LINKS,
-        LINKS,
-    ];
-    let record = "{\"compared\":6,\"out\":\"twins\",\"quiet\":10}\n";
-    assert!(rt; tells(rt.alloc(), &input, Status::Done, record)?);
-    Ok(())
-}
-
-// Both pages have one origin in one of the scripts alone.
-#[test]
-fn twins_share_origins_in_both_scripts(rt: HostRuntime) -> Result<(), Fail> {
-    let record = "{\"clause\":\"origins\",\"event\":2,\"out\":\"not-twins\"}\n";
-    let at_one = "{\"do\":\"load\",\"page\":2,\"url\":\"https://a.example/\"}\n";
-    let input = [
-        HEADER, LOAD, SHOP, GET, NEXT, HEADER, OTHER_PAGE, at_one, OTHER_GET,
-    ];
-    assert!(rt; tells(rt.alloc(), &input, Status::NotTwins, record)?);
-    let input = [HEADER, OTHER_PAGE, at_one, NEXT, HEADER, LOAD, SHOP];
-    assert!(rt; tells(rt.alloc(), &input, Status::NotTwins, record)?);
-    Ok(())
-}
-
-// In one world the prompt is ready, in the other it waits for the client's links.
-#[test]
-fn a_prompt_may_wait_in_one_world(rt: HostRuntime) -> Result<(), Fail> {
-    let input = [
-        HEADER,
-        LOAD,
-        GET,
-        WELL_KNOWN_REPLY,
-        CONFIG,
-        ACCOUNTS,
-        LINKS,
-        GO_ON,
-        NEXT,
-        HEADER,
-        OTHER_PAGE,
-        OTHER_GET,
-        WELL_KNOWN_REPLY,
-        CONFIG,
-        ACCOUNTS,
-        GO_ON,
-    ];
-    let record = "{\"compared\":3,\"out\":\"twins\",\"quiet\":5}\n";
-    assert!(rt; tells(rt.alloc(), &input, Status::Done, record)?);
-    Ok(())
-}
-
-// Whether two scripts of these lines after one header are no twins by this record.
-fn differ(alloc: Global, first: &str, second: &str, record: &str) -> Result<bool, NoRoom> {
-    let input = [HEADER, LOAD, first, NEXT, HEADER, LOAD, second];
-    tells(alloc, &input, Status::NotTwins, record)
-}
-
-#[test]
-fn each_clause_names_its_first_event(rt: HostRuntime) -> Result<(), Fail> {
-    let later = "{\"fedcm\":1,\"now\":1700000001,\"rules\":\"\"}\n";
-    let input = [HEADER, LOAD, NEXT, later, LOAD];
-    let record = "{\"clause\":\"header\",\"event\":0,\"out\":\"not-twins\"}\n";
-    assert!(rt; tells(rt.alloc(), &input, Status::NotTwins, record)?);
-    for (first, second, record) in [
-        (
-            "{\"do\":\"abort\",\"call\":1}\n",
-            "{\"do\":\"cancel\",\"call\":1}\n",
-            "{\"clause\":\"kind\",\"event\":2,\"out\":\"not-twins\"}\n",
-        ),
-        (
-            "{\"do\":\"abort\",\"call\":1}\n",
-            "{\"do\":\"abort\",\"call\":2}\n",
-            "{\"clause\":\"member\",\"event\":2,\"out\":\"not-twins\"}\n",
-        ),
-        (
-            "{\"do\":\"load\",\"page\":2,\"url\":\"https://b.example/\"}\n",
-            "{\"do\":\"load\",\"page\":2,\"url\":\"http://b.example/\"}\n",
-            "{\"clause\":\"load\",\"event\":2,\"out\":\"not-twins\"}\n",
-        ),
-        (
-            "{\"do\":\"load\",\"page\":2,\"url\":\"https://rp.example/\"}\n",
-            "{\"do\":\"load\",\"page\":2,\"url\":\"https://b.example/\"}\n",
-            "{\"clause\":\"origins\",\"event\":2,\"out\":\"not-twins\"}\n",
-        ),
-        (
-            "{\"do\":\"abort\",\"call\":1}\n",
-            "\n",
-            "{\"clause\":\"count\",\"event\":2,\"out\":\"not-twins\"}\n",
-        ),
-    ] {
-        assert!(rt; differ(rt.alloc(), first, second, record)?, "{record}");
-    }
-    Ok(())
-}
-
-// A page of the provider's own party has to be the same in both scripts, with all that its reply brings.
-#[test]
-fn a_page_of_the_providers_party_is_seen(rt: HostRuntime) -> Result<(), Fail> {
-    let own = concat!(
-        r#"{"do":"load","page":2,"url":"https://www.idp.example/","text":"HTTP/1.1 200 OK\r\nSet-Login: logged-in\r\n\r\n"}"#,
-        "\n",
-    );
-    let other = "{\"do\":\"load\",\"page\":2,\"url\":\"https://www.idp.example/\"}\n";
-    let input = [
-        HEADER, LOAD, own, GET, NEXT, HEADER, OTHER_PAGE, own, OTHER_GET,
-    ];
-    let record = "{\"compared\":2,\"out\":\"twins\",\"quiet\":3}\n";
-    assert!(rt; tells(rt.alloc(), &input, Status::Done, record)?);
-    let record = "{\"clause\":\"load\",\"event\":2,\"out\":\"not-twins\"}\n";
-    for page in [other, OTHER_SHOP] {
-        let input = [
-            HEADER, LOAD, own, GET, NEXT, HEADER, OTHER_PAGE, page, OTHER_GET,
-        ];
-        assert!(rt; tells(rt.alloc(), &input, Status::NotTwins, record)?);
-    }
-    Ok(())
-}
-
-#[test]
-fn a_line_divides_two_scripts(rt: HostRuntime) -> Result<(), Fail> {
-    let alloc = rt.alloc();
-    let record = "{\"cause\":\"not-json\",\"line\":1,\"out\":\"bad\"}\n";
-    assert!(rt; tells(alloc, &[], Status::BadScript, record)?);
-    assert!(rt; tells(alloc, &[NEXT, HEADER], Status::BadScript, record)?);
-    let record = "{\"cause\":\"no-next\",\"line\":3,\"out\":\"bad\"}\n";
-    assert!(rt; tells(alloc, &[HEADER, LOAD], Status::BadScript, record)?);
-    let record = "{\"cause\":\"not-json\",\"line\":4,\"out\":\"bad\"}\n";
-    assert!(rt; tells(alloc, &[HEADER, LOAD, NEXT], Status::BadScript, record)?);
-    let record = "{\"cause\":\"no-kind\",\"line\":5,\"out\":\"bad\"}\n";
-    let twice = [HEADER, LOAD, NEXT, HEADER, NEXT];
-    assert!(rt; tells(alloc, &twice, Status::BadScript, record)?);
-    let record = "{\"cause\":\"member\",\"line\":2,\"member\":\"call\",\"out\":\"bad\"}\n";
-    let member = [HEADER, "{\"do\":\"abort\"}\n", NEXT];
-    assert!(rt; tells(alloc, &member, Status::BadScript, record)?);
-    Ok(())
-}
-
-const KEPT: &str = concat!(
-    r#"{"do":"have","what":"kept","page":"https://rp.example/","provider":"https://accounts.idp.example/","account":"u1"}"#,
-    "\n",
-);
-
-const KEPT_OTHER: &str = concat!(
-    r#"{"do":"have","what":"kept","page":"https://rp.example/","provider":"https://accounts.idp.example/","account":"u9"}"#,
-    "\n",
-);
-
-const SILENT: &str = r#"{"do":"have","what":"silent","origin":"https://rp.example/"}
-"#;
-
-const OTHER_SILENT: &str = r#"{"do":"have","what":"silent","origin":"https://a.example/"}
-"#;
-
-const SHOP_SILENT: &str = r#"{"do":"have","what":"silent","origin":"https://shop.example/"}
-"#;
-
-const SILENT_GET: &str = concat!(
-    r#"{"do":"get","page":1,"call":1,"mediation":"silent","#,
-    r#""providers":[{"config":"https://accounts.idp.example/fedcm.json","client":"c1"}]}"#,
-    "\n",
-);
-
-const PREVENT: &str = r#"{"do":"prevent","page":1}
-"#;
-
-const DISCONNECT: &str = concat!(
-    r#"{"do":"disconnect","page":1,"call":3,"config":"https://accounts.idp.example/fedcm.json","client":"c1","hint":"u1"}"#,
-    "\n",
-);
-
-const OTHER_DISCONNECT: &str = concat!(
-    r#"{"do":"disconnect","page":1,"call":3,"config":"https://accounts.idp.example/fedcm.json","client":"x","hint":"u1"}"#,
-    "\n",
-);
-
-const DISCONNECT_WELL_KNOWN: &str = concat!(
-    r#"{"do":"reply","call":3,"to":"wellknown","text":"HTTP/1.1 200 OK\r\nContent-Type: application/json\r\n\r\n"#,
-    r#"{\"provider_urls\":[\"https://accounts.idp.example/fedcm.json\"]}"}"#,
-    "\n",
-);
-
-const DISCONNECT_CONFIG: &str = concat!(
-    r#"{"do":"reply","call":3,"to":"config","text":"HTTP/1.1 200 OK\r\nContent-Type: application/json\r\n\r\n"#,
-    r#"{\"accounts_endpoint\":\"/accounts\",\"id_assertion_endpoint\":\"/assert\",\"login_url\":\"/login\","#,
-    r#"\"disconnect_endpoint\":\"/disconnect\"}"}"#,
-    "\n",
-);
-
-// A permission that is kept in one script alone is not compared; where an account is reselected by it, a token is asked for.
-#[test]
-fn a_permission_may_be_kept_in_one_world(rt: HostRuntime) -> Result<(), Fail> {
-    for (kept, record) in [
-        (
-            KEPT_OTHER,
-            "{\"compared\":3,\"out\":\"twins\",\"quiet\":5}\n",
-        ),
-        (KEPT, "{\"compared\":3,\"out\":\"twins\",\"quiet\":4}\n"),
-    ] {
-        let input = [
-            HEADER,
-            kept,
-            LOAD,
-            GET,
-            WELL_KNOWN_REPLY,
-            CONFIG,
-            ACCOUNTS,
-            NEXT,
-            HEADER,
-            OTHER_PAGE,
-            OTHER_GET,
-            WELL_KNOWN_REPLY,
-            CONFIG,
-            ACCOUNTS,
-        ];
-        assert!(rt;
-            tells(rt.alloc(), &input, Status::Done, record)?,
-            "{record}"
-        );
-    }
-    Ok(())
-}
-
-// The origin of a flag is free, but it is that of a page in both scripts or in neither.
-#[test]
-fn flags_follow_origins(rt: HostRuntime) -> Result<(), Fail> {
-    let input = [
-        HEADER,
-        SILENT,
-        LOAD,
-        SILENT_GET,
-        NEXT,
-        HEADER,
-        OTHER_SILENT,
-        OTHER_PAGE,
-        SILENT_GET,
-    ];
-    let record = "{\"compared\":0,\"out\":\"twins\",\"quiet\":3}\n";
-    assert!(rt; tells(rt.alloc(), &input, Status::Done, record)?);
-    let input = [
-        HEADER,
-        SILENT,
-        LOAD,
-        SILENT_GET,
-        NEXT,
-        HEADER,
-        SHOP_SILENT,
-        OTHER_PAGE,
-        SILENT_GET,
-    ];
-    let record = "{\"clause\":\"origins\",\"event\":2,\"out\":\"not-twins\"}\n";
-    assert!(rt; tells(rt.alloc(), &input, Status::NotTwins, record)?);
-    let login =
-        "{\"do\":\"have\",\"what\":\"login\",\"origin\":\"https://rp.example/\",\"status\":\"logged-in\"}\n";
-    let record = "{\"clause\":\"member\",\"event\":1,\"out\":\"not-twins\"}\n";
-    let input = [HEADER, SILENT, NEXT, HEADER, login];
-    assert!(rt; tells(rt.alloc(), &input, Status::NotTwins, record)?);
-    let input = [
-        HEADER, LOAD, PREVENT, SILENT_GET, NEXT, HEADER, OTHER_PAGE, PREVENT, SILENT_GET,
-    ];
-    let record = "{\"compared\":0,\"out\":\"twins\",\"quiet\":3}\n";
-    assert!(rt; tells(rt.alloc(), &input, Status::Done, record)?);
-    Ok(())
-}
-
-// The first requests of a disconnect are not compared, and its last one ends what is.
-#[test]
-fn a_disconnect_may_begin_in_one_world(rt: HostRuntime) -> Result<(), Fail> {
-    let input = [
-        HEADER,
-        KEPT,
-        LOAD,
-        DISCONNECT,
-        NEXT,
-        HEADER,
-        OTHER_PAGE,
-        OTHER_DISCONNECT,
-    ];
-    let record = "{\"compared\":0,\"out\":\"twins\",\"quiet\":2}\n";
-    assert!(rt; tells(rt.alloc(), &input, Status::Done, record)?);
-    let input = [
-        HEADER,
-        KEPT,
-        LOAD,
-        DISCONNECT,
-        DISCONNECT_WELL_KNOWN,
-        DISCONNECT_CONFIG,
-        NEXT,
-        HEADER,
-        OTHER_PAGE,
-        OTHER_DISCONNECT,
-        DISCONNECT_WELL_KNOWN,
-        DISCONNECT_CONFIG,
-    ];
-    let record = "{\"compared\":0,\"out\":\"twins\",\"quiet\":3}\n";
-    assert!(rt; tells(rt.alloc(), &input, Status::Done, record)?);
-    let other = concat!(
-        r#"{"do":"disconnect","page":1,"call":3,"config":"https://accounts.idp.example/fedcm.json","client":"c1","hint":"u2"}"#,
-        "\n",
-    );
-    let record = "{\"clause\":\"member\",\"event\":2,\"out\":\"not-twins\"}\n";
-    assert!(rt; differ(rt.alloc(), DISCONNECT, other, record)?);
-    Ok(())
-}
-
-// The party of a disconnect's provider is one of those from which pages have to be far.
-#[test]
-fn a_page_of_a_disconnects_provider_is_seen(rt: HostRuntime) -> Result<(), Fail> {
-    let own = "{\"do\":\"load\",\"page\":2,\"url\":\"https://www.idp.example/\"}\n";
-    let input = [
-        HEADER, LOAD, own, DISCONNECT, NEXT, HEADER, OTHER_PAGE, OTHER_SHOP, DISCONNECT,
-    ];
-    let record = "{\"clause\":\"load\",\"event\":2,\"out\":\"not-twins\"}\n";
-    assert!(rt; tells(rt.alloc(), &input, Status::NotTwins, record)?);
+fn twins(rt: HostRuntime) -> Result<(), Fail> {
+    assert_eq!(rt; first_wrong(rt.alloc(), "twin", scenarios())?, ("", 29));
     Ok(())
 }

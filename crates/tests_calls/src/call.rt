@@ -1,11 +1,29 @@
 //! Calls from their beginning to their accounts request.
 use crate::browser::{Browser, with_status};
-use crate::call_words::{begin, follow, paged};
+use crate::call_words::{begin_all, follow};
 use crate::values::{CONFIG, PAGE};
-use fed_io::NoRoom;
-use fed_origin::{LoginStatus, Mediation, Mode};
-use std::alloc::Global;
+use fed_origin::{LoginStatus, Mediation};
 use std::test::Fail;
+
+// What a call does when it begins: its provider, its mode, what it does, and its page.
+const BEGINS: &str = "provider passive | first | 7";
+
+const LOGGED_OUT: &str = "provider passive | logged-out | over
+provider active | first | 7";
+
+const PREVENTED: &str = "provider passive | silent-prevented | over";
+
+const FAILS: &str = "http passive | config-scheme | over
+address passive | no-site | over
+address active | no-site | over";
+
+// Where the user did nothing at the page.
+const IDLE: &str = "provider passive | first | 7
+provider active | no-activation | over
+http active | config-scheme | over
+address active | no-activation | over";
+
+const IDLE_AND_PREVENTED: &str = "provider active | no-activation | over";
 
 // The bodies of well-known replies.
 const WELL_KNOWN_FILES: &str = "{\"provider_urls\":[\"/a\",\"/b\"]} | well-known-shape | ended
@@ -32,73 +50,50 @@ lost wellknown | call-ended | ended";
 const ABORTED: &str = "abort | aborted | ended
 wellknown config abort | aborted | ended";
 
-fn at_once(
-    alloc: Global,
-    config: &str,
-    mode: Mode,
-    browser: &Browser,
-) -> Result<(&'static str, Option<u32>), NoRoom> {
-    let call = begin(alloc, config, mode, browser)?;
-    Ok(paged(call))
-}
-
 #[test]
 fn logged_out_at_the_provider(rt: HostRuntime) -> Result<(), Fail> {
     let browser = with_status(rt.alloc(), CONFIG, LoginStatus::LoggedOut)?;
-    assert!(rt; at_once(rt.alloc(), CONFIG, Mode::Passive, &browser)? == ("logged-out", None));
-    assert!(rt; at_once(rt.alloc(), CONFIG, Mode::Active, &browser)? == ("first", Some(7)));
-    Ok(())
+    begin_all(&rt, rt.alloc(), &browser, LOGGED_OUT)
 }
 
 #[test]
 fn logged_out_at_the_page(rt: HostRuntime) -> Result<(), Fail> {
     let browser = with_status(rt.alloc(), PAGE, LoginStatus::LoggedOut)?;
-    assert!(rt; at_once(rt.alloc(), CONFIG, Mode::Passive, &browser)? == ("first", Some(7)));
-    Ok(())
+    begin_all(&rt, rt.alloc(), &browser, BEGINS)
 }
 
 #[test]
 fn logged_in(rt: HostRuntime) -> Result<(), Fail> {
     let browser = with_status(rt.alloc(), CONFIG, LoginStatus::LoggedIn)?;
-    assert!(rt; at_once(rt.alloc(), CONFIG, Mode::Passive, &browser)? == ("first", Some(7)));
-    Ok(())
+    begin_all(&rt, rt.alloc(), &browser, BEGINS)
 }
 
 #[test]
 fn silent_access_is_prevented(rt: HostRuntime) -> Result<(), Fail> {
     let browser = Browser::new(rt.alloc()).prevented(rt.alloc())?;
-    assert!(rt; at_once(rt.alloc(), CONFIG, Mode::Passive, &browser)? == ("first", Some(7)));
+    begin_all(&rt, rt.alloc(), &browser, BEGINS)?;
     let silent = browser.mediated(Mediation::Silent);
-    let prevented = at_once(rt.alloc(), CONFIG, Mode::Passive, &silent)?;
-    assert!(rt; prevented == ("silent-prevented", None));
-    let other = Browser::new(rt.alloc()).mediated(Mediation::Silent);
-    assert!(rt; at_once(rt.alloc(), CONFIG, Mode::Passive, &other)? == ("first", Some(7)));
-    Ok(())
+    begin_all(&rt, rt.alloc(), &silent, PREVENTED)
+}
+
+#[test]
+fn silent_access_is_allowed(rt: HostRuntime) -> Result<(), Fail> {
+    let browser = Browser::new(rt.alloc()).mediated(Mediation::Silent);
+    begin_all(&rt, rt.alloc(), &browser, BEGINS)
 }
 
 #[test]
 fn a_call_fails_at_once(rt: HostRuntime) -> Result<(), Fail> {
     let browser = Browser::new(rt.alloc());
-    let http = "http://192.0.2.1/fedcm.json";
-    assert!(rt; at_once(rt.alloc(), http, Mode::Passive, &browser)? == ("config-scheme", None));
-    let address = "https://192.0.2.1/fedcm.json";
-    assert!(rt; at_once(rt.alloc(), address, Mode::Passive, &browser)? == ("no-site", None));
-    assert!(rt; at_once(rt.alloc(), address, Mode::Active, &browser)? == ("no-site", None));
-    Ok(())
+    begin_all(&rt, rt.alloc(), &browser, FAILS)
 }
 
 #[test]
 fn an_active_call_needs_the_user(rt: HostRuntime) -> Result<(), Fail> {
     let idle = Browser::new(rt.alloc()).idle();
-    assert!(rt; at_once(rt.alloc(), CONFIG, Mode::Passive, &idle)? == ("first", Some(7)));
-    assert!(rt; at_once(rt.alloc(), CONFIG, Mode::Active, &idle)? == ("no-activation", None));
-    let http = "http://192.0.2.1/fedcm.json";
-    assert!(rt; at_once(rt.alloc(), http, Mode::Active, &idle)? == ("config-scheme", None));
-    let address = "https://192.0.2.1/fedcm.json";
-    assert!(rt; at_once(rt.alloc(), address, Mode::Active, &idle)? == ("no-activation", None));
+    begin_all(&rt, rt.alloc(), &idle, IDLE)?;
     let prevented = idle.prevented(rt.alloc())?.mediated(Mediation::Silent);
-    assert!(rt; at_once(rt.alloc(), CONFIG, Mode::Active, &prevented)? == ("no-activation", None));
-    Ok(())
+    begin_all(&rt, rt.alloc(), &prevented, IDLE_AND_PREVENTED)
 }
 
 #[test]

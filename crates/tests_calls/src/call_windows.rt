@@ -1,6 +1,6 @@
 //! Login windows of calls.
 use crate::browser::{Browser, with_status};
-use crate::call_words::{follow, waits};
+use crate::call_words::{follow, wait_all};
 use crate::values::CONFIG;
 use fed_origin::{LoginStatus, Mediation};
 use std::test::Fail;
@@ -37,6 +37,12 @@ wellknown config gone signin resume gone | mismatch | mismatch";
 const SILENT: &str = "wellknown config gone | status | ended
 wellknown config empty | accounts-empty | ended";
 
+// Whether an active call waits for its provider.
+const WAITING: &str = "wellknown config gone | yes
+wellknown config | no
+wellknown config gone resume | no
+wellknown config gone shut | no";
+
 #[test]
 fn a_window_opens_for_an_active_call(rt: HostRuntime) -> Result<(), Fail> {
     let browser = Browser::new(rt.alloc()).active();
@@ -63,9 +69,5 @@ fn a_silent_call_opens_no_window(rt: HostRuntime) -> Result<(), Fail> {
 #[test]
 fn a_call_waits_for_its_provider(rt: HostRuntime) -> Result<(), Fail> {
     let browser = Browser::new(rt.alloc()).active();
-    assert!(rt; waits(rt.alloc(), "wellknown config gone", &browser)?);
-    assert!(rt; !waits(rt.alloc(), "wellknown config", &browser)?);
-    assert!(rt; !waits(rt.alloc(), "wellknown config gone resume", &browser)?);
-    assert!(rt; !waits(rt.alloc(), "wellknown config gone shut", &browser)?);
-    Ok(())
+    wait_all(&rt, rt.alloc(), &browser, WAITING)
 }

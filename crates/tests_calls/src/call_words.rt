@@ -3,7 +3,8 @@ ghost use Rattle.std.specs.Prelude.{◌≡◌, IfOk, length};
 
 use crate::browser::Browser;
 use crate::call_inputs::inputs;
-use crate::values::{CONFIG, PAGE, origin_of, provider};
+use crate::lines::{assert_so, assert_word, parts};
+use crate::values::{CONFIG, PAGE, config_of, origin_of, page_word, provider};
 use fed_call::CallState;
 use fed_consent::{Ask, AssertionAsk, Dialog, Effect, Finish, Input};
 use fed_io::{Items, NoRoom};
@@ -41,7 +42,7 @@ fn with_word(call: (CallState, Items<Effect>)) -> Seen {
     }
 }
 
-pub fn begin(alloc: Global, config: &str, mode: Mode, browser: &Browser) -> Result<Seen, NoRoom> {
+fn begin(alloc: Global, config: &str, mode: Mode, browser: &Browser) -> Result<Seen, NoRoom> {
     let origin = origin_of(alloc, PAGE)?;
     let options = options(alloc, config, mode, browser)?;
     match CallState::start(alloc, 1, 7, origin, options, &browser.lent()) {
@@ -214,9 +215,9 @@ fn ending(call: Seen) -> (&'static str, Stage) {
     (call.word, call.state.stage())
 }
 
-// What a call did last, and its page; none where it is over.
-pub fn paged(call: Seen) -> (&'static str, Option<u32>) {
-    (call.word, call.state.page())
+// What a call did last, and its page.
+fn paged(call: Seen) -> (&'static str, &'static str) {
+    (call.word, page_word(call.state.page()))
 }
 
 fn is_awaited(call: &Seen, origin: &Origin) -> bool {
@@ -226,21 +227,38 @@ fn is_awaited(call: &Seen, origin: &Origin) -> bool {
     }
 }
 
+fn awaits(
+    alloc: Global,
+    inputs: &[Input],
+    origin: &Origin,
+    browser: &Browser,
+) -> Result<bool, NoRoom> {
+    let call = begin(alloc, CONFIG, browser.mode, browser)?;
+    let call = after(alloc, call, inputs, browser)?;
+    Ok(is_awaited(&call, origin))
+}
+
 // Whether a call waits for its provider after these inputs.
-pub fn waits(alloc: Global, words: &str, browser: &Browser) -> Result<bool, NoRoom> {
+fn waits(alloc: Global, words: &str, browser: &Browser) -> Result<bool, NoRoom> {
     let origin = origin_of(alloc, CONFIG)?;
     let inputs = inputs(alloc, words)?;
+    awaits(alloc, inputs.as_slice(), &origin, browser)
+}
+
+fn end(
+    alloc: Global,
+    inputs: &[Input],
+    browser: &Browser,
+) -> Result<(&'static str, Stage), NoRoom> {
     let call = begin(alloc, CONFIG, browser.mode, browser)?;
-    let call = after(alloc, call, inputs.as_slice(), browser)?;
-    Ok(is_awaited(&call, &origin))
+    let call = after(alloc, call, inputs, browser)?;
+    Ok(ending(call))
 }
 
 // What a call does at the last of these inputs, and where it is then.
 fn last(alloc: Global, words: &str, browser: &Browser) -> Result<(&'static str, Stage), NoRoom> {
     let inputs = inputs(alloc, words)?;
-    let call = begin(alloc, CONFIG, browser.mode, browser)?;
-    let call = after(alloc, call, inputs.as_slice(), browser)?;
-    Ok(ending(call))
+    end(alloc, inputs.as_slice(), browser)
 }
 
 fn stage_word(stage: Stage) -> &'static str {
@@ -256,18 +274,13 @@ fn stage_word(stage: Stage) -> &'static str {
     }
 }
 
-// The parts of a line round its first bar.
-fn parts(line: &str) -> Result<(&str, &str), Fail> {
-    Ok(line.split_once(" | ").ok_or("a line")?)
-}
-
 // A line: the inputs of a call, what it does at the last of them, and its stage then.
 fn follows(rt: &impl Abort, alloc: Global, browser: &Browser, line: &str) -> Result<(), Fail> {
     let (words, more) = parts(line)?;
     let (expected, stage) = parts(more)?;
     let (word, at) = last(alloc, words, browser)?;
-    assert_eq!(rt; word, expected, "{line}");
-    assert_eq!(rt; stage_word(at), stage, "{line}");
+    assert_word(rt, word, expected, line);
+    assert_word(rt, stage_word(at), stage, line);
     Ok(())
 }
 
@@ -275,6 +288,61 @@ fn follows(rt: &impl Abort, alloc: Global, browser: &Browser, line: &str) -> Res
 pub fn follow(rt: &impl Abort, alloc: Global, browser: &Browser, text: &str) -> Result<(), Fail> {
     for line in text.split('\n') {
         follows(rt, alloc, browser, line)?;
+    }
+    Ok(())
+}
+
+fn mode_of(word: &str) -> Mode {
+    match word {
+        "active" => Mode::Active,
+        _ => Mode::Passive,
+    }
+}
+
+fn at_once(
+    alloc: Global,
+    names: &str,
+    browser: &Browser,
+) -> Result<(&'static str, &'static str), Fail> {
+    let (provider, mode) = names.split_once(' ').ok_or("a mode")?;
+    let call = begin(alloc, config_of(provider), mode_of(mode), browser)?;
+    Ok(paged(call))
+}
+
+// A line: the provider and the mode of a call, what it does when it begins, and its page then.
+fn begins(rt: &impl Abort, alloc: Global, browser: &Browser, line: &str) -> Result<(), Fail> {
+    let (names, more) = parts(line)?;
+    let (expected, page) = parts(more)?;
+    let (word, at) = at_once(alloc, names, browser)?;
+    assert_word(rt, word, expected, line);
+    assert_word(rt, at, page, line);
+    Ok(())
+}
+
+// That calls begin as each of these lines says.
+pub fn begin_all(
+    rt: &impl Abort,
+    alloc: Global,
+    browser: &Browser,
+    text: &str,
+) -> Result<(), Fail> {
+    for line in text.split('\n') {
+        begins(rt, alloc, browser, line)?;
+    }
+    Ok(())
+}
+
+// A line: the inputs of a call, and whether it waits for its provider after them.
+fn is_waiting(rt: &impl Abort, alloc: Global, browser: &Browser, line: &str) -> Result<(), Fail> {
+    let (words, answer) = parts(line)?;
+    assert_so(rt, waits(alloc, words, browser)? == (answer == "yes"), line);
+    Ok(())
+}
+
+// That calls wait for their provider as each of these lines says.
+pub fn wait_all(rt: &impl Abort, alloc: Global, browser: &Browser, text: &str) -> Result<(), Fail> {
+    for line in text.split('\n') {
+        is_waiting(rt, alloc, browser, line)?;
     }
     Ok(())
 }

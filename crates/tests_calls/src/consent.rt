@@ -1,6 +1,7 @@
 //! Requests, words and consents.
 ghost use Rattle.std.specs.Prelude.{◌≡◌, IfOk, length};
 
+use crate::lines::{assert_so, assert_word};
 use crate::values::{provider_with_nonce, url};
 use fed_accounts::{Accounts, read_accounts, reselect};
 use fed_consent::{
@@ -21,32 +22,53 @@ fn metadata(alloc: Global) -> Result<Ask, NoRoom> {
     })
 }
 
+fn names_no_page(ask: &Ask) -> bool {
+    ask.kind() == ReplyKind::Accounts && ask.origin().is_none()
+}
+
 #[test]
 fn accounts_requests_name_no_page(rt: HostRuntime) -> Result<(), Fail> {
     let to = url(rt.alloc(), "https://accounts.idp.example/accounts")?;
     let ask = Ask::Accounts { to };
-    assert!(rt; ask.kind() == ReplyKind::Accounts && ask.origin() == None);
-    assert_eq!(rt; ask.to().path(), "/accounts");
+    assert_so(&rt, names_no_page(&ask), "accounts");
+    assert_word(&rt, ask.to().path(), "/accounts", "accounts");
     Ok(())
 }
 
 #[test]
 fn metadata_requests_name_the_page(rt: HostRuntime) -> Result<(), Fail> {
     let ask = metadata(rt.alloc())?;
-    assert!(rt; ask.kind() == ReplyKind::Metadata && ask.origin().is_some());
+    assert_so(
+        &rt,
+        ask.kind() == ReplyKind::Metadata && ask.origin().is_some(),
+        "metadata",
+    );
     Ok(())
 }
 
 #[test]
 fn words(rt: HostRuntime) -> Result<(), Fail> {
-    assert_eq!(rt; FailStep::SilentNoAccount.as_str(), "silent-no-account");
-    assert_eq!(rt; FailStep::LoggedOut.error_name(), "NetworkError");
-    assert_eq!(rt; Detail::Reply(ReplyStep::Mime).as_str(), "mime");
-    assert_eq!(rt;
-        Detail::Member(Endpoint::Assertion).as_str(),
-        "id_assertion_endpoint"
+    assert_word(
+        &rt,
+        FailStep::SilentNoAccount.as_str(),
+        "silent-no-account",
+        "words",
     );
-    assert_eq!(rt; Why::NobodyWaits.as_str(), "nobody-waits");
+    assert_word(
+        &rt,
+        FailStep::LoggedOut.error_name(),
+        "NetworkError",
+        "words",
+    );
+    assert_word(
+        &rt,
+        Detail::Reply(ReplyStep::Mime).as_str(),
+        "mime",
+        "words",
+    );
+    let member = Detail::Member(Endpoint::Assertion);
+    assert_word(&rt, member.as_str(), "id_assertion_endpoint", "words");
+    assert_word(&rt, Why::NobodyWaits.as_str(), "nobody-waits", "words");
     Ok(())
 }
 
@@ -56,8 +78,13 @@ fn what_a_page_sees(rt: HostRuntime) -> Result<(), Fail> {
         step: FailStep::Aborted,
         detail: None,
     };
-    assert_eq!(rt; Finish::Failed(failure).seen(), "AbortError");
-    assert_eq!(rt; Finish::Disconnected.seen(), "disconnected");
+    assert_word(
+        &rt,
+        Finish::Failed(failure).seen(),
+        "AbortError",
+        "an abort",
+    );
+    assert_word(&rt, Finish::Disconnected.seen(), "disconnected", "the end");
     Ok(())
 }
 
@@ -152,8 +179,12 @@ fn goes_on(alloc: Global, connected: bool, disclosure: bool) -> Result<bool, NoR
 
 #[test]
 fn a_prompt_makes_a_consent(rt: HostRuntime) -> Result<(), Fail> {
-    assert!(rt; goes_on(rt.alloc(), false, true)?);
-    assert!(rt; goes_on(rt.alloc(), true, false)?);
+    assert_so(&rt, goes_on(rt.alloc(), false, true)?, "of another account");
+    assert_so(
+        &rt,
+        goes_on(rt.alloc(), true, false)?,
+        "of a connected account",
+    );
     Ok(())
 }
 
@@ -206,9 +237,9 @@ fn chosen(alloc: Global, id: &str) -> Result<&'static str, NoRoom> {
 
 #[test]
 fn a_choice_makes_a_consent(rt: HostRuntime) -> Result<(), Fail> {
-    assert_eq!(rt; chosen(rt.alloc(), "u1")?, "prompt");
-    assert_eq!(rt; chosen(rt.alloc(), "u2")?, "consent");
-    assert_eq!(rt; chosen(rt.alloc(), "u3")?, "none");
+    assert_word(&rt, chosen(rt.alloc(), "u1")?, "prompt", "u1");
+    assert_word(&rt, chosen(rt.alloc(), "u2")?, "consent", "u2");
+    assert_word(&rt, chosen(rt.alloc(), "u3")?, "none", "u3");
     Ok(())
 }
 
@@ -258,7 +289,15 @@ fn asks_silently(alloc: Global, kept: &[bool], id: &str) -> Result<bool, NoRoom>
 
 #[test]
 fn a_reselection_makes_a_consent(rt: HostRuntime) -> Result<(), Fail> {
-    assert!(rt; asks_silently(rt.alloc(), &[false, true], "u2")?);
-    assert!(rt; !asks_silently(rt.alloc(), &[true, true], "u2")?);
+    assert_so(
+        &rt,
+        asks_silently(rt.alloc(), &[false, true], "u2")?,
+        "the only one",
+    );
+    assert_so(
+        &rt,
+        !asks_silently(rt.alloc(), &[true, true], "u2")?,
+        "one of two",
+    );
     Ok(())
 }

@@ -1,7 +1,8 @@
 //! Disconnect calls in tests: what they do, in words.
 use crate::browser::Browser;
 use crate::disconnect_inputs::inputs;
-use crate::values::{CONFIG, PAGE, origin_of, url};
+use crate::lines::{assert_word, parts};
+use crate::values::{CONFIG, PAGE, config_of, origin_of, page_word, url};
 use fed_consent::{Ask, Effect, Failure, Finish, Input};
 use fed_disconnect::DState;
 use fed_io::{Items, NoRoom, Text};
@@ -118,7 +119,7 @@ fn looked_at(call: (DState, Items<Effect>)) -> Seen {
 }
 
 // A call of the page for the provider with this configuration URL.
-pub fn begin(alloc: Global, config: &str, browser: &Browser) -> Result<Seen, NoRoom> {
+fn begin(alloc: Global, config: &str, browser: &Browser) -> Result<Seen, NoRoom> {
     let origin = origin_of(alloc, PAGE)?;
     let config = url(alloc, config)?;
     let client = Text::of(alloc, "c1")?;
@@ -159,22 +160,30 @@ fn ending(call: Seen) -> (Done, &'static str) {
     (call.done, stage_word(call.state.stage()))
 }
 
-// What a call did last, and its page; none where it is over.
-pub fn paged(call: Seen) -> (&'static str, Option<u32>) {
-    (call.done.word, call.state.page())
+// What a call did last, and its page.
+fn paged(call: Seen) -> (&'static str, &'static str) {
+    (call.done.word, page_word(call.state.page()))
+}
+
+fn at_once(
+    alloc: Global,
+    provider: &str,
+    browser: &Browser,
+) -> Result<(&'static str, &'static str), NoRoom> {
+    let call = begin(alloc, config_of(provider), browser)?;
+    Ok(paged(call))
+}
+
+fn end(alloc: Global, inputs: &[Input], browser: &Browser) -> Result<(Done, &'static str), NoRoom> {
+    let call = begin(alloc, CONFIG, browser)?;
+    let call = after(alloc, call, inputs, browser)?;
+    Ok(ending(call))
 }
 
 // What a call does at the last of these inputs, and where it is then.
 fn last(alloc: Global, words: &str, browser: &Browser) -> Result<(Done, &'static str), NoRoom> {
     let inputs = inputs(alloc, words)?;
-    let call = begin(alloc, CONFIG, browser)?;
-    let call = after(alloc, call, inputs.as_slice(), browser)?;
-    Ok(ending(call))
-}
-
-// The parts of a line round its first bar.
-fn parts(line: &str) -> Result<(&str, &str), Fail> {
-    Ok(line.split_once(" | ").ok_or("a line")?)
+    end(alloc, inputs.as_slice(), browser)
 }
 
 // A line: the inputs of a call, what it does at the last of them, and its stage then.
@@ -184,10 +193,10 @@ fn follows(rt: &impl Abort, alloc: Global, browser: &Browser, line: &str) -> Res
     let (word, more) = parts(more)?;
     let (detail, stage) = parts(more)?;
     let (done, at) = last(alloc, words, browser)?;
-    assert_eq!(rt; done.gone, gone, "{line}");
-    assert_eq!(rt; done.word, word, "{line}");
-    assert_eq!(rt; done.detail, detail, "{line}");
-    assert_eq!(rt; at, stage, "{line}");
+    assert_word(rt, done.gone, gone, line);
+    assert_word(rt, done.word, word, line);
+    assert_word(rt, done.detail, detail, line);
+    assert_word(rt, at, stage, line);
     Ok(())
 }
 
@@ -195,6 +204,29 @@ fn follows(rt: &impl Abort, alloc: Global, browser: &Browser, line: &str) -> Res
 pub fn follow(rt: &impl Abort, alloc: Global, browser: &Browser, text: &str) -> Result<(), Fail> {
     for line in text.split('\n') {
         follows(rt, alloc, browser, line)?;
+    }
+    Ok(())
+}
+
+// A line: the provider of a call, what it does when it begins, and its page then.
+fn begins(rt: &impl Abort, alloc: Global, browser: &Browser, line: &str) -> Result<(), Fail> {
+    let (provider, more) = parts(line)?;
+    let (expected, page) = parts(more)?;
+    let (word, at) = at_once(alloc, provider, browser)?;
+    assert_word(rt, word, expected, line);
+    assert_word(rt, at, page, line);
+    Ok(())
+}
+
+// That calls begin as each of these lines says.
+pub fn begin_all(
+    rt: &impl Abort,
+    alloc: Global,
+    browser: &Browser,
+    text: &str,
+) -> Result<(), Fail> {
+    for line in text.split('\n') {
+        begins(rt, alloc, browser, line)?;
     }
     Ok(())
 }

@@ -25,6 +25,8 @@ mod disconnect_inputs;
 #[cfg(test)]
 mod disconnect_words;
 #[cfg(test)]
+mod lines;
+#[cfg(test)]
 mod replies;
 #[cfg(test)]
 mod request;

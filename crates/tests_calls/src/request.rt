@@ -3,6 +3,7 @@ ghost use Rattle.std.specs.Prelude.{ℕ, List, IfOk, IfSome};
 ghost use Rattle.fed_cookie.specs.SetCookie.{HasNoLineEnd};
 ghost use Rattle.fed_request.specs.Request.{TakesCookies};
 
+use crate::lines::assert_so;
 use crate::values::{PAGE, origin_of, provider_with_nonce, url};
 use fed_accounts::{Accounts, read_accounts};
 use fed_consent::{Ask, Consent, Prompt};
@@ -104,65 +105,79 @@ fn disconnect_is(alloc: Global, cookies: &[u8], expected: &[u8]) -> Result<bool,
 
 #[test]
 fn first_requests(rt: HostRuntime) -> Result<(), Fail> {
-    assert!(rt; well_known_is(rt.alloc(), WELL_KNOWN)?);
-    assert!(rt; config_is(rt.alloc(), CONFIG)?);
+    assert_so(&rt, well_known_is(rt.alloc(), WELL_KNOWN)?, "bytes");
+    assert_so(&rt, config_is(rt.alloc(), CONFIG)?, "bytes");
     Ok(())
 }
 
 #[test]
 fn accounts_requests(rt: HostRuntime) -> Result<(), Fail> {
-    assert!(rt;
+    assert_so(
+        &rt,
         accounts_is(
             rt.alloc(),
             "https://accounts.idp.example/accounts",
             b"",
-            ACCOUNTS
-        )?
+            ACCOUNTS,
+        )?,
+        "bytes",
     );
-    assert!(rt;
+    assert_so(
+        &rt,
         accounts_is(
             rt.alloc(),
             "https://accounts.idp.example:8443/accounts?",
             b"b=2; a=5; d=4",
-            WITH_COOKIES
-        )?
+            WITH_COOKIES,
+        )?,
+        "bytes",
     );
     Ok(())
 }
 
 #[test]
 fn metadata_requests(rt: HostRuntime) -> Result<(), Fail> {
-    assert!(rt;
+    assert_so(
+        &rt,
         metadata_is(
             rt.alloc(),
             "https://accounts.idp.example/client",
             "c1",
-            METADATA
-        )?
+            METADATA,
+        )?,
+        "bytes",
     );
-    assert!(rt;
+    assert_so(
+        &rt,
         metadata_is(
             rt.alloc(),
             "https://accounts.idp.example/client?",
             "c1",
-            METADATA
-        )?
+            METADATA,
+        )?,
+        "bytes",
     );
-    assert!(rt;
+    assert_so(
+        &rt,
         metadata_is(
             rt.alloc(),
             "https://accounts.idp.example/client?v=1",
             "c &\u{e9}",
-            MORE_METADATA
-        )?
+            MORE_METADATA,
+        )?,
+        "bytes",
     );
     Ok(())
 }
 
 #[test]
 fn disconnect_requests(rt: HostRuntime) -> Result<(), Fail> {
-    assert!(rt; disconnect_is(rt.alloc(), b"", DISCONNECT)?);
-    assert!(rt; disconnect_is(rt.alloc(), b"a=5", DISCONNECT_WITH_COOKIES)?);
+    assert_so(&rt, disconnect_is(rt.alloc(), b"", DISCONNECT)?, "bytes");
+    assert_so(
+        &rt,
+        disconnect_is(rt.alloc(), b"a=5", DISCONNECT_WITH_COOKIES)?,
+        "bytes",
+    );
     Ok(())
 }
 
@@ -241,6 +256,6 @@ fn assertion_is(alloc: Global, cookies: &[u8], expected: &[u8]) -> Result<bool, 
 
 #[test]
 fn assertion_requests(rt: HostRuntime) -> Result<(), Fail> {
-    assert!(rt; assertion_is(rt.alloc(), b"a=5", ASSERTION)?);
+    assert_so(&rt, assertion_is(rt.alloc(), b"a=5", ASSERTION)?, "bytes");
     Ok(())
 }

@@ -7,6 +7,24 @@ pub const PAGE: &str = "https://rp.example/";
 
 pub const CONFIG: &str = "https://accounts.idp.example/fedcm.json";
 
+// The configuration URL that a word names; any other word is that of a provider with a site.
+pub fn config_of(word: &str) -> &'static str {
+    match word {
+        "http" => "http://192.0.2.1/fedcm.json",
+        "address" => "https://192.0.2.1/fedcm.json",
+        _ => CONFIG,
+    }
+}
+
+// The page of a call, in a word.
+pub fn page_word(page: Option<u32>) -> &'static str {
+    match page {
+        Some(7) => "7",
+        Some(_) => "another",
+        None => "over",
+    }
+}
+
 pub fn url(alloc: Global, text: &str) -> Result<WebUrl, NoRoom> {
     match WebUrl::read(alloc, text) {
         Ok(url) => Ok(url),

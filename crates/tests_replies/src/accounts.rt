@@ -1,5 +1,5 @@
 //! Lists of accounts as they come, and which accounts a call is about.
-use crate::steps::reply_name;
+use crate::steps::{parts, reply_name};
 use fed_accounts::{
     Account, Accounts, AccountsStep, connected, eligible, keep_hinted, read_accounts, read_hinted,
     reselect,
@@ -128,8 +128,8 @@ fn reply_with(alloc: Global, list: &str) -> Result<String, AllocError> {
     )
 }
 
-// The accounts that a list gives.
-fn read_list(alloc: Global, list: &str) -> Result<Accounts, Fault<AccountsStep>> {
+/// The accounts that a list gives.
+pub fn read_list(alloc: Global, list: &str) -> Result<Accounts, Fault<AccountsStep>> {
     let raw = reply_with(alloc, list)?;
     read_accounts(alloc, raw.as_bytes())
 }
@@ -143,11 +143,6 @@ fn hinted_ids(
 ) -> Result<String, Fail> {
     let raw = reply_with(alloc, list)?;
     shown(alloc, read_hinted(alloc, raw.as_bytes(), login, domain))
-}
-
-// The parts of a line round its first bar.
-fn parts(line: &str) -> Result<(&str, &str), Fail> {
-    Ok(line.split_once(" | ").ok_or("a line")?)
 }
 
 fn reply_line(rt: &impl Abort, alloc: Global, line: &str) -> Result<(), Fail> {

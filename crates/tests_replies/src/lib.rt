@@ -5,6 +5,8 @@
 mod accounts;
 pub mod callers;
 #[cfg(test)]
+mod damage;
+#[cfg(test)]
 mod provider;
 #[cfg(test)]
 mod reply;

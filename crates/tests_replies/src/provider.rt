@@ -8,7 +8,8 @@ use fed_suffix::Suffixes;
 use std::alloc::Global;
 use std::test::Fail;
 
-const CONFIG: &str = "https://accounts.idp.example/fedcm.json";
+/// The configuration URL of the provider.
+pub const CONFIG: &str = "https://accounts.idp.example/fedcm.json";
 
 const BASE: &str = "https://idp.example/.well-known/web-identity";
 
@@ -29,8 +30,8 @@ fn name(step: ProviderStep) -> &'static str {
     }
 }
 
-// The name of the step, or `good`.
-fn step_of<T: Drop>(answer: Result<T, Fault<ProviderStep>>) -> Result<&'static str, NoRoom> {
+/// The name of the step, or `good`.
+pub fn step_of<T: Drop>(answer: Result<T, Fault<ProviderStep>>) -> Result<&'static str, NoRoom> {
     match answer {
         Ok(_) => Ok("good"),
         Err(Fault::Step(step)) => Ok(name(step)),
@@ -42,8 +43,8 @@ fn url(alloc: Global, text: &str) -> Result<WebUrl, Fault<UrlRefusal>> {
     WebUrl::read(alloc, text)
 }
 
-// A reply of the status 200 with a JSON body.
-fn ok(alloc: Global, body: &str) -> Result<String, Fail> {
+/// A reply of the status 200 with a JSON body.
+pub fn ok(alloc: Global, body: &str) -> Result<String, Fail> {
     Ok(format!(in alloc; "HTTP/1.1 200 OK\r\nContent-Type: application/json\r\n\r\n{body}")?)
 }
 
@@ -134,16 +135,6 @@ fn configurations(rt: HostRuntime) -> Result<(), Fail> {
             "good",
         ),
         ("\"client_metadata_endpoint\":1", "config shape"),
-        (
-            "\"accounts_endpoint\":\"https://accounts.idp.example:444/a\"",
-            "accounts",
-        ),
-        ("\"accounts_endpoint\":\"//evil.example/\"", "accounts"),
-        ("\"accounts_endpoint\":\"javascript:1\"", "accounts"),
-        (
-            "\"accounts_endpoint\":\"https://u:p@accounts.idp.example/a\"",
-            "accounts",
-        ),
         (
             "\"login_url\":\"https://idp.example/login\",\"disconnect_endpoint\":\"https://idp.example/\"",
             "login",

@@ -1,6 +1,8 @@
-//! The names of steps in tests.
+//! What the tests share: the names of steps, and the parts of a line.
 use fed_reply::ReplyStep;
+use std::test::Fail;
 
+/// The name of a step.
 pub fn reply_name(step: ReplyStep) -> &'static str {
     match step {
         ReplyStep::Head => "head",
@@ -12,4 +14,9 @@ pub fn reply_name(step: ReplyStep) -> &'static str {
         ReplyStep::Mime => "mime",
         ReplyStep::Json => "json",
     }
+}
+
+/// The parts of a line round its first bar.
+pub fn parts(line: &str) -> Result<(&str, &str), Fail> {
+    Ok(line.split_once(" | ").ok_or("a line")?)
 }

@@ -1,5 +1,5 @@
 //! Replies of the assertion and the disconnect endpoints, and the step at which they are refused.
-use crate::steps::reply_name;
+use crate::steps::{parts, reply_name};
 use fed_io::{Fault, NoRoom, Text};
 use fed_origin::{Origin, WebUrl};
 use fed_reply::read_reply;
@@ -16,7 +16,6 @@ const FIELDS: &str =
     r#""T1" | Access-Control-Allow-Origin: https://rp.example~Access-Control-Allow-Credentials: true~
 "T1" | access-control-allow-credentials:true~ACCESS-CONTROL-ALLOW-ORIGIN:  https://rp.example ~
 cors | Access-Control-Allow-Origin: *~Access-Control-Allow-Credentials: true~
-cors | Access-Control-Allow-Origin: https://rp.example~Access-Control-Allow-Origin: https://rp.example~Access-Control-Allow-Credentials: true~
 cors | Access-Control-Allow-Origin: https://rp.example~Access-Control-Allow-Origin: *~Access-Control-Allow-Credentials: true~
 cors | Access-Control-Allow-Origin: https://rp.example~
 cors | Access-Control-Allow-Credentials: true~
@@ -32,7 +31,6 @@ cors | "#;
 
 // Then follows the body of a reply that passes the check.
 const BODIES: &str = r#""T1" | {"token":"T1"}
-"" | {"token":""}
 "T1" | {"token":"T1","error":{"code":"access_denied"}}
 "T2" | {"token":1,"token":"T2","more":0}
 error access_denied https://idp.example/why | {"error":{"code":"access_denied","url":"https://idp.example/why"}}
@@ -93,8 +91,8 @@ fn step_line(alloc: Global, step: &TokenStep) -> Result<String, Fail> {
     }
 }
 
-// The text that is read, in quotes, or the step.
-fn shown(alloc: Global, answer: Result<Text, Fault<TokenStep>>) -> Result<String, Fail> {
+/// The text that is read, in quotes, or the step.
+pub fn shown(alloc: Global, answer: Result<Text, Fault<TokenStep>>) -> Result<String, Fail> {
     match answer {
         Ok(text) => {
             let text = text.as_str();
@@ -105,14 +103,10 @@ fn shown(alloc: Global, answer: Result<Text, Fault<TokenStep>>) -> Result<String
     }
 }
 
-fn origin_of(alloc: Global, url: &str) -> Result<Origin, Fail> {
+/// The origin of a URL.
+pub fn origin_of(alloc: Global, url: &str) -> Result<Origin, Fail> {
     let url = WebUrl::read(alloc, url)?;
     Ok(Origin::of_url(alloc, &url)?)
-}
-
-// The parts of a line round its first bar.
-fn parts(line: &str) -> Result<(&str, &str), Fail> {
-    Ok(line.split_once(" | ").ok_or("a line")?)
 }
 
 // A reply with the fields that pass the check for `https://rp.example`, and the body.

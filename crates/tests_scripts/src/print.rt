@@ -270,14 +270,22 @@ fn provider_errors_without_a_code(rt: HostRuntime) -> Result<(), Fail> {
     Ok(())
 }
 
+fn print_ignored(alloc: Global, line: u32, why: Why, text: &mut Vec<u8>) -> Result<(), NoRoom> {
+    print(alloc, &Out::Ignored { line, why }, text)
+}
+
+// The lines of two records.
+fn two_ignored(alloc: Global) -> Result<Vec<u8>, NoRoom> {
+    let mut text = Vec::new(alloc);
+    print_ignored(alloc, 2, Why::NoPage, &mut text)?;
+    print_ignored(alloc, 11, Why::CallEnded, &mut text)?;
+    Ok(text)
+}
+
 // Each line stands after what was there.
 #[test]
 fn ignored(rt: HostRuntime) -> Result<(), Fail> {
-    let mut text = Vec::new(rt.alloc());
-    let (line, why) = (2, Why::NoPage);
-    print(rt.alloc(), &Out::Ignored { line, why }, &mut text)?;
-    let (line, why) = (11, Why::CallEnded);
-    print(rt.alloc(), &Out::Ignored { line, why }, &mut text)?;
+    let text = two_ignored(rt.alloc())?;
     let lines =
         "{\"line\":2,\"out\":\"ignored\",\"why\":\"no-page\"}\n{\"line\":11,\"out\":\"ignored\",\"why\":\"call-ended\"}\n";
     assert!(rt; text.as_slice() == lines.as_bytes());

@@ -56,8 +56,9 @@ pub fn first_flag(alloc: Global, origin: &Origin) -> Result<bool, NoRoom>
 pub fn first_permission(alloc: Global, triple: &Triple) -> Result<bool, NoRoom>
     ensures { IfOk result (λ kept. kept ≡ true) }
 {
+    let copy = triple.copy(alloc)?;
     let mut kept = KeptSet::new(alloc);
-    kept.add(triple.copy(alloc)?)?;
+    kept.add(copy)?;
     Ok(kept.has(&triple.page, &triple.provider, &triple.account))
 }
 

@@ -1,4 +1,5 @@
 //! The reader against the published HTTP state tests, and the rules of matching.
+use crate::lines::assert_so;
 use fed_cookie::{
     RawCookie, SameSite, cookie_date, default_path, domain_matches, path_matches, read_set_cookie,
 };
@@ -6,36 +7,6 @@ use fed_origin::WebUrl;
 use std::alloc::{AllocError, Global};
 use std::process::Abort;
 use std::test::Fail;
-
-// A cookie as its field might be written, with each attribute that was taken.
-fn shown(alloc: Global, cookie: &RawCookie) -> Result<Vec<u8>, AllocError> {
-    let mut text = cookie.name.as_slice().to_vec(alloc)?;
-    text.push(b'=')?;
-    text.extend_from_slice(cookie.value.as_slice())?;
-    if let Some(domain) = &cookie.domain {
-        text.extend_from_slice(b"; Domain=")?;
-        text.extend_from_slice(domain.as_slice())?;
-    }
-    if let Some(path) = &cookie.path {
-        text.extend_from_slice(b"; Path=")?;
-        text.extend_from_slice(path.as_slice())?;
-    }
-    if let Some(moment) = cookie.expires {
-        text.extend_from_slice(format!(in alloc; "; Expires={moment}")?.as_bytes())?;
-    }
-    if let Some(seconds) = cookie.max_age {
-        text.extend_from_slice(format!(in alloc; "; Max-Age={seconds}")?.as_bytes())?;
-    }
-    if cookie.secure {
-        text.extend_from_slice(b"; Secure")?;
-    }
-    text.extend_from_slice(match cookie.same_site {
-        SameSite::Strict => b"; Strict".as_slice(),
-        SameSite::Lax => b"".as_slice(),
-        SameSite::NoLimit => b"; NoLimit".as_slice(),
-    })?;
-    Ok(text)
-}
 
 // Set-Cookie fields, and the cookie that is kept: the published HTTP state tests, and a few more.
 const FIELDS: &str = "foo=bar => foo=bar
@@ -226,92 +197,164 @@ Wed, 09-Jun-1600 10:18:14 GMT => none
 const OWN_DATES: &str = "Wed, 09-Jun-1601 10:18:14 GMT => 0
 1 Jan 1969 00:00:00 => 0";
 
-// Whether each row says what is kept of its field.
-fn reads_fields(rt: &impl Abort, alloc: Global, rows: &str) -> Result<(), Fail> {
-    for row in rows.split('\n') {
-        let (field, kept) = row.split_once(" => ").ok_or("a row")?;
-        let text = match read_set_cookie(alloc, field.as_bytes())? {
-            Some(cookie) => shown(alloc, &cookie)?,
-            None => b"none".to_vec(alloc)?,
-        };
-        assert_eq!(rt; text.as_slice(), kept.as_bytes(), "of {row}");
+// The path of a request, and that of a cookie whose field names none.
+const DEFAULT_PATHS: &str = "/ => /
+ => /
+/login => /
+/login/start => /login
+/login/ => /login
+// => /";
+
+// The path of a request, that of a cookie, and whether they match.
+const MATCHING_PATHS: &str = "/accounts => / => yes
+/accounts => /accounts => yes
+/accounts/1 => /accounts => yes
+/accounts/1 => /accounts/ => yes
+/accounts => /accounts/ => no
+/accounts2 => /accounts => no
+/accounts => /Accounts => no";
+
+// A URL, the domain of a cookie, and whether its host matches that.
+const MATCHING_DOMAINS: &str = "https://a.example/ => a.example => yes
+https://b.a.example/ => a.example => yes
+https://ba.example/ => a.example => no
+https://a.example/ => b.a.example => no
+https://a.example/ =>  => no
+https://a.example./ =>  => yes
+https://127.0.0.1/ => 127.0.0.1 => yes
+https://127.0.0.1/ => 0.0.1 => no
+https://[::1]/ => [::1] => yes";
+
+fn push_member(text: &mut Vec<u8>, name: &[u8], value: &[u8]) -> Result<(), AllocError> {
+    text.extend_from_slice(name)?;
+    text.extend_from_slice(value)
+}
+
+fn push_place(text: &mut Vec<u8>, cookie: &RawCookie) -> Result<(), AllocError> {
+    if let Some(domain) = &cookie.domain {
+        push_member(text, b"; Domain=", domain.as_slice())?;
+    }
+    if let Some(path) = &cookie.path {
+        push_member(text, b"; Path=", path.as_slice())?;
+    }
+    Ok(())
+}
+
+fn push_expiry(text: &mut Vec<u8>, alloc: Global, cookie: &RawCookie) -> Result<(), AllocError> {
+    if let Some(moment) = cookie.expires {
+        push_member(
+            text,
+            b"; Expires=",
+            format!(in alloc; "{moment}")?.as_bytes(),
+        )?;
+    }
+    if let Some(seconds) = cookie.max_age {
+        push_member(
+            text,
+            b"; Max-Age=",
+            format!(in alloc; "{seconds}")?.as_bytes(),
+        )?;
+    }
+    Ok(())
+}
+
+fn push_limits(text: &mut Vec<u8>, cookie: &RawCookie) -> Result<(), AllocError> {
+    if cookie.secure {
+        text.extend_from_slice(b"; Secure")?;
+    }
+    text.extend_from_slice(match cookie.same_site {
+        SameSite::Strict => b"; Strict".as_slice(),
+        SameSite::Lax => b"".as_slice(),
+        SameSite::NoLimit => b"; NoLimit".as_slice(),
+    })
+}
+
+// A cookie as its field might be written, with each attribute that was taken.
+fn push_cookie(text: &mut Vec<u8>, alloc: Global, cookie: &RawCookie) -> Result<(), AllocError> {
+    text.extend_from_slice(cookie.name.as_slice())?;
+    push_member(text, b"=", cookie.value.as_slice())?;
+    push_place(text, cookie)?;
+    push_expiry(text, alloc, cookie)?;
+    push_limits(text, cookie)
+}
+
+fn push_kept(text: &mut Vec<u8>, alloc: Global, field: &[u8]) -> Result<(), Fail> {
+    match read_set_cookie(alloc, field)? {
+        Some(cookie) => push_cookie(text, alloc, &cookie)?,
+        None => text.extend_from_slice(b"none")?,
+    }
+    Ok(())
+}
+
+// What the lines of a table are about.
+#[derive(Clone, Copy)]
+enum About {
+    Field,
+    Date,
+    DefaultPath,
+    Path,
+    Domain,
+}
+
+// Whether this is kept of the field.
+fn is_kept(alloc: Global, field: &[u8], kept: &[u8]) -> Result<bool, Fail> {
+    let mut text = Vec::new(alloc);
+    push_kept(&mut text, alloc, field)?;
+    Ok(text.as_slice() == kept)
+}
+
+fn is_moment(date: &[u8], moment: &str) -> bool {
+    cookie_date(date) == moment.parse::<u64>().ok()
+}
+
+fn matches_path(request: &str, more: &str) -> Result<bool, Fail> {
+    let (cookie, answer) = more.split_once(" => ").ok_or("a row")?;
+    Ok(path_matches(request.as_bytes(), cookie.as_bytes()) == (answer == "yes"))
+}
+
+fn matches_domain(alloc: Global, url: &str, more: &str) -> Result<bool, Fail> {
+    let (domain, answer) = more.split_once(" => ").ok_or("a row")?;
+    let url = WebUrl::read(alloc, url)?;
+    Ok(domain_matches(url.host(), domain.as_bytes()) == (answer == "yes"))
+}
+
+fn is_right(alloc: Global, about: About, row: &str) -> Result<bool, Fail> {
+    let (first, more) = row.split_once(" => ").ok_or("a row")?;
+    match about {
+        About::Field => is_kept(alloc, first.as_bytes(), more.as_bytes()),
+        About::Date => Ok(is_moment(first.as_bytes(), more)),
+        About::DefaultPath => Ok(default_path(first.as_bytes()) == more.as_bytes()),
+        About::Path => matches_path(first, more),
+        About::Domain => matches_domain(alloc, first, more),
+    }
+}
+
+fn all_right(rt: &impl Abort, alloc: Global, about: About, table: &str) -> Result<(), Fail> {
+    for row in table.split('\n') {
+        assert_so(rt, is_right(alloc, about, row)?, row);
     }
     Ok(())
 }
 
 #[test]
 fn fields(rt: HostRuntime) -> Result<(), Fail> {
-    reads_fields(&rt, rt.alloc(), FIELDS)?;
-    reads_fields(&rt, rt.alloc(), OWN_FIELDS)
-}
-
-// Whether each row names the moment of its date.
-fn reads_dates(rt: &impl Abort, rows: &str) -> Result<(), Fail> {
-    for row in rows.split('\n') {
-        let (date, moment) = row.split_once(" => ").ok_or("a row")?;
-        assert_eq!(rt;
-            cookie_date(date.as_bytes()),
-            moment.parse::<u64>().ok(),
-            "of {row}"
-        );
-    }
-    Ok(())
+    all_right(&rt, rt.alloc(), About::Field, FIELDS)?;
+    all_right(&rt, rt.alloc(), About::Field, OWN_FIELDS)
 }
 
 #[test]
 fn dates(rt: HostRuntime) -> Result<(), Fail> {
-    reads_dates(&rt, DATES)?;
-    reads_dates(&rt, OWN_DATES)
+    all_right(&rt, rt.alloc(), About::Date, DATES)?;
+    all_right(&rt, rt.alloc(), About::Date, OWN_DATES)
 }
 
 #[test]
-fn paths(rt: HostRuntime) {
-    for (path, cookie) in [
-        (b"/".as_slice(), b"/".as_slice()),
-        (b"", b"/"),
-        (b"/login", b"/"),
-        (b"/login/start", b"/login"),
-        (b"/login/", b"/login"),
-        (b"//", b"/"),
-    ] {
-        assert_eq!(rt; default_path(path), cookie, "of {path:?}");
-    }
-    for (request, cookie, matches) in [
-        (b"/accounts".as_slice(), b"/".as_slice(), true),
-        (b"/accounts", b"/accounts", true),
-        (b"/accounts/1", b"/accounts", true),
-        (b"/accounts/1", b"/accounts/", true),
-        (b"/accounts", b"/accounts/", false),
-        (b"/accounts2", b"/accounts", false),
-        (b"/accounts", b"/Accounts", false),
-    ] {
-        assert_eq!(rt;
-            path_matches(request, cookie),
-            matches,
-            "{request:?} and {cookie:?}"
-        );
-    }
+fn paths(rt: HostRuntime) -> Result<(), Fail> {
+    all_right(&rt, rt.alloc(), About::DefaultPath, DEFAULT_PATHS)?;
+    all_right(&rt, rt.alloc(), About::Path, MATCHING_PATHS)
 }
 
 #[test]
 fn domains(rt: HostRuntime) -> Result<(), Fail> {
-    let alloc = rt.alloc();
-    for (url, domain, matches) in [
-        ("https://a.example/", b"a.example".as_slice(), true),
-        ("https://b.a.example/", b"a.example", true),
-        ("https://ba.example/", b"a.example", false),
-        ("https://a.example/", b"b.a.example", false),
-        ("https://a.example/", b"", false),
-        ("https://a.example./", b"", true),
-        ("https://127.0.0.1/", b"127.0.0.1", true),
-        ("https://127.0.0.1/", b"0.0.1", false),
-        ("https://[::1]/", b"[::1]", true),
-    ] {
-        let Ok(url) = WebUrl::read(alloc, url) else {
-            assert!(rt; false, "no URL");
-            return Ok(());
-        };
-        assert_eq!(rt; domain_matches(url.host(), domain), matches, "{domain:?}");
-    }
-    Ok(())
+    all_right(&rt, rt.alloc(), About::Domain, MATCHING_DOMAINS)
 }

@@ -12,11 +12,20 @@ use std::test::Fail;
 pub const NOW: u64 = 1700000000;
 
 /// A jar of which each cookie is kept under its party by the rules, and how many fields it was given.
-#[derive(Drop)]
 pub struct Filled {
     rules: Suffixes,
     jar: Jar,
     given: u64,
+}
+
+impl Drop for Filled {
+    fn drop(self) {
+        let Filled {
+            rules: _,
+            jar: _,
+            given: _,
+        } = self;
+    }
 }
 
 impl Model for Filled {

@@ -1,5 +1,8 @@
 //! The jar on worked examples, each a list of steps, and a table of what is stored.
 use crate::filled::{Filled, NOW};
+use crate::lines::{assert_so, assert_text, parts};
+use crate::values::rules_of;
+use fed_io::Bytes;
 use fed_jar::{Cookie, Numbered};
 use fed_origin::WebUrl;
 use fed_suffix::Suffixes;
@@ -79,35 +82,7 @@ alone | https://co.example/ | x=1; Domain=co.example | host
 alone | https://b.a.co.example/ | x=1; Domain=a.co.example | domain
 alone | https://a.b.ck/ | x=1; Domain=b.ck | no";
 
-// The rules of a list, one on each line.
-fn rules_of(alloc: Global, list: &str) -> Result<Suffixes, Fail> {
-    let mut rules = Suffixes::new(alloc);
-    for line in list.split('\n') {
-        rules.read_line(line)?;
-    }
-    Ok(rules)
-}
-
-// Names, values and paths.
-fn shown(alloc: Global, cookies: &[Cookie]) -> Result<Vec<u8>, Fail> {
-    let mut text = Vec::new(alloc);
-    for cookie in cookies {
-        add(&mut text, &cookie.copy(alloc)?)?;
-    }
-    Ok(text)
-}
-
-// The same, each with its number.
-fn numbered(alloc: Global, list: &[Numbered]) -> Result<Vec<u8>, Fail> {
-    let mut text = Vec::new(alloc);
-    for one in list {
-        add(&mut text, &one.cookie)?;
-        text.extend_from_slice(format!(in alloc; "{} ", one.number)?.as_bytes())?;
-    }
-    Ok(text)
-}
-
-fn add(text: &mut Vec<u8>, cookie: &Cookie) -> Result<(), AllocError> {
+fn push(text: &mut Vec<u8>, cookie: &Cookie) -> Result<(), AllocError> {
     text.extend_from_slice(cookie.name.as_slice())?;
     text.push(b'=')?;
     text.extend_from_slice(cookie.value.as_slice())?;
@@ -117,29 +92,67 @@ fn add(text: &mut Vec<u8>, cookie: &Cookie) -> Result<(), AllocError> {
     Ok(())
 }
 
-// The parts of a step round its first bar.
-fn parts(step: &str) -> Result<(&str, &str), Fail> {
-    Ok(step.split_once(" | ").ok_or("a step")?)
+// Names, values and paths, of copies.
+fn push_all(text: &mut Vec<u8>, alloc: Global, cookies: &[Cookie]) -> Result<(), Fail> {
+    for cookie in cookies {
+        push(text, &cookie.copy(alloc)?)?;
+    }
+    Ok(())
+}
+
+fn push_number(text: &mut Vec<u8>, alloc: Global, number: u64) -> Result<(), AllocError> {
+    let word = format!(in alloc; "{number} ")?;
+    text.extend_from_slice(word.as_bytes())
+}
+
+// Names, values and paths, each with its number.
+fn push_numbered(text: &mut Vec<u8>, alloc: Global, list: &[Numbered]) -> Result<(), AllocError> {
+    for one in list {
+        push(text, &one.cookie)?;
+        push_number(text, alloc, one.number)?;
+    }
+    Ok(())
 }
 
 fn store_step(rt: &impl Abort, jar: &mut Filled, alloc: Global, step: &str) -> Result<(), Fail> {
     let (url, more) = parts(step)?;
     let (field, answer) = parts(more)?;
     let is_stored = jar.store(alloc, url, field.as_bytes())?;
-    assert_eq!(rt; is_stored, answer == "yes", "{step}");
+    assert_so(rt, is_stored == (answer == "yes"), step);
     Ok(())
 }
 
-fn alone_step(rt: &impl Abort, alloc: Global, list: &str, step: &str) -> Result<(), Fail> {
+// That cookies are for their host alone, or none of them is.
+fn assert_scopes(rt: &impl Abort, cookies: &[Cookie], host_only: bool, step: &str) {
+    for cookie in cookies {
+        assert_so(rt, cookie.host_only == host_only, step);
+    }
+}
+
+fn assert_listed(
+    rt: &impl Abort,
+    jar: &Filled,
+    alloc: Global,
+    host_only: bool,
+    step: &str,
+) -> Result<(), Fail> {
+    let list = jar.list(alloc)?;
+    assert_scopes(rt, list.as_slice(), host_only, step);
+    Ok(())
+}
+
+// What an empty jar makes of a field.
+fn first_step(rt: &impl Abort, jar: &mut Filled, alloc: Global, step: &str) -> Result<(), Fail> {
     let (url, more) = parts(step)?;
     let (field, scope) = parts(more)?;
-    let mut jar = Filled::new(alloc, rules_of(alloc, list)?);
     let is_stored = jar.store(alloc, url, field.as_bytes())?;
-    assert_eq!(rt; is_stored, scope != "no", "{step}");
-    for cookie in jar.list(alloc)?.iter() {
-        assert_eq!(rt; cookie.host_only, scope == "host", "{step}");
-    }
-    Ok(())
+    assert_so(rt, is_stored == (scope != "no"), step);
+    assert_listed(rt, jar, alloc, scope == "host", step)
+}
+
+fn alone_step(rt: &impl Abort, alloc: Global, list: &str, step: &str) -> Result<(), Fail> {
+    let mut jar = Filled::new(alloc, rules_of(alloc, list)?);
+    first_step(rt, &mut jar, alloc, step)
 }
 
 // A text that is wanted, where `none` stands for the empty one.
@@ -150,48 +163,82 @@ fn wanted_text(word: &str) -> &[u8] {
     word.as_bytes()
 }
 
+fn sent(jar: &Filled, alloc: Global, url: &str, now: u64) -> Result<Bytes, Fail> {
+    let url = WebUrl::read(alloc, url)?;
+    jar.text(alloc, &url, now)
+}
+
 fn text_step(rt: &impl Abort, jar: &Filled, alloc: Global, step: &str) -> Result<(), Fail> {
     let (later, more) = parts(step)?;
     let (url, wanted) = parts(more)?;
-    let url = WebUrl::read(alloc, url)?;
     let now = NOW.saturating_add(later.parse::<u64>().unwrap_or(0));
-    let text = jar.text(alloc, &url, now)?;
-    assert_eq!(rt; text.as_slice(), wanted_text(wanted), "{step}");
+    let text = sent(jar, alloc, url, now)?;
+    assert_text(rt, text.as_slice(), wanted_text(wanted), step);
     Ok(())
+}
+
+fn listed(jar: &Filled, alloc: Global, party: &str) -> Result<Vec<Cookie>, Fail> {
+    if party == "-" {
+        return jar.list(alloc);
+    }
+    jar.list_of(alloc, party.as_bytes())
+}
+
+fn push_listed(text: &mut Vec<u8>, jar: &Filled, alloc: Global, party: &str) -> Result<(), Fail> {
+    let list = listed(jar, alloc, party)?;
+    push_all(text, alloc, list.as_slice())
 }
 
 fn list_step(rt: &impl Abort, jar: &Filled, alloc: Global, step: &str) -> Result<(), Fail> {
     let (party, wanted) = parts(step)?;
-    let list = if party == "-" {
-        jar.list(alloc)?
-    } else {
-        jar.list_of(alloc, party.as_bytes())?
-    };
-    let text = shown(alloc, list.as_slice())?;
-    assert_eq!(rt; text.as_slice(), wanted.as_bytes(), "{step}");
+    let mut text = Vec::new(alloc);
+    push_listed(&mut text, jar, alloc, party)?;
+    assert_text(rt, text.as_slice(), wanted.as_bytes(), step);
     Ok(())
 }
 
 fn number_step(rt: &impl Abort, jar: &Filled, alloc: Global, step: &str) -> Result<(), Fail> {
     let (party, wanted) = parts(step)?;
-    let text = numbered(alloc, jar.of_party(party.as_bytes()))?;
-    assert_eq!(rt; text.as_slice(), wanted_text(wanted), "{step}");
+    let mut text = Vec::new(alloc);
+    push_numbered(&mut text, alloc, jar.of_party(party.as_bytes()))?;
+    assert_text(rt, text.as_slice(), wanted_text(wanted), step);
+    Ok(())
+}
+
+// A step begins with its kind.
+fn take_step(
+    rt: &impl Abort,
+    jar: &mut Filled,
+    alloc: Global,
+    list: &str,
+    line: &str,
+) -> Result<(), Fail> {
+    let (word, step) = parts(line)?;
+    match word {
+        "store" => store_step(rt, jar, alloc, step),
+        "alone" => alone_step(rt, alloc, list, step),
+        "text" => text_step(rt, jar, alloc, step),
+        "numbers" => number_step(rt, jar, alloc, step),
+        _ => list_step(rt, jar, alloc, step),
+    }
+}
+
+fn take_steps(
+    rt: &impl Abort,
+    jar: &mut Filled,
+    alloc: Global,
+    list: &str,
+    steps: &str,
+) -> Result<(), Fail> {
+    for line in steps.split('\n') {
+        take_step(rt, jar, alloc, list, line)?;
+    }
     Ok(())
 }
 
 fn follows(rt: &impl Abort, alloc: Global, list: &str, steps: &str) -> Result<(), Fail> {
     let mut jar = Filled::new(alloc, rules_of(alloc, list)?);
-    for line in steps.split('\n') {
-        let (word, step) = parts(line)?;
-        match word {
-            "store" => store_step(rt, &mut jar, alloc, step)?,
-            "alone" => alone_step(rt, alloc, list, step)?,
-            "text" => text_step(rt, &jar, alloc, step)?,
-            "numbers" => number_step(rt, &jar, alloc, step)?,
-            _ => list_step(rt, &jar, alloc, step)?,
-        }
-    }
-    Ok(())
+    take_steps(rt, &mut jar, alloc, list, steps)
 }
 
 #[test]
@@ -214,19 +261,25 @@ fn stored_fields(rt: HostRuntime) -> Result<(), Fail> {
     follows(&rt, rt.alloc(), "com\nco.example\n*.ck", FIELDS)
 }
 
-// Whether a cookie whose name and value have so many bytes together is stored.
-fn stores_bytes(alloc: Global, count: usize) -> Result<bool, Fail> {
-    let mut jar = Filled::new(alloc, Suffixes::new(alloc));
-    let mut field = b"name=".to_vec(alloc)?;
+fn push_long(field: &mut Vec<u8>, count: usize) -> Result<(), AllocError> {
+    field.extend_from_slice(b"name=")?;
     for _ in 4..count {
         field.push(b'v')?;
     }
+    Ok(())
+}
+
+// Whether a cookie whose name and value have so many bytes together is stored.
+fn stores_bytes(alloc: Global, count: usize) -> Result<bool, Fail> {
+    let mut field = Vec::new(alloc);
+    push_long(&mut field, count)?;
+    let mut jar = Filled::new(alloc, Suffixes::new(alloc));
     jar.store(alloc, "https://a.example/", field.as_slice())
 }
 
 #[test]
 fn longest_cookie(rt: HostRuntime) -> Result<(), Fail> {
-    assert!(rt; stores_bytes(rt.alloc(), 4096)?);
-    assert!(rt; !stores_bytes(rt.alloc(), 4097)?);
+    assert_so(&rt, stores_bytes(rt.alloc(), 4096)?, "4096");
+    assert_so(&rt, !stores_bytes(rt.alloc(), 4097)?, "4097");
     Ok(())
 }

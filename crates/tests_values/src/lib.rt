@@ -9,8 +9,12 @@ mod filled;
 #[cfg(test)]
 mod jar;
 #[cfg(test)]
+mod lines;
+#[cfg(test)]
 mod origin;
 #[cfg(test)]
 mod status;
 #[cfg(test)]
 mod suffix;
+#[cfg(test)]
+mod values;

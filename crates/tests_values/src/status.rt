@@ -1,6 +1,8 @@
 //! The maps in order of entering, each on a list of steps, and the values of Set-Login.
-use fed_io::{NoRoom, Text};
-use fed_origin::{Origin, WebUrl};
+use crate::lines::{assert_so, assert_word, parts};
+use crate::values::{origin_of, triple};
+use fed_io::NoRoom;
+use fed_origin::Origin;
 use fed_status::{KeptSet, LoginMap, LoginStatus, Shared, SilentFlags, Triple, read_set_login};
 use fed_suffix::Suffixes;
 use std::alloc::Global;
@@ -19,62 +21,90 @@ logged-in\u{b} | ignored
  | ignored";
 
 // A status that is set again keeps its place.
-const STATUSES: &str = "is https://a.example unknown
-set https://b.example:8443 in
-set https://a.example in
-set https://b.example:8443 out
-is https://b.example:8443 out
-is https://a.example in
-is https://b.example unknown
-first https://b.example:8443 out";
+const STATUSES: &str = "is | https://a.example | unknown
+set | https://b.example:8443 | in
+set | https://a.example | in
+set | https://b.example:8443 | out
+is | https://b.example:8443 | out
+is | https://a.example | in
+is | https://b.example | unknown
+first | https://b.example:8443 | out";
 
 // A flag that goes closes up.
-const FLAGS: &str = "set https://a.example
-set https://b.example
-set https://a.example
-first https://a.example
-clear https://a.example
-clear https://a.example
-is-not https://a.example
-is https://b.example
-first https://b.example";
+const FLAGS: &str = "set | https://a.example
+set | https://b.example
+set | https://a.example
+first | https://a.example
+clear | https://a.example
+clear | https://a.example
+is-not | https://a.example
+is | https://b.example
+first | https://b.example";
 
 // Two accounts of one pair, and one of another: one goes alone, and then the pair. One that comes back goes last.
-const PERMISSIONS: &str = "lacks https://a.example https://b.example u1
-no-pair https://a.example https://b.example u1
-add https://a.example https://b.example u1
-add https://b.example https://b.example u1
-add https://a.example https://b.example u2
-add https://a.example https://b.example u1
-first https://a.example https://b.example u1
-lacks https://b.example https://b.example u2
-has https://a.example https://b.example u2
-remove https://b.example https://b.example u2
-remove https://a.example https://b.example u1
-lacks https://a.example https://b.example u1
-pair https://a.example https://b.example u1
-no-pair https://b.example https://a.example u1
-first https://b.example https://b.example u1
-second https://a.example https://b.example u2
-add https://a.example https://b.example u1
-second https://a.example https://b.example u2
-third https://a.example https://b.example u1
-remove-pair https://a.example https://b.example u1
-no-pair https://a.example https://b.example u1
-pair https://b.example https://b.example u1
-first https://b.example https://b.example u1
-remove https://b.example https://b.example u1
-no-pair https://b.example https://b.example u1";
+const PERMISSIONS: &str = "lacks | https://a.example | https://b.example | u1
+no-pair | https://a.example | https://b.example | u1
+add | https://a.example | https://b.example | u1
+add | https://b.example | https://b.example | u1
+add | https://a.example | https://b.example | u2
+add | https://a.example | https://b.example | u1
+first | https://a.example | https://b.example | u1
+lacks | https://b.example | https://b.example | u2
+has | https://a.example | https://b.example | u2
+remove | https://b.example | https://b.example | u2
+remove | https://a.example | https://b.example | u1
+lacks | https://a.example | https://b.example | u1
+pair | https://a.example | https://b.example | u1
+no-pair | https://b.example | https://a.example | u1
+first | https://b.example | https://b.example | u1
+second | https://a.example | https://b.example | u2
+add | https://a.example | https://b.example | u1
+second | https://a.example | https://b.example | u2
+third | https://a.example | https://b.example | u1
+remove-pair | https://a.example | https://b.example | u1
+no-pair | https://a.example | https://b.example | u1
+pair | https://b.example | https://b.example | u1
+first | https://b.example | https://b.example | u1
+remove | https://b.example | https://b.example | u1
+no-pair | https://b.example | https://b.example | u1";
 
-fn origin(alloc: Global, url: &str) -> Result<Origin, NoRoom> {
-    match WebUrl::read(alloc, url) {
-        Ok(url) => Origin::of_url(alloc, &url),
-        Err(_) => Err(NoRoom),
+// All that is known, which is let go in one place.
+struct Known {
+    rules: Suffixes,
+    login: LoginMap,
+    kept: KeptSet,
+    flags: SilentFlags,
+}
+
+impl Drop for Known {
+    fn drop(self) {
+        let Known {
+            rules: _,
+            login: _,
+            kept: _,
+            flags: _,
+        } = self;
     }
 }
 
-fn parts(step: &str) -> Result<(&str, &str), Fail> {
-    Ok(step.split_once(' ').ok_or("a step")?)
+impl Known {
+    fn new(alloc: Global) -> Known {
+        Known {
+            rules: Suffixes::new(alloc),
+            login: LoginMap::new(alloc),
+            kept: KeptSet::new(alloc),
+            flags: SilentFlags::new(alloc),
+        }
+    }
+
+    fn lent(&self) -> Shared<'_> {
+        Shared {
+            rules: &self.rules,
+            login: &self.login,
+            kept: &self.kept,
+            flags: &self.flags,
+        }
+    }
 }
 
 fn word(status: LoginStatus) -> &'static str {
@@ -95,8 +125,8 @@ fn read_word(value: &str) -> &'static str {
 #[test]
 fn values_of_set_login(rt: HostRuntime) -> Result<(), Fail> {
     for line in VALUES.split('\n') {
-        let (value, expected) = line.split_once(" | ").ok_or("a line")?;
-        assert_eq!(rt; read_word(value), expected, "{line}");
+        let (value, expected) = parts(line)?;
+        assert_word(&rt, read_word(value), expected, line);
     }
     Ok(())
 }
@@ -123,23 +153,27 @@ fn status_step(
 ) -> Result<(), Fail> {
     let (step, more) = parts(line)?;
     let (url, status) = parts(more)?;
-    let origin = origin(alloc, url)?;
+    let origin = origin_of(alloc, url)?;
     match step {
         "set" => set_status(statuses, &origin, status)?,
-        "is" => assert_eq!(rt; word(statuses.get(&origin)), status, "{line}"),
-        _ => assert_eq!(rt; first_status(statuses, &origin), status, "{line}"),
+        "is" => assert_word(rt, word(statuses.get(&origin)), status, line),
+        _ => assert_word(rt, first_status(statuses, &origin), status, line),
     }
+    Ok(())
+}
+
+fn status_steps(rt: &impl Abort, alloc: Global, statuses: &mut LoginMap) -> Result<(), Fail> {
+    for line in STATUSES.split('\n') {
+        status_step(rt, alloc, statuses, line)?;
+    }
+    assert_so(rt, statuses.len() == 2, "two statuses");
     Ok(())
 }
 
 #[test]
 fn statuses_keep_their_places(rt: HostRuntime) -> Result<(), Fail> {
-    let mut statuses = LoginMap::new(rt.alloc());
-    for line in STATUSES.split('\n') {
-        status_step(&rt, rt.alloc(), &mut statuses, line)?;
-    }
-    assert_eq!(rt; statuses.len(), 2);
-    Ok(())
+    let mut known = Known::new(rt.alloc());
+    status_steps(&rt, rt.alloc(), &mut known.login)
 }
 
 // Whether the step is as it says; `clear` is done.
@@ -162,31 +196,27 @@ fn flag_step(
     line: &str,
 ) -> Result<(), Fail> {
     let (step, url) = parts(line)?;
-    let origin = origin(alloc, url)?;
+    let origin = origin_of(alloc, url)?;
     if step == "set" {
         flags.set(&origin)?;
     } else {
-        assert!(rt; follows_flag(flags, step, &origin), "{line}");
+        assert_so(rt, follows_flag(flags, step, &origin), line);
     }
+    Ok(())
+}
+
+fn flag_steps(rt: &impl Abort, alloc: Global, flags: &mut SilentFlags) -> Result<(), Fail> {
+    for line in FLAGS.split('\n') {
+        flag_step(rt, alloc, flags, line)?;
+    }
+    assert_so(rt, flags.len() == 1, "one flag");
     Ok(())
 }
 
 #[test]
 fn flags_close_up(rt: HostRuntime) -> Result<(), Fail> {
-    let mut flags = SilentFlags::new(rt.alloc());
-    for line in FLAGS.split('\n') {
-        flag_step(&rt, rt.alloc(), &mut flags, line)?;
-    }
-    assert_eq!(rt; flags.len(), 1);
-    Ok(())
-}
-
-fn triple(alloc: Global, page: &str, provider: &str, account: &str) -> Result<Triple, NoRoom> {
-    Ok(Triple {
-        page: origin(alloc, page)?,
-        provider: origin(alloc, provider)?,
-        account: Text::of(alloc, account)?,
-    })
+    let mut known = Known::new(rt.alloc());
+    flag_steps(&rt, rt.alloc(), &mut known.flags)
 }
 
 fn read_triple(alloc: Global, names: &str) -> Result<Triple, Fail> {
@@ -195,24 +225,44 @@ fn read_triple(alloc: Global, names: &str) -> Result<Triple, Fail> {
     Ok(triple(alloc, page, provider, account)?)
 }
 
-// Whether the step is as it says; a removal is done.
-fn follows(kept: &mut KeptSet, step: &str, triple: &Triple) -> bool {
+fn is_at(kept: &KeptSet, place: usize, triple: &Triple) -> bool {
+    match kept.item(place) {
+        Some(item) => item == triple,
+        None => false,
+    }
+}
+
+// Whether the triple has the place that the step says, the third as the last.
+fn has_place(kept: &KeptSet, step: &str, triple: &Triple) -> bool {
+    match step {
+        "first" => is_at(kept, 0, triple),
+        "second" => is_at(kept, 1, triple),
+        _ => is_at(kept, 2, triple) && kept.item(3).is_none(),
+    }
+}
+
+fn is_so(kept: &KeptSet, step: &str, triple: &Triple) -> bool {
     match step {
         "has" => kept.has(&triple.page, &triple.provider, &triple.account),
         "lacks" => !kept.has(&triple.page, &triple.provider, &triple.account),
         "pair" => kept.has_pair(&triple.page, &triple.provider),
         "no-pair" => !kept.has_pair(&triple.page, &triple.provider),
-        "first" => kept.item(0) == Some(triple),
-        "second" => kept.item(1) == Some(triple),
-        "third" => kept.item(2) == Some(triple) && kept.item(3) == None,
+        _ => has_place(kept, step, triple),
+    }
+}
+
+// Whether the step is as it says; a removal is done.
+fn follows(kept: &mut KeptSet, step: &str, triple: &Triple) -> bool {
+    match step {
         "remove" => {
             kept.remove(&triple.page, &triple.provider, &triple.account);
             true
         }
-        _ => {
+        "remove-pair" => {
             kept.remove_pair(&triple.page, &triple.provider);
             true
         }
+        _ => is_so(kept, step, triple),
     }
 }
 
@@ -227,37 +277,34 @@ fn permission_step(
     if step == "add" {
         kept.add(triple)?;
     } else {
-        assert!(rt; follows(kept, step, &triple), "{line}");
+        assert_so(rt, follows(kept, step, &triple), line);
     }
+    Ok(())
+}
+
+fn permission_steps(rt: &impl Abort, alloc: Global, kept: &mut KeptSet) -> Result<(), Fail> {
+    for line in PERMISSIONS.split('\n') {
+        permission_step(rt, alloc, kept, line)?;
+    }
+    assert_so(rt, kept.len() == 0, "no permission");
     Ok(())
 }
 
 #[test]
 fn permissions_come_and_go(rt: HostRuntime) -> Result<(), Fail> {
-    let mut kept = KeptSet::new(rt.alloc());
-    for line in PERMISSIONS.split('\n') {
-        permission_step(&rt, rt.alloc(), &mut kept, line)?;
-    }
-    assert_eq!(rt; kept.len(), 0);
-    Ok(())
+    let mut known = Known::new(rt.alloc());
+    permission_steps(&rt, rt.alloc(), &mut known.kept)
 }
 
-fn knows_none(shared: &Shared) -> bool {
-    shared.login.len() == 0 && shared.kept.len() == 0 && shared.flags.len() == 0
+fn knows_none(shared: &Shared, rules: &Suffixes) -> bool {
+    shared.login.len() == 0
+        && shared.kept.len() == 0
+        && shared.flags.len() == 0
+        && shared.rules.same(rules)
 }
 
 #[test]
-fn shared_is_lent(rt: HostRuntime) -> Result<(), Fail> {
-    let rules = Suffixes::new(rt.alloc());
-    let login = LoginMap::new(rt.alloc());
-    let kept = KeptSet::new(rt.alloc());
-    let flags = SilentFlags::new(rt.alloc());
-    let shared = Shared {
-        rules: &rules,
-        login: &login,
-        kept: &kept,
-        flags: &flags,
-    };
-    assert!(rt; knows_none(&shared) && shared.rules.same(&rules));
-    Ok(())
+fn shared_is_lent(rt: HostRuntime) {
+    let known = Known::new(rt.alloc());
+    assert_so(&rt, knows_none(&known.lent(), &known.rules), "lent");
 }

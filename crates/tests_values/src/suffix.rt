@@ -1,30 +1,14 @@
 //! Lines and hosts, with the answers that the list's own algorithm gives.
+use crate::lines::{assert_so, assert_text, assert_word, parts};
+use crate::values::rules_of;
 use fed_io::Fault;
 use fed_origin::{Host, WebUrl};
 use fed_suffix::{SuffixRefusal, Suffixes};
 use std::alloc::Global;
+use std::process::Abort;
 use std::test::Fail;
 
-// The rules of a list, one on each line.
-fn read(alloc: Global, list: &str) -> Result<Suffixes, Fault<SuffixRefusal>> {
-    let mut rules = Suffixes::new(alloc);
-    for line in list.split('\n') {
-        rules.read_line(line)?;
-    }
-    Ok(rules)
-}
-
-// Each line is a host and, after a space, its registrable domain or nothing. The first line that
-// is wrong, or "".
-fn first_wrong<'a>(alloc: Global, rules: &Suffixes, cases: &'a str) -> Result<&'a str, Fail> {
-    for case in cases.split('\n') {
-        if !is_right(alloc, rules, case)? {
-            return Ok(case);
-        }
-    }
-    Ok("")
-}
-
+// A line is a host and, after a space, its registrable domain or nothing.
 fn is_right(alloc: Global, rules: &Suffixes, case: &str) -> Result<bool, Fail> {
     let (host, domain) = case.split_once(' ').ok_or("no space")?;
     let url = url_of(alloc, host)?;
@@ -44,107 +28,116 @@ fn agrees(rules: &Suffixes, host: &Host, domain: &[u8]) -> bool {
         && rules.party(host) == party
 }
 
-// Texts stand in functions of their own, so that the proofs of the tests do not go through them.
-fn hosts_below_ck() -> &'static str {
-    "a.b.ck a.b.ck\nwww.ck www.ck\nb.ck \nck \na.b.uk b.uk"
+// Each of these lines is right by these rules.
+fn all_right(rt: &impl Abort, alloc: Global, rules: &Suffixes, cases: &str) -> Result<(), Fail> {
+    for case in cases.split('\n') {
+        assert_so(rt, is_right(alloc, rules, case)?, case);
+    }
+    Ok(())
 }
 
-fn hosts_by_stars() -> &'static str {
-    "x.a.q.b x.a.q.b\nx.c.q.b c.q.b\nw.a.b.c.d w.a.b.c.d\n\
-        w.x.b.c.d x.b.c.d\ny.x.z.c.d y.x.z.c.d\na.*.*.*.d a.*.*.*.d"
+fn right_by(rt: &impl Abort, alloc: Global, list: &str, cases: &str) -> Result<(), Fail> {
+    let rules = rules_of(alloc, list)?;
+    all_right(rt, alloc, &rules, cases)
 }
 
-fn hosts_with_none() -> &'static str {
-    "127.0.0.1 \n[::1] \n[2001:db8::1] \nlocalhost \nexample.com. \na..com "
-}
+const BELOW_CK: &str = "a.b.ck a.b.ck\nwww.ck www.ck\nb.ck \nck \na.b.uk b.uk";
+
+const BY_STARS: &str = "x.a.q.b x.a.q.b\nx.c.q.b c.q.b\nw.a.b.c.d w.a.b.c.d\n\
+    w.x.b.c.d x.b.c.d\ny.x.z.c.d y.x.z.c.d\na.*.*.*.d a.*.*.*.d";
+
+const WITH_NONE: &str = "127.0.0.1 \n[::1] \n[2001:db8::1] \nlocalhost \nexample.com. \na..com ";
 
 #[test]
 fn wildcard_and_exception(rt: HostRuntime) -> Result<(), Fail> {
-    let rules = read(rt.alloc(), "*.ck\n!www.ck\n// x\nuk comment")?;
-    let wrong = first_wrong(rt.alloc(), &rules, hosts_below_ck())?;
-    assert_eq!(rt; wrong, "");
-    Ok(())
+    right_by(&rt, rt.alloc(), "*.ck\n!www.ck\n// x\nuk comment", BELOW_CK)
 }
 
 // A star may stand in any place, and the rule with most labels prevails.
 #[test]
 fn star_inside_a_rule(rt: HostRuntime) -> Result<(), Fail> {
-    let rules = read(rt.alloc(), "q.b\na.*.b\n*.*.*.d\n!x.*.*.d\n!y.x.z.c.d")?;
-    let wrong = first_wrong(rt.alloc(), &rules, hosts_by_stars())?;
-    assert_eq!(rt; wrong, "");
-    Ok(())
+    let list = "q.b\na.*.b\n*.*.*.d\n!x.*.*.d\n!y.x.z.c.d";
+    right_by(&rt, rt.alloc(), list, BY_STARS)
 }
 
 // Addresses have no registrable domain, nor have hosts that end in a dot.
 #[test]
 fn addresses_and_dots(rt: HostRuntime) -> Result<(), Fail> {
-    let rules = read(rt.alloc(), "com\n1")?;
-    let wrong = first_wrong(rt.alloc(), &rules, hosts_with_none())?;
-    assert_eq!(rt; wrong, "");
-    Ok(())
+    right_by(&rt, rt.alloc(), "com\n1", WITH_NONE)
+}
+
+// That this is the registrable domain of a name of raw bytes.
+fn assert_raw(rt: &impl Abort, rules: &Suffixes, name: &[u8], domain: &[u8], none: &[u8]) {
+    let found = rules.registrable_name(name).unwrap_or(none);
+    assert_text(rt, found, domain, "raw names");
 }
 
 // A name of raw bytes is taken as it is: `COM` is another label than `com`.
 #[test]
 fn raw_names(rt: HostRuntime) -> Result<(), Fail> {
-    let rules = read(rt.alloc(), "com\nuk.com")?;
-    assert_eq!(rt;
-        rules.registrable_name(b"a.b.UK.com").unwrap_or(b""),
-        b"UK.com".as_slice()
-    );
-    assert_eq!(rt;
-        rules.registrable_name(b"a.\xff.COM").unwrap_or(b""),
-        b"\xff.COM".as_slice()
-    );
-    assert_eq!(rt;
-        rules.registrable_name(b"").unwrap_or(b"none"),
-        b"none".as_slice()
-    );
+    let rules = rules_of(rt.alloc(), "com\nuk.com")?;
+    assert_raw(&rt, &rules, b"a.b.UK.com", b"UK.com", b"");
+    assert_raw(&rt, &rules, b"a.\xff.COM", b"\xff.COM", b"");
+    assert_raw(&rt, &rules, b"", b"none", b"none");
     Ok(())
+}
+
+const BAD_LINES: &str = ".\n.com\ncom.\na..b\n!\n!com\n!a..com\na/b.com\na%.com";
+
+fn is_bad(rules: &mut Suffixes, line: &str) -> bool {
+    match rules.read_line(line) {
+        Err(Fault::Step(SuffixRefusal::BadRule)) => true,
+        _ => false,
+    }
+}
+
+fn all_bad(rt: &impl Abort, rules: &mut Suffixes, lines: &str) {
+    for line in lines.split('\n') {
+        assert_so(rt, is_bad(rules, line), line);
+    }
 }
 
 #[test]
 fn lines_that_hold_no_rule_or_a_bad_one(rt: HostRuntime) -> Result<(), Fail> {
-    let mut rules = read(rt.alloc(), "\n// com\n//com\n \tcom\n\r")?;
-    for line in ".\n.com\ncom.\na..b\n!\n!com\n!a..com\na/b.com\na%.com".split('\n') {
-        let bad = rules.read_line(line) == Err(Fault::Step(SuffixRefusal::BadRule));
-        assert!(rt; bad);
-    }
-    assert!(rt; rules.same(&Suffixes::new(rt.alloc())));
+    let mut rules = rules_of(rt.alloc(), "\n// com\n//com\n \tcom\n\r")?;
+    all_bad(&rt, &mut rules, BAD_LINES);
+    assert_so(&rt, rules.same(&Suffixes::new(rt.alloc())), "no rule");
     Ok(())
 }
 
 fn are_same(alloc: Global, list: &str, other: &str) -> Result<bool, Fail> {
-    let rules = read(alloc, list)?;
-    let others = read(alloc, other)?;
+    let rules = rules_of(alloc, list)?;
+    let others = rules_of(alloc, other)?;
     Ok(rules.same(&others))
 }
 
 fn copies(alloc: Global, list: &str) -> Result<bool, Fail> {
-    let rules = read(alloc, list)?;
+    let rules = rules_of(alloc, list)?;
     let copy = rules.copy(alloc)?;
     Ok(copy.same(&rules))
 }
 
-fn some_rules() -> &'static str {
-    "COM\t// x\n公司.cn\r\n＊.mm \n!!x.mm"
-}
+const SOME_RULES: &str = "COM\t// x\n公司.cn\r\n＊.mm \n!!x.mm";
 
-fn rules_in_other_words() -> &'static str {
-    "xn--55qx5d.CN\n*.mm\n!！x.mm\ncom\n*.mm"
-}
+const IN_OTHER_WORDS: &str = "xn--55qx5d.CN\n*.mm\n!！x.mm\ncom\n*.mm";
 
-fn no_exception() -> &'static str {
-    "com\nxn--55qx5d.cn\n*.mm\n！x.mm"
-}
+const NO_EXCEPTION: &str = "com\nxn--55qx5d.cn\n*.mm\n！x.mm";
 
 // White space ends a rule. Labels are brought to ASCII form, so a full-width star is the wildcard
 // and a full-width `!` is part of a label.
 #[test]
 fn rules_in_other_forms(rt: HostRuntime) -> Result<(), Fail> {
-    assert!(rt; are_same(rt.alloc(), some_rules(), rules_in_other_words())?);
-    assert!(rt; !are_same(rt.alloc(), some_rules(), no_exception())?);
-    assert!(rt; copies(rt.alloc(), some_rules())?);
+    assert_so(
+        &rt,
+        are_same(rt.alloc(), SOME_RULES, IN_OTHER_WORDS)?,
+        "in other words",
+    );
+    assert_so(
+        &rt,
+        !are_same(rt.alloc(), SOME_RULES, NO_EXCEPTION)?,
+        "no exception",
+    );
+    assert_so(&rt, copies(rt.alloc(), SOME_RULES)?, "a copy");
     Ok(())
 }
 
@@ -157,57 +150,108 @@ fn ends(rules: &Suffixes, labels: &str, exception: bool) -> Option<bool> {
     Some(node.has(exception))
 }
 
+// The labels of a node, and whether a rule ends there, or an exception; there is no node for some.
+const NODES: &str = "b | rule | no
+b q | rule | yes
+b * | rule | no
+b * a | rule | yes
+b q x | exception | yes
+b q x | rule | no
+b c | rule | none
+* | rule | none";
+
+fn end_word(end: Option<bool>) -> &'static str {
+    match end {
+        Some(true) => "yes",
+        Some(false) => "no",
+        None => "none",
+    }
+}
+
+fn assert_end(rt: &impl Abort, rules: &Suffixes, line: &str) -> Result<(), Fail> {
+    let (labels, more) = parts(line)?;
+    let (kind, wanted) = parts(more)?;
+    let found = end_word(ends(rules, labels, kind == "exception"));
+    assert_word(rt, found, wanted, line);
+    Ok(())
+}
+
+fn assert_ends(rt: &impl Abort, rules: &Suffixes, lines: &str) -> Result<(), Fail> {
+    for line in lines.split('\n') {
+        assert_end(rt, rules, line)?;
+    }
+    Ok(())
+}
+
 // A label leads to what goes on with it, and `*` is a label there.
 #[test]
 fn nodes_of_the_tree(rt: HostRuntime) -> Result<(), Fail> {
-    let rules = read(rt.alloc(), "q.b\na.*.b\n!x.q.b")?;
-    assert!(rt; ends(&rules, "b", false) == Some(false));
-    assert!(rt; ends(&rules, "b q", false) == Some(true));
-    assert!(rt; ends(&rules, "b *", false) == Some(false));
-    assert!(rt; ends(&rules, "b * a", false) == Some(true));
-    assert!(rt; ends(&rules, "b q x", true) == Some(true));
-    assert!(rt; ends(&rules, "b q x", false) == Some(false));
-    assert!(rt; ends(&rules, "b c", false) == None);
-    assert!(rt; ends(&rules, "*", false) == None);
-    assert!(rt; !Suffixes::new(rt.alloc()).top().has(false));
+    let rules = rules_of(rt.alloc(), "q.b\na.*.b\n!x.q.b")?;
+    assert_ends(&rt, &rules, NODES)
+}
+
+#[test]
+fn top_without_rules(rt: HostRuntime) {
+    let rules = Suffixes::new(rt.alloc());
+    assert_so(&rt, !rules.top().has(false), "no rule");
+}
+
+fn push_labels(name: &mut String, labels: u32) -> Result<(), Fail> {
+    for _ in 0..labels {
+        name.push_str("a.")?;
+    }
+    name.push('b')?;
     Ok(())
 }
 
 // A name with so many labels more than `b`.
 fn long_name(alloc: Global, labels: u32) -> Result<String, Fail> {
     let mut name = String::new(alloc);
-    for _ in 0..labels {
-        name.push_str("a.")?;
-    }
-    name.push('b')?;
+    push_labels(&mut name, labels)?;
     Ok(name)
+}
+
+fn add_long_rule(rules: &mut Suffixes, alloc: Global) -> Result<(), Fail> {
+    let rule = long_name(alloc, 30_000)?;
+    rules.read_line(rule.as_str())?;
+    rules.read_line(rule.as_str())?;
+    Ok(())
+}
+
+// A copy of these rules, which is the same.
+fn same_copy(rt: &impl Abort, alloc: Global, rules: &Suffixes) -> Result<Suffixes, Fail> {
+    let copy = rules.copy(alloc)?;
+    assert_so(rt, copy.same(rules), "a copy");
+    Ok(copy)
+}
+
+fn long_copy(rt: &impl Abort, alloc: Global) -> Result<Suffixes, Fail> {
+    let mut rules = Suffixes::new(alloc);
+    add_long_rule(&mut rules, alloc)?;
+    same_copy(rt, alloc, &rules)
+}
+
+fn finds_long_name(alloc: Global, rules: &Suffixes) -> Result<bool, Fail> {
+    let name = long_name(alloc, 30_001)?;
+    Ok(rules.registrable_name(name.as_bytes()).unwrap_or(b"") == name.as_bytes())
 }
 
 // A rule may have more labels than calls can be nested: it is added, added again, copied, looked
 // up and let go.
 #[test]
 fn long_rules(rt: HostRuntime) -> Result<(), Fail> {
-    let rule = long_name(rt.alloc(), 30_000)?;
-    let name = long_name(rt.alloc(), 30_001)?;
-    let mut rules = Suffixes::new(rt.alloc());
-    rules.read_line(rule.as_str())?;
-    rules.read_line(rule.as_str())?;
-    let copy = rules.copy(rt.alloc())?;
-    assert!(rt; copy.same(&rules));
-    let found = copy.registrable_name(name.as_bytes()).unwrap_or(b"");
-    assert!(rt; found == name.as_bytes());
+    let copy = long_copy(&rt, rt.alloc())?;
+    assert_so(&rt, finds_long_name(rt.alloc(), &copy)?, "the long name");
     Ok(())
 }
 
 // The rules on which the published cases stand.
-fn listed_rules() -> &'static str {
+const LISTED_RULES: &str =
     "ac\nbiz\ncom\nuk.com\n*.ck\n!www.ck\ncn\ncom.cn\n公司.cn\n中国\njp\nac.jp\nkyoto.jp\n\
-    ide.kyoto.jp\n*.kobe.jp\n!city.kobe.jp\n*.mm\nus\nak.us\nk12.ak.us"
-}
+    ide.kyoto.jp\n*.kobe.jp\n!city.kobe.jp\n*.mm\nus\nak.us\nk12.ak.us";
 
 // The Public Suffix List's published test cases. Mixed case and Unicode go through a URL's host.
-fn mixed_case_and_dots() -> &'static str {
-    "COM \n\
+const PUBLISHED: &str = "COM \n\
     example.COM example.com\n\
     WwW.example.COM example.com\n\
     .com \n\
@@ -217,11 +261,8 @@ fn mixed_case_and_dots() -> &'static str {
     example \n\
     example.example example.example\n\
     b.example.example example.example\n\
-    a.b.example.example example.example"
-}
-
-fn biz_and_com() -> &'static str {
-    "biz \n\
+    a.b.example.example example.example\n\
+    biz \n\
     domain.biz domain.biz\n\
     b.domain.biz domain.biz\n\
     a.b.domain.biz domain.biz\n\
@@ -233,11 +274,8 @@ fn biz_and_com() -> &'static str {
     example.uk.com example.uk.com\n\
     b.example.uk.com example.uk.com\n\
     a.b.example.uk.com example.uk.com\n\
-    test.ac test.ac"
-}
-
-fn mm_and_jp() -> &'static str {
-    "mm \n\
+    test.ac test.ac\n\
+    mm \n\
     c.mm \n\
     b.c.mm b.c.mm\n\
     a.b.c.mm b.c.mm\n\
@@ -256,11 +294,8 @@ fn mm_and_jp() -> &'static str {
     b.c.kobe.jp b.c.kobe.jp\n\
     a.b.c.kobe.jp b.c.kobe.jp\n\
     city.kobe.jp city.kobe.jp\n\
-    www.city.kobe.jp city.kobe.jp"
-}
-
-fn ck_and_us() -> &'static str {
-    "ck \n\
+    www.city.kobe.jp city.kobe.jp\n\
+    ck \n\
     test.ck \n\
     b.test.ck b.test.ck\n\
     a.b.test.ck b.test.ck\n\
@@ -274,32 +309,17 @@ fn ck_and_us() -> &'static str {
     www.test.ak.us test.ak.us\n\
     k12.ak.us \n\
     test.k12.ak.us test.k12.ak.us\n\
-    www.test.k12.ak.us test.k12.ak.us"
-}
-
-fn chinese_below_cn() -> &'static str {
-    "食狮.com.cn xn--85x722f.com.cn\n\
-    食狮.公司.cn xn--85x722f.xn--55qx5d.cn"
-}
-
-fn chinese_companies() -> &'static str {
-    "www.食狮.公司.cn xn--85x722f.xn--55qx5d.cn\n\
+    www.test.k12.ak.us test.k12.ak.us\n\
+    食狮.com.cn xn--85x722f.com.cn\n\
+    食狮.公司.cn xn--85x722f.xn--55qx5d.cn\n\
+    www.食狮.公司.cn xn--85x722f.xn--55qx5d.cn\n\
     shishi.公司.cn shishi.xn--55qx5d.cn\n\
-    公司.cn "
-}
-
-fn chinese_below_china() -> &'static str {
-    "食狮.中国 xn--85x722f.xn--fiqs8s\n\
-    www.食狮.中国 xn--85x722f.xn--fiqs8s"
-}
-
-fn china_itself() -> &'static str {
-    "shishi.中国 shishi.xn--fiqs8s\n\
-    中国 "
-}
-
-fn punycode() -> &'static str {
-    "xn--85x722f.com.cn xn--85x722f.com.cn\n\
+    公司.cn \n\
+    食狮.中国 xn--85x722f.xn--fiqs8s\n\
+    www.食狮.中国 xn--85x722f.xn--fiqs8s\n\
+    shishi.中国 shishi.xn--fiqs8s\n\
+    中国 \n\
+    xn--85x722f.com.cn xn--85x722f.com.cn\n\
     xn--85x722f.xn--55qx5d.cn xn--85x722f.xn--55qx5d.cn\n\
     www.xn--85x722f.xn--55qx5d.cn xn--85x722f.xn--55qx5d.cn\n\
     shishi.xn--55qx5d.cn shishi.xn--55qx5d.cn\n\
@@ -307,24 +327,9 @@ fn punycode() -> &'static str {
     xn--85x722f.xn--fiqs8s xn--85x722f.xn--fiqs8s\n\
     www.xn--85x722f.xn--fiqs8s xn--85x722f.xn--fiqs8s\n\
     shishi.xn--fiqs8s shishi.xn--fiqs8s\n\
-    xn--fiqs8s "
-}
-
-fn wrong_by_list(alloc: Global, cases: &'static str) -> Result<&'static str, Fail> {
-    let rules = read(alloc, listed_rules())?;
-    first_wrong(alloc, &rules, cases)
-}
+    xn--fiqs8s ";
 
 #[test]
 fn published_cases(rt: HostRuntime) -> Result<(), Fail> {
-    assert_eq!(rt; wrong_by_list(rt.alloc(), mixed_case_and_dots())?, "");
-    assert_eq!(rt; wrong_by_list(rt.alloc(), biz_and_com())?, "");
-    assert_eq!(rt; wrong_by_list(rt.alloc(), mm_and_jp())?, "");
-    assert_eq!(rt; wrong_by_list(rt.alloc(), ck_and_us())?, "");
-    assert_eq!(rt; wrong_by_list(rt.alloc(), chinese_below_cn())?, "");
-    assert_eq!(rt; wrong_by_list(rt.alloc(), chinese_companies())?, "");
-    assert_eq!(rt; wrong_by_list(rt.alloc(), chinese_below_china())?, "");
-    assert_eq!(rt; wrong_by_list(rt.alloc(), china_itself())?, "");
-    assert_eq!(rt; wrong_by_list(rt.alloc(), punycode())?, "");
-    Ok(())
+    right_by(&rt, rt.alloc(), LISTED_RULES, PUBLISHED)
 }

@@ -176,7 +176,8 @@ swap_ties p x y ys zs out h false e =
     filter_no p y zs e ∙ h ∙ sym (ap (λ l. cond (p x) (x ∷ l) l) (filter_no p y ys e))
 
 -- one item more stands before the items that tie with it
-put_ties : {X : Type 0} (d : Bool) (n : X → ℕ) (z x : X) (xs : List X) → filter (tie d n z) (put_by (by d n) x xs) ≡ filter (tie d n z) (x ∷ xs)
+put_ties : {X : Type 0} (d : Bool) (n : X → ℕ) (z x : X) (xs : List X)
+    → filter (tie d n z) (put_by (by d n) x xs) ≡ filter (tie d n z) (x ∷ xs)
 put_ties d n z x [] = refl
 put_ties {X} d n z x (y ∷ ys) = pick (goes d (n x) (n y)) refl (put_ties d n z x ys)
   where
@@ -245,7 +246,8 @@ put-map f g x [] = refl
 put-map {X} {Y} f g x (y ∷ ys) = pick (g (f x) (f y)) (put-map f g x ys)
   where
     pick : (b : Bool) → map f (put_by (λ a b. g (f a) (f b)) x ys) ≡ put_by g (f x) (map f ys)
-        → map f (cond b (x ∷ y ∷ ys) (y ∷ put_by (λ a b. g (f a) (f b)) x ys)) ≡ cond b (f x ∷ f y ∷ map f ys) (f y ∷ put_by g (f x) (map f ys))
+        → map f (cond b (x ∷ y ∷ ys) (y ∷ put_by (λ a b. g (f a) (f b)) x ys))
+        ≡ cond b (f x ∷ f y ∷ map f ys) (f y ∷ put_by g (f x) (map f ys))
     pick true h = refl
     pick false h = ap (λ l. f y ∷ l) h
 
@@ -369,7 +371,8 @@ put_last d n w [] all = refl
 put_last d n w (x ∷ xs) all = ap (λ t. cond t (w ∷ x ∷ xs) (x ∷ put_by (by d n) w xs)) all.0 ∙ ap (λ l. x ∷ l) (put_last d n w xs all.1)
 
 -- one item more keeps what is so of each
-put_all : {X : Type 0} (P : X → Type 0) (g : X → X → Bool) (x : X) (xs : List X) → P x → AllByRecursion P xs → AllByRecursion P (put_by g x xs)
+put_all : {X : Type 0} (P : X → Type 0) (g : X → X → Bool) (x : X) (xs : List X) → P x → AllByRecursion P xs
+    → AllByRecursion P (put_by g x xs)
 put_all P g x [] px all = (px, tt)
 put_all {X} P g x (y ∷ ys) px all = pick (g x y) (put_all P g x ys px all.1)
   where

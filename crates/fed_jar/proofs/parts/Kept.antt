@@ -10,7 +10,8 @@ use Rattle.std.proofs.lemmas.Slice.Eq.{bytes_eq-Decides}
 use Rattle.fed_jar.specs.declared.numbered.Lent.{Lent}
 use Rattle.fed_jar.specs.declared.numbered.Numbered.{Numbered}
 use Rattle.fed_jar.specs.Cookie.{KeptCookie, cookies_of, is_under, kept_under, has_key}
-use Rattle.fed_jar.specs.Parts.{numbered_cookies, under, numbered_of, Lists, list_under, all_kept, all_numbered, smallest_first, kept_of, Rises, AreLists}
+use Rattle.fed_jar.specs.Parts.{numbered_cookies, under, numbered_of, Lists, list_under, all_kept, all_numbered, smallest_first, kept_of}
+use Rattle.fed_jar.specs.Parts.{Rises, AreLists}
 use Rattle.fed_jar.specs.Parts.{same_numbered, lent_cookies, lent_numbered}
 use Rattle.fed_jar.proofs.order.Order.{Ordered, filter_yes, filter_no, filter_in_order, in_order-map}
 
@@ -149,7 +150,8 @@ all_numbers (l ∷ ls) =
     ∙ (λ i. numbered_under l.0 l.1 i ++ all_numbers ls i)
 
 -- what `list` gives
-pub cookies_by_number : (ls : Lists) → numbered_cookies (smallest_first (λ (n : Numbered). n.number) (all_numbered ls)) ≡ cookies_of (kept_of ls)
+pub cookies_by_number : (ls : Lists) → numbered_cookies (smallest_first (λ (n : Numbered). n.number) (all_numbered ls))
+    ≡ cookies_of (kept_of ls)
 cookies_by_number ls =
     ap (λ all. numbered_cookies (smallest_first (λ (n : Numbered). n.number) all)) (sym (all_numbers ls))
     ∙ ap numbered_cookies (sym (in_order-map numbered_of (λ (a b : Numbered). nat_le a.number b.number) (all_kept ls)))

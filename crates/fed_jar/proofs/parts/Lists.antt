@@ -13,12 +13,14 @@ use Rattle.fed_jar.specs.Parts.{same_numbered, put_numbered, lists_of, list_unde
 -- ---- a list of cookies
 
 -- a cookie of the list has the key where its number is found
-pub any_found : (new : Numbered) (ns : List Numbered) (m : ℕ) → option_map (λ (n : Numbered). n.number) (find (same_numbered new) ns) ≡ Some m
+pub any_found : (new : Numbered) (ns : List Numbered) (m : ℕ)
+    → option_map (λ (n : Numbered). n.number) (find (same_numbered new) ns) ≡ Some m
     → list_any (same_numbered new) ns ≡ true
 any_found new [] m e = absurd (cc)
 any_found new (n ∷ ns) m e = pick (same_numbered new n) (any_found new ns m) e
   where
-    pick : (b : Bool) → (option_map (λ (n : Numbered). n.number) (find (same_numbered new) ns) ≡ Some m → list_any (same_numbered new) ns ≡ true)
+    pick : (b : Bool) → (option_map (λ (n : Numbered). n.number) (find (same_numbered new) ns) ≡ Some m
+        → list_any (same_numbered new) ns ≡ true)
         → option_map (λ (n : Numbered). n.number) (cond b (Some n) (find (same_numbered new) ns)) ≡ Some m
         → (b || list_any (same_numbered new) ns) ≡ true
     pick true h e = refl
@@ -29,7 +31,8 @@ pub none_found : (new : Numbered) (ns : List Numbered) → option_map (λ (n : N
 none_found new [] e = refl
 none_found new (n ∷ ns) e = pick (same_numbered new n) (none_found new ns) e
   where
-    pick : (b : Bool) → (option_map (λ (n : Numbered). n.number) (find (same_numbered new) ns) ≡ None → list_any (same_numbered new) ns ≡ false)
+    pick : (b : Bool) → (option_map (λ (n : Numbered). n.number) (find (same_numbered new) ns) ≡ None
+        → list_any (same_numbered new) ns ≡ false)
         → option_map (λ (n : Numbered). n.number) (cond b (Some n) (find (same_numbered new) ns)) ≡ None
         → (b || list_any (same_numbered new) ns) ≡ false
     pick true h e = absurd (cc)
@@ -47,7 +50,8 @@ swapped new (n ∷ ns) m e = pick (same_numbered new n) (swapped new ns m) e
         → (option_map (λ (n : Numbered). n.number) (find (same_numbered new) ns) ≡ Some m
         → swap_key (same_numbered new) ns (record { cookie = new.cookie; number = m }) ≡ put_numbered ns new)
         → option_map (λ (n : Numbered). n.number) (cond b (Some n) (find (same_numbered new) ns)) ≡ Some m
-        → cond b (record { cookie = new.cookie; number = m } ∷ ns) (n ∷ swap_key (same_numbered new) ns (record { cookie = new.cookie; number = m }))
+        → cond b (record { cookie = new.cookie; number = m } ∷ ns) (n
+        ∷ swap_key (same_numbered new) ns (record { cookie = new.cookie; number = m }))
         ≡ cond b (record n { cookie = new.cookie } ∷ ns) (n ∷ put_numbered ns new)
     pick true h e =
         let same : m ≡ n.number = same_number n.number m e in
@@ -55,10 +59,12 @@ swapped new (n ∷ ns) m e = pick (same_numbered new n) (swapped new ns m) e
     pick false h e = ap (λ l. n ∷ l) (h e)
 
 -- a cookie that replaces another under that one's number
-pub replaced : (new : Numbered) (ns : List Numbered) (m : ℕ) → option_map (λ (n : Numbered). n.number) (find (same_numbered new) ns) ≡ Some m
+pub replaced : (new : Numbered) (ns : List Numbered) (m : ℕ)
+    → option_map (λ (n : Numbered). n.number) (find (same_numbered new) ns) ≡ Some m
     → replace_key same_numbered ns (record { cookie = new.cookie; number = m }) ≡ put_numbered ns new
 replaced new ns m e =
-    ap (λ b. cond b (swap_key (same_numbered new) ns (record { cookie = new.cookie; number = m })) (ns ++ record { cookie = new.cookie; number = m } ∷ []))
+    ap (λ b. cond b (swap_key (same_numbered new) ns (record { cookie = new.cookie; number = m })) (ns
+    ++ record { cookie = new.cookie; number = m } ∷ []))
     (any_found new ns m e)
     ∙ swapped new ns m e
 
@@ -138,7 +144,8 @@ put_nothing {K} {S} text name (l ∷ es) s t e same = pick (bytes_eq name (text 
         → (lookup (λ k. bytes_eq name (text k)) es ≡ Some s
         → lists_of text (set_value (λ k. bytes_eq name (text k)) es t) ≡ lists_of text es)
         → cond b (Some l.1) (lookup (λ k. bytes_eq name (text k)) es) ≡ Some s
-        → lists_of text (cond b ((l.0, t) ∷ es) (l ∷ set_value (λ k. bytes_eq name (text k)) es t)) ≡ (text l.0, l.1.keys) ∷ lists_of text es
+        → lists_of text (cond b ((l.0, t) ∷ es) (l ∷ set_value (λ k. bytes_eq name (text k)) es t))
+        ≡ (text l.0, l.1.keys) ∷ lists_of text es
     pick true h e =
         let keys : t.keys ≡ l.1.keys = same ∙ ap (λ (u : IndexSet Numbered S). u.keys) (sym (alike l.1 s e)) in
         λ i. (text l.0, keys i) ∷ lists_of text es

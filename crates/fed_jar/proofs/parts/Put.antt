@@ -1,5 +1,6 @@
 -- A cookie that is put into a jar's lists.
-use Rattle.std.proofs.Common.{◌≡◌, ℕ, ◌+◌, ◌<◌, ◌≤◌, Bool, true, false, cond, ◌||◌, List, [], ◌∷◌, ◌++◌, map, Some, None, sym, refl, ap, ◌∙◌}
+use Rattle.std.proofs.Common.{◌≡◌, ℕ, ◌+◌, ◌<◌, ◌≤◌, Bool, true, false, cond, ◌||◌, List, [], ◌∷◌, ◌++◌, map, Some, None, sym, refl, ap}
+use Rattle.std.proofs.Common.{◌∙◌}
 use Rattle.std.proofs.Common.{subst, arith, append_assoc, not}
 use Rattle.std.specs.Prelude.{Option, Result, Ok, Err, OnOk, OnErr, bytes_eq, filter, nat_le}
 use Rattle.std.specs.List.{list_any, AllByRecursion, IsDistinct}
@@ -16,14 +17,16 @@ use Rattle.fed_jar.specs.Cookie.{StoredCookie, KeptCookie, JarParts, cookies_of,
 use Rattle.fed_jar.specs.Cookie.{with_kept, with_cookie, written, entered_after, jar_after, AreDistinct}
 use Rattle.fed_jar.specs.Store.{IsOwn, IsKeptBy, is_of_party, cookie_of}
 use Rattle.fed_jar.specs.Send.{jar_text}
-use Rattle.fed_jar.specs.Parts.{numbered_cookies, under, put_numbered, put_under, Lists, list_under, all_kept, kept_of, jar_of, Rises, AreLists}
+use Rattle.fed_jar.specs.Parts.{numbered_cookies, under, put_numbered, put_under, Lists, list_under, all_kept, kept_of, jar_of, Rises}
+use Rattle.fed_jar.specs.Parts.{AreLists}
 use Rattle.fed_jar.specs.Parts.{same_numbered, smallest_first, numbered_of}
 use Rattle.fed_jar.proofs.order.Order.{swapped_in_order, last_in_order}
 use Rattle.fed_jar.proofs.keys.Keys.{key_is, key_test, key_comm}
 use Rattle.fed_jar.proofs.writes.Writes.{distinct-with_cookie}
 use Rattle.fed_jar.proofs.parties.Parties.{written_party, filter_within, text_is_of_party}
 use Rattle.fed_jar.proofs.parts.Lists.{put_last}
-use Rattle.fed_jar.proofs.parts.Kept.{same_text, text_same, text_comm, map_joined, cookies_under, has_key-numbered, part_of_kept, cookies_numbered}
+use Rattle.fed_jar.proofs.parts.Kept.{same_text, text_same, text_comm, map_joined, cookies_under, has_key-numbered, part_of_kept}
+use Rattle.fed_jar.proofs.parts.Kept.{cookies_numbered}
 
 -- ---- where a cookie is put among all
 
@@ -237,7 +240,8 @@ cookies-with_kept (k ∷ ks) new = pick (same_key new.cookie k.cookie) (cookies-
     pick false h = ap (λ l. k.cookie ∷ l) h
 
 named_apart : (name party : List ℕ) (new : Numbered) (ls : Lists) → bytes_eq party name ≡ false
-    → AllByRecursion (λ k. bytes_eq party k ≡ false) (keys_of ls) → AllByRecursion (λ k. bytes_eq party k ≡ false) (keys_of (put_under name ls new))
+    → AllByRecursion (λ k. bytes_eq party k ≡ false) (keys_of ls)
+    → AllByRecursion (λ k. bytes_eq party k ≡ false) (keys_of (put_under name ls new))
 named_apart name party new [] e all = (e, tt)
 named_apart name party new (l ∷ ls) e all = pick (bytes_eq name l.0) (named_apart name party new ls e all.1)
   where
@@ -246,7 +250,8 @@ named_apart name party new (l ∷ ls) e all = pick (bytes_eq name l.0) (named_ap
     pick true h = all
     pick false h = (all.0, h)
 
-named_put : (name : List ℕ) (new : Numbered) (ls : Lists) → IsDistinct bytes_eq (keys_of ls) → IsDistinct bytes_eq (keys_of (put_under name ls new))
+named_put : (name : List ℕ) (new : Numbered) (ls : Lists) → IsDistinct bytes_eq (keys_of ls)
+    → IsDistinct bytes_eq (keys_of (put_under name ls new))
 unfolding IsDistinct
 named_put name new [] d = (tt, tt)
 named_put name new (l ∷ ls) d = pick (bytes_eq name l.0) refl (named_put name new ls d.1)
@@ -317,7 +322,8 @@ below_replaced e new ls after below r =
     let P : KeptCookie → Type 0 = λ k. k.number < e in
     let all = subst (AllByRecursion P) r.was below in
     let rest = all_rest P r.front (r.old ∷ r.back) all in
-    subst (AllByRecursion P) (sym r.is) (all_joined P r.front (renew new.cookie r.old ∷ r.back) (all_first P r.front (r.old ∷ r.back) all) (rest.0, rest.1))
+    subst (AllByRecursion P) (sym r.is) (all_joined P r.front (renew new.cookie r.old ∷ r.back) (all_first P r.front (r.old ∷ r.back) all)
+    (rest.0, rest.1))
 
 below_added : (name : List ℕ) (new : Numbered) (ls after : Lists) → AllByRecursion (λ (k : KeptCookie). k.number < new.number) (all_kept ls)
     → IsAdded name new ls after → AllByRecursion (λ (k : KeptCookie). k.number < new.number + 1) (all_kept after)
@@ -401,7 +407,8 @@ pub part_cookies : (rules : RuleSet) (name : List ℕ) (ks : List KeptCookie) �
     → filter (is_of_party rules name) (cookies_of ks) ≡ cookies_of (kept_under name ks)
 part_cookies rules name [] own = refl
 part_cookies rules name (k ∷ ks) own =
-    ap (λ p. cond (bytes_eq p name) (k.cookie ∷ filter (is_of_party rules name) (cookies_of ks)) (filter (is_of_party rules name) (cookies_of ks)))
+    ap (λ p. cond (bytes_eq p name) (k.cookie ∷ filter (is_of_party rules name) (cookies_of ks)) (filter (is_of_party rules
+    name) (cookies_of ks)))
     (sym own.0)
     ∙ pick (is_under name k) (part_cookies rules name ks own.1)
   where
@@ -437,7 +444,8 @@ same_filter p cs = filter_within p p (λ c e. e) cs
 
 -- the Cookie field is that of what is kept under the party of the URL's host
 pub text_of_part : (rules : RuleSet) (url : Parts) (now : ℕ) (ks : List KeptCookie) → AllByRecursion (IsOwn rules) ks
-    → jar_text rules url now (numbered_cookies (map numbered_of (kept_under (party rules (host_of url)) ks))) ≡ jar_text rules url now (cookies_of ks)
+    → jar_text rules url now (numbered_cookies (map numbered_of (kept_under (party rules (host_of url)) ks)))
+    ≡ jar_text rules url now (cookies_of ks)
 text_of_part rules url now ks own =
     let name = party rules (host_of url) in
     ap (jar_text rules url now) (cookies_numbered (kept_under name ks) ∙ sym (part_cookies rules name ks own))

@@ -45,7 +45,8 @@ takes_line old new piece line further found none cut going is phase rest = recor
         },
         ap (lines_read fresh) whole
             ∙ lines_read-append fresh (whole_lines bytes) ((old.rest ++ line) ∷ [])
-            ∙ ap (λ ls. lines_read fresh (whole_lines bytes) ++ ls) (ap (λ p. lines_read p ((old.rest ++ line) ∷ [])) (sym h.phase) ∙ lines),
+            ∙ ap (λ ls. lines_read fresh (whole_lines bytes) ++ ls) (ap (λ p. lines_read p ((old.rest ++ line) ∷ [])) (sym h.phase)
+            ∙ lines),
       );
 }
 

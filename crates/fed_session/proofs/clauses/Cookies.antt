@@ -1,5 +1,6 @@
 -- The rules and the jar of a session after writes, and how many a reply can have.
-use Rattle.std.proofs.Common.{◌≡◌, ℕ, suc, ◌+◌, ◌≤◌, Bool, true, false, cond, List, [], ◌∷◌, Option, Some, None, map, length, refl, sym, ap, ◌∙◌, subst, arith}
+use Rattle.std.proofs.Common.{◌≡◌, ℕ, suc, ◌+◌, ◌≤◌, Bool, true, false, cond, List, [], ◌∷◌, Option, Some, None, map, length, refl, sym, ap}
+use Rattle.std.proofs.Common.{◌∙◌, subst, arith}
 use Rattle.std.specs.Prelude.{filter, nat_le, Ok, Err}
 use Rattle.fed_reply.specs.declared.step.ReplyStep.TheVariants.{Head}
 use Rattle.std.specs.List.{filter_map, cons_option}
@@ -134,7 +135,8 @@ few_have rules now (haves.Login origin status) = omega arith
 few_have rules now (haves.Kept triple) = omega arith
 few_have rules now (haves.Silent origin) = omega arith
 
-pub few_load : (rules : RuleSet) (url : Parts) (now : ℕ) (raw : Option (List ℕ)) → length (cookies_from rules url now (set_cookies raw)) ≤ 128
+pub few_load : (rules : RuleSet) (url : Parts) (now : ℕ) (raw : Option (List ℕ))
+    → length (cookies_from rules url now (set_cookies raw)) ≤ 128
 few_load rules url now raw =
     let some = mapped_few (cookie_from rules url now) (set_cookies raw) in
     let few = few_loaded set_cookie_name raw in

@@ -34,7 +34,8 @@ use Rattle.fed_trace.specs.Begun.{CallKind}
 use Rattle.fed_trace.specs.Call.{Known}
 use Rattle.fed_session.specs.Session.{State, Stands, windows, numbers_in, item_known, pending_call, pending_calls}
 use Rattle.fed_session.specs.Cookies.{with_writes}
-use Rattle.fed_session.specs.StepParts.{sight_of, cookies_kept, with_statuses, have_statuses, have_kept, have_flags, flags_set, close_records}
+use Rattle.fed_session.specs.StepParts.{sight_of, cookies_kept, with_statuses, have_statuses, have_kept, have_flags, flags_set}
+use Rattle.fed_session.specs.StepParts.{close_records}
 use Rattle.fed_session.specs.Tabs.{Ends, Closes}
 use Rattle.fed_trace.specs.Trace.{Trace, standing, pages, pending, pending_of, page_at, calls_of, now_at}
 use Rattle.fed_trace.proofs.calls.Begins.{AreApart, apart_begun}

@@ -125,7 +125,8 @@ le_of_both m n p q = omega arith
 reaches : (rules : RuleSet) (exception : Bool) (name : List (List ℕ)) (rule : Rule) → is_among (set.items rules) rule ≡ true
     → matches_as name exception rule ≡ true → length rule.0 ≤ longest_from rules exception 0 name
 reaches rules exception name rule among passes =
-    let flag : rule.1 ≡ exception = same_bool_is exception rule.1 (second_of_both (matches name rule) (same_bool exception rule.1) passes) in
+    let flag : rule.1 ≡ exception =
+    same_bool_is exception rule.1 (second_of_both (matches name rule) (same_bool exception rule.1) passes) in
     let there : set.contains rules (rule.0, exception) ≡ true =
     ap (λ e. set.contains rules (rule.0, e)) (sym flag) ∙ set.contains-items rules rule ∙ among in
     let reached : length rule.0 + 0 ≤ longest_from rules exception 0 name =

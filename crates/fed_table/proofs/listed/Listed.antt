@@ -230,7 +230,9 @@ pub page_listed : {C A E : Type 0} (r : Result A E) (pages pages' : List ℕ) (o
     → OnOk r (pages' ≡ pages ++ page ∷ []) → OnOk r (calls'.pages ≡ calls.pages ++ [] ∷ []) → calls'.waits ≡ calls.waits
     → OnErr r (calls' ≡ calls) → OnErr r (pages' ≡ pages) → AreListed pages' origins calls'
 page_listed (Err e) pages pages' origins calls calls' page listed few keys lists waits same same_keys = record {
-  page_lists = (let a = ap length same_keys in let b = ap (λ (l : CallLists _). length l.pages) same in let d = listed.page_lists in omega (arith, a, b, d));
+  page_lists =
+      (let a = ap length same_keys in let b = ap (λ (l : CallLists _). length l.pages) same in let d = listed.page_lists in
+      omega (arith, a, b, d));
   origin_lists = listed.origin_lists ∙ ap length (sym waits);
   few_pages = (let a = ap length same_keys in let d = listed.few_pages in omega (arith, a, d));
   few_origins = listed.few_origins;
@@ -243,7 +245,8 @@ page_listed (Ok x) pages pages' origins calls calls' page listed few keys lists 
   few_origins = listed.few_origins;
 }
 
-pub page_comes : {C A E : Type 0} (r : Result A E) (pages pages' : List ℕ) (calls calls' : CallLists C) (page : ℕ) (shown : List (ℕ × List ℕ))
+pub page_comes : {C A E : Type 0} (r : Result A E) (pages pages' : List ℕ) (calls calls' : CallLists C) (page : ℕ) (shown : List
+    (ℕ × List ℕ))
     → length pages ≡ length calls.pages → position (nat_eq page) pages ≡ None → keyed pages calls.pages ≡ shown
     → OnOk r (pages' ≡ pages ++ page ∷ []) → OnOk r (calls'.pages ≡ calls.pages ++ [] ∷ [])
     → OnOk r (keyed pages' calls'.pages ≡ with_key nat_eq page shown)

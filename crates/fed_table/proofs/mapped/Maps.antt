@@ -125,7 +125,8 @@ module _ (f : ℕ → ℕ) where
   module _ (c n : ℕ) where
     pub map-without : (xs : List ℕ) → IsOf c n xs → map f (without n xs) ≡ without c (map f xs)
     map-without [] h = refl
-    map-without (x ∷ xs) h = pick (nat_eq n x) (nat_eq c (f x)) (sym (h x (has_first x xs))) (map-without xs (λ m e. h m (has_later m x xs e)))
+    map-without (x ∷ xs) h =
+        pick (nat_eq n x) (nat_eq c (f x)) (sym (h x (has_first x xs))) (map-without xs (λ m e. h m (has_later m x xs e)))
       where
         pick : (t u : Bool) → t ≡ u → map f (without n xs) ≡ without c (map f xs)
             → map f (cond t (without n xs) (x ∷ without n xs)) ≡ cond u (without c (map f xs)) (f x ∷ without c (map f xs))

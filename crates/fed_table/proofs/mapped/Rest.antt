@@ -73,7 +73,8 @@ among_at n (suc k) (xs ∷ more) less h = by (has n xs) refl (among_at n k more)
     some : 1 ≤ times_in n more
     some = let a = times_some n (list_at more k) h in let b = times_within n k more in omega (arith, a, b)
 
-    by : (t : Bool) → has n xs ≡ t → (times_in n more ≤ 1 → has n (list_at more k) ≡ true → after_among more n ≡ after_in (list_at more k) n)
+    by : (t : Bool) → has n xs ≡ t → (times_in n more ≤ 1 → has n (list_at more k) ≡ true
+        → after_among more n ≡ after_in (list_at more k) n)
         → cond t (after_in xs n) (after_among more n) ≡ after_in (list_at more k) n
     by true is rest = absurd (let a = times_some n xs is in let b = some in omega (arith, a, b, less))
     by false is rest = rest (omega (arith, less)) h

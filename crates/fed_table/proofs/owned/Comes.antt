@@ -1,6 +1,7 @@
 -- A call comes, with a node that is used again or is new.
 use Rattle.std.proofs.Common.{◌≡◌, ℕ, zero, suc, Bool, true, false, nat_eq, List, [], ◌∷◌, ◌++◌, ◌+◌, ◌-◌, ◌<◌, ◌≤◌, Option, Some, None}
-use Rattle.std.proofs.Common.{refl, sym, ap, ◌∙◌, arith, cond, length, map, set, get_or, get_or-set_same, get_or-set_other, length-set, drop}
+use Rattle.std.proofs.Common.{refl, sym, ap, ◌∙◌, arith, cond, length, map, set, get_or, get_or-set_same, get_or-set_other, length-set}
+use Rattle.std.proofs.Common.{drop}
 use Rattle.std.proofs.Common.{is_some, eq-eqb}
 use Rattle.std.proofs.lemmas.Bool.Decides.{nat_tests}
 use Rattle.std.proofs.lemmas.Bool.{eqb-false, eqb-true}
@@ -76,7 +77,9 @@ module _ (owners free free' : List ℕ) (node call most : ℕ) (cells : length o
   used_node : node < length owners → free ≡ node ∷ free' → IsTaken owners (with_owner node call owners) free free' node most
   used_node lt is = record {
     below = omega (arith, lt);
-    cells = (let a = long in let b : length free ≡ 1 + length free' = ap length is ∙ (let e : suc (length free') ≡ 1 + length free' = omega arith in e)
+    cells =
+        (let a = long in let b : length free ≡ 1 + length free' =
+        ap length is ∙ (let e : suc (length free') ≡ 1 + length free' = omega arith in e)
         in omega (arith, a, b, cells));
     no_fewer = (let a = long in omega (arith, a));
     within = (let a = long in omega (arith, a, lt));
@@ -197,7 +200,8 @@ module _ {C : Type 0} (links added : LinkLists) {made : LinkLists} {owners owner
       owned = λ m h. owned_at m (nat_eq m node) refl (sym (at m) ∙ h);
       there = λ c m h. there_at c m (nat_eq call c) refl (sym (up c) ∙ h);
       cells = (let a = is_taken.cells in
-          let b : total added.pages ≡ total links.pages + 1 = ap total e ∙ total_last k node made.pages within ∙ ap (λ ls. total ls + 1) same_pages in
+          let b : total added.pages ≡ total links.pages + 1 =
+          ap total e ∙ total_last k node made.pages within ∙ ap (λ ls. total ls + 1) same_pages in
           let d = ap length named in
           omega (arith, a, b, d));
       within = λ m h. within_at m (nat_eq m node) refl (sym (at m) ∙ h);

@@ -11,7 +11,8 @@ use Rattle.fed_links.specs.Lists.{after_in, after_among}
 use Rattle.fed_table.specs.declared.place.CallPlace.{CallPlace}
 use Rattle.fed_table.specs.Table.{has_call, node_in, nodes_of}
 use Rattle.fed_table.specs.Kept.{owner, place_node, items_in, nodes_in, ChangesPlace, AreOwned, AreCallLists, calls_shown}
-use Rattle.fed_table.proofs.mapped.Maps.{stands_empty, total_empty, empty_one, stands_at, stands_without, list_at-map, total-map, map-last, first-map, IsOfAll, IsOfNone}
+use Rattle.fed_table.proofs.mapped.Maps.{stands_empty, total_empty, empty_one, stands_at, stands_without, list_at-map, total-map, map-last}
+use Rattle.fed_table.proofs.mapped.Maps.{first-map, IsOfAll, IsOfNone}
 use Rattle.fed_table.proofs.mapped.Maps.{maps-without, maps-none, stands-map, stands-none, among-map, among-none, back-map}
 use Rattle.fed_table.proofs.mapped.Times.{stands_times, times_stands, all_times-map, all_times-none, total-without}
 use Rattle.fed_table.proofs.mapped.Rest.{first_has, after_has}
@@ -243,7 +244,8 @@ module _ {C : Type 0} {links : LinkLists} {owners : List ℕ} {places : List (�
       let one = times_node n e in
       let all = total-without n links.pages in
       let pages = ap total a in
-      let free : length links'.free ≡ length links.free + 1 = ap length b ∙ (let s : suc (length links.free) ≡ length links.free + 1 = omega arith in s) in
+      let free : length links'.free ≡ length links.free + 1 =
+      ap length b ∙ (let s : suc (length links.free) ≡ length links.free + 1 = omega arith in s) in
       omega (arith, one, all, pages, free)
 
   node_for : (q : ℕ) (n : ℕ) → node_in (nodes_in places) q ≡ Some n → place_node places q ≡ Some n

@@ -88,7 +88,7 @@ bad-all xs ys bad is = split (whole_lines xs) refl (bad-over xs bad is)
 take_all : (limit : ℕ) (xs : List ℕ) → length xs ≤ limit → take limit xs ≡ xs
 take_all limit xs within = grind (arith, common_steps)
 
-take_front : (limit : ℕ) (xs ys : List ℕ) → length xs ≤ limit → take limit (xs ++ ys) ≡ xs ++ take (limit - length xs) ys
+pub take_front : (limit : ℕ) (xs ys : List ℕ) → length xs ≤ limit → take limit (xs ++ ys) ≡ xs ++ take (limit - length xs) ys
 take_front limit xs ys within = let e : limit ≡ length xs + (limit - length xs) = omega arith in
     subst (λ n. take n (xs ++ ys) ≡ xs ++ take (limit - length xs) ys) (sym e) (take-append-add xs ys (limit - length xs))
 
@@ -112,7 +112,7 @@ status-end limit bytes within good =
     step long front same short = rw (same, short, good) refl
 
 -- with a bad line within the limit
-status-bad : (limit : ℕ) (front more : List ℕ) (bad : ℕ × LineCause) → length front ≤ limit → (told_ended front).bad ≡ Some bad
+pub status-bad : (limit : ℕ) (front more : List ℕ) (bad : ℕ × LineCause) → length front ≤ limit → (told_ended front).bad ≡ Some bad
     → BadScript ≡ run_status limit (front ++ more)
 status-bad limit front more bad within is =
     let all = front ++ more in
@@ -172,7 +172,7 @@ ends_at_end left left' start taken taken' reader session status end so = record 
 }
 
 -- the text with a bad line
-text-bad : (front more : List ℕ) (bad : ℕ × LineCause) → (told_ended front).bad ≡ Some bad
+pub text-bad : (front more : List ℕ) (bad : ℕ × LineCause) → (told_ended front).bad ≡ Some bad
     → all_records (front ++ more) ≡ ended_records front ++ last_text 0 (Some bad)
 text-bad front more bad is =
     let t = told_ended front in

@@ -59,7 +59,8 @@ may_take (Some used) s None n event at follows = absurd at
 may_take None s trace n event at follows = absurd at
 
 -- an event more
-pub event_taken : (used : UsedState) (s s' : State) (T : Trace) (n : ℕ) (event : Event) → StandsAt used s T → Stands s' (with_event T n event)
+pub event_taken : (used : UsedState) (s s' : State) (T : Trace) (n : ℕ) (event : Event) → StandsAt used s T
+    → Stands s' (with_event T n event)
     → StandsAt (used_after event used) s' (with_event T n event)
 event_taken used s s' T n event at stands = record {
   stands = stands;

@@ -13,7 +13,8 @@ invariant-loop-value l = record {
   }
       ≡ record l.fn.sight {
         cookies =
-            with_writes l.fn.sight.cookies (cookies_from l.fn.sight.cookies.rules l.fn.url l.fn.sight.time (values set_cookie_name l.fn.head.fields));
+            with_writes l.fn.sight.cookies (cookies_from l.fn.sight.cookies.rules l.fn.url l.fn.sight.time
+            (values set_cookie_name l.fn.head.fields));
       };
   room : l.sight.cookies.entered + length (map (λ v. v.bytes) l.value-iterator) < 2 ^ 64;
 }

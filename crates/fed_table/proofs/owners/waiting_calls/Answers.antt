@@ -10,7 +10,8 @@ pub loop-next-init : goal.loop-next-init
 loop-next-init c = record {
   found = ap (λ calls. calls ++ map (owner c.args.owners.now.items) (rest_from c.first_waiting-next.result
       (list_at c.args.links.now.waits c.args.list))) c.new-calls.ensures
-      ∙ ap (λ o. map (owner c.args.owners.now.items) (rest_from o (list_at c.args.links.now.waits c.args.list))) c.first_waiting-next.ensures
+      ∙ ap (λ o. map (owner c.args.owners.now.items) (rest_from o (list_at c.args.links.now.waits c.args.list)))
+      c.first_waiting-next.ensures
       ∙ ap (map (owner c.args.owners.now.items)) (rest_first (list_at c.args.links.now.waits c.args.list));
   there = λ node is. first_has node (list_at c.args.links.now.waits c.args.list) (sym c.first_waiting-next.ensures ∙ is);
 }

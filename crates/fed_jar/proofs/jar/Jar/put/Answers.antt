@@ -12,7 +12,8 @@ invariant_of-self-2 c =
     let lists : Lists = lists_of (λ key. key.items) c.self.inside.parties.entries in
     subst (λ ls. AreLists ls c.after-self-inside.result) (sym c.in_ok-is_new.ensures.ok)
     (AreLists-put c.args.party.now new lists c.after-self-inside.result c.self.invariant
-    (subst (λ (j : JarParts). has_key c.args.cookie (cookies_in j) ≡ has_key c.args.cookie (cookies_of (kept_under c.args.party.now j.kept)))
+    (subst (λ (j : JarParts). has_key c.args.cookie (cookies_in j)
+    ≡ has_key c.args.cookie (cookies_of (kept_under c.args.party.now j.kept)))
     (sym c.self.view_is) c.requires.own)
     (c.after-self-inside.ensures ∙ ap (λ b. cond b (number + 1) number) c.in_ok-is_new.ensures.fresh))
 
@@ -23,7 +24,8 @@ returns-clause-ok c =
     let lists : Lists = lists_of (λ key. key.items) c.self.inside.parties.entries in
     ap (λ ls. jar_of ls c.after-self-inside.result) c.in_ok-is_new.ensures.ok
     ∙ jar_put c.args.party.now new lists c.after-self-inside.result c.self.invariant
-    (subst (λ (j : JarParts). has_key c.args.cookie (cookies_in j) ≡ has_key c.args.cookie (cookies_of (kept_under c.args.party.now j.kept)))
+    (subst (λ (j : JarParts). has_key c.args.cookie (cookies_in j)
+    ≡ has_key c.args.cookie (cookies_of (kept_under c.args.party.now j.kept)))
     (sym c.self.view_is) c.requires.own)
     (c.after-self-inside.ensures ∙ ap (λ b. cond b (number + 1) number) c.in_ok-is_new.ensures.fresh)
     ∙ ap (λ j. jar_after c.args.party.now j (Some c.args.cookie)) c.self.view_is

@@ -16,7 +16,8 @@ loop-left-init c =
     }
 
 pub under-requires : goal.under-requires
-under-requires c = ap has_rules c.loop-left.invariant.node ∙ has_rules-insert set.empty (drop c.loop-left.left c.args.labels.now, c.args.exception)
+under-requires c =
+    ap has_rules c.loop-left.invariant.node ∙ has_rules-insert set.empty (drop c.loop-left.left c.args.labels.now, c.args.exception)
 
 pub loop-left-preserved : goal.loop-left-preserved
 loop-left-preserved c =
@@ -26,7 +27,8 @@ loop-left-preserved c =
       node = c.in_ok-node.ensures (drop left c.args.labels.now) c.args.exception c.loop-left.invariant.node
           ∙ ap (λ label. set.insert set.empty (label ∷ drop left c.args.labels.now, c.args.exception)) c.as_slice.ensures
           ∙ ap (λ labels. set.insert set.empty (labels, c.args.exception))
-          (drop-before c.args.labels.now left _ c.index-labels-left.result (omega (arith, c.loop-left-test.true)) c.loop-left.invariant.within
+          (drop-before c.args.labels.now left _ c.index-labels-left.result (omega
+          (arith, c.loop-left-test.true)) c.loop-left.invariant.within
           c.index-labels-left.is);
     }
 

@@ -32,7 +32,8 @@ invariant_of-self g c =
     omega (arith, within, all, same))
     c.add-node.ensures.pages
     (ap (λ (l : CallLists g.row.C.Denot). has_call l.items c.args.call) c.self.view_is ∙ c.requires.call)
-    (subst (λ es. ChangesPlace c.args.call (Some (record { node = c.add-node.result; item = Some c.args.item })) es c.put.new.places.entries)
+    (subst (λ es. ChangesPlace c.args.call (Some (record { node = c.add-node.result; item = Some c.args.item })) es
+    c.put.new.places.entries)
     c.make_room.ensures.places c.put.ensures)
 
 pub returns-in-Ok-clause-pages : goal.returns-in-Ok-clause-pages

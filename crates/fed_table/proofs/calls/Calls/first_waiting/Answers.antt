@@ -13,6 +13,7 @@ index-requires g c =
 pub returns-in-Some : goal.returns-in-Some
 returns-in-Some g c =
     ap (λ (m : ℕ). Some m) (get_or_read c.self.inside.owners.items c.in-Some.node c.index.result.now
-    (first_waits_within c.self.invariant c.are_lists.ensures c.args.list c.in-Some.node (sym c.first_waiting.ensures ∙ c.in-Some.is)) c.index.ensures 0)
+    (first_waits_within c.self.invariant c.are_lists.ensures c.args.list c.in-Some.node
+    (sym c.first_waiting.ensures ∙ c.in-Some.is)) c.index.ensures 0)
     ∙ first_call c.self.inside.owners.items c.self.inside.links.waits c.args.list _ (sym c.in-Some.is ∙ c.first_waiting.ensures)
     ∙ ap (λ (l : CallLists g.row.C.Denot). first_of (list_at l.waits c.args.list)) c.self.view_is

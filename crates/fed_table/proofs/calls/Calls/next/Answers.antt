@@ -17,7 +17,8 @@ returns-in_err-next g c =
     ∙ ap (λ (l : CallLists g.row.C.Denot). after_among l.pages c.args.call) c.self.view_is
 
 pub index-requires : goal.index-requires
-index-requires g c = rw c.self.inside.owners.ok.0 (next_within c.self.invariant c.in_ok-node.node c.in_ok-next.next (sym c.in_ok-next.ensures))
+index-requires g c =
+    rw c.self.inside.owners.ok.0 (next_within c.self.invariant c.in_ok-node.node c.in_ok-next.next (sym c.in_ok-next.ensures))
 
 pub returns : goal.returns
 returns g c =

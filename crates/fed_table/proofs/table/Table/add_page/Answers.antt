@@ -28,7 +28,8 @@ returns-in-Some-clause-pages g c =
 
 pub returns-in-None-clause-pages : goal.returns-in-None-clause-pages
 returns-in-None-clause-pages g c =
-    page_comes c.enter_page.result c.self.inside.pages.keys c.enter_page.new.pages.keys c.self.inside.calls c.enter_page.new.calls c.args.page _
+    page_comes c.enter_page.result c.self.inside.pages.keys c.enter_page.new.pages.keys c.self.inside.calls c.enter_page.new.calls
+    c.args.page _
     c.self.invariant.page_lists (sym c.place_of.ensures.place ∙ c.in-None.is)
     (ap (λ (t : TableParts g.row.C.Denot). t.pages) c.self.view_is)
     c.enter_page.ensures.keys c.enter_page.ensures.pages

@@ -25,13 +25,17 @@ loop-call-init g c = record {
 
 pub loop-call-smaller : goal.loop-call-smaller
 loop-call-smaller g c =
-    let once = once_of (times_in c.in-Some-first_at.call c.loop-call.self.pages) _ (c.first_at.ensures.lists.standing c.in-Some-first_at.call) in
-    let less = length_is (nat_eq c.args.page) c.in-Some-first_at.call c.loop-call.self.pages once (sym c.first_at.ensures.value ∙ c.in-Some-first_at.is) in
+    let once =
+    once_of (times_in c.in-Some-first_at.call c.loop-call.self.pages) _ (c.first_at.ensures.lists.standing c.in-Some-first_at.call) in
+    let less =
+    length_is (nat_eq c.args.page) c.in-Some-first_at.call c.loop-call.self.pages once (sym c.first_at.ensures.value
+    ∙ c.in-Some-first_at.is) in
     rw c.drop_call.ensures.pages (omega (arith, less))
 
 pub loop-call-preserved : goal.loop-call-preserved
 loop-call-preserved g c =
-    let once = once_of (times_in c.in-Some-first_at.call c.loop-call.self.pages) _ (c.first_at.ensures.lists.standing c.in-Some-first_at.call) in
+    let once =
+    once_of (times_in c.in-Some-first_at.call c.loop-call.self.pages) _ (c.first_at.ensures.lists.standing c.in-Some-first_at.call) in
     let first = sym c.first_at.ensures.value ∙ c.in-Some-first_at.is in
     let less = length_is (nat_eq c.args.page) c.in-Some-first_at.call c.loop-call.self.pages once first in
     record {
@@ -84,23 +88,28 @@ pub returns-clause-steps : goal.returns-clause-steps
 returns-clause-steps g c = let before = c.loop-call.invariant.steps in omega (arith, before)
 
 pub returns-in_default-clause-count : goal.returns-in_default-clause-count
-returns-in_default-clause-count g c = ap length (sym (ap (λ (t : TableParts g.row.C.Denot). page_calls t.pages c.args.page) (sym c.self.view_is)
+returns-in_default-clause-count g c =
+    ap length (sym (ap (λ (t : TableParts g.row.C.Denot). page_calls t.pages c.args.page) (sym c.self.view_is)
     ∙ ap (λ o. unwrap_or o []) (no_place nat_eq c.args.page c.self.inside.pages.keys c.self.inside.calls.pages c.self.invariant.page_lists
     (sym c.place_of.ensures.place ∙ c.in_default.is))))
 
 pub returns-in_default-clause-pages : goal.returns-in_default-clause-pages
-returns-in_default-clause-pages g c = emptied_none (nat_eq c.args.page) c.args.self.now.pages (ap (λ (t : TableParts g.row.C.Denot). page_calls t.pages c.args.page) (sym c.self.view_is)
+returns-in_default-clause-pages g c =
+    emptied_none (nat_eq c.args.page) c.args.self.now.pages
+    (ap (λ (t : TableParts g.row.C.Denot). page_calls t.pages c.args.page) (sym c.self.view_is)
     ∙ ap (λ o. unwrap_or o []) (no_place nat_eq c.args.page c.self.inside.pages.keys c.self.inside.calls.pages c.self.invariant.page_lists
     (sym c.place_of.ensures.place ∙ c.in_default.is)))
 
 pub returns-in_default-clause-waits : goal.returns-in_default-clause-waits
 returns-in_default-clause-waits g c =
-    nothing_left c.args.self.now.waits ∙ ap (λ xs. all_without_calls xs c.args.self.now.waits) (sym (ap (λ (t : TableParts g.row.C.Denot). page_calls t.pages c.args.page) (sym c.self.view_is)
+    nothing_left c.args.self.now.waits ∙ ap (λ xs. all_without_calls xs c.args.self.now.waits) (sym
+    (ap (λ (t : TableParts g.row.C.Denot). page_calls t.pages c.args.page) (sym c.self.view_is)
     ∙ ap (λ o. unwrap_or o []) (no_place nat_eq c.args.page c.self.inside.pages.keys c.self.inside.calls.pages c.self.invariant.page_lists
     (sym c.place_of.ensures.place ∙ c.in_default.is))))
 
 pub returns-in_default-clause-items : goal.returns-in_default-clause-items
 returns-in_default-clause-items g c =
-    λ q. ap (λ xs. cond (has q xs) None (item_of c.args.self.now.items q)) (sym (ap (λ (t : TableParts g.row.C.Denot). page_calls t.pages c.args.page) (sym c.self.view_is)
+    λ q. ap (λ xs. cond (has q xs) None (item_of c.args.self.now.items q))
+    (sym (ap (λ (t : TableParts g.row.C.Denot). page_calls t.pages c.args.page) (sym c.self.view_is)
     ∙ ap (λ o. unwrap_or o []) (no_place nat_eq c.args.page c.self.inside.pages.keys c.self.inside.calls.pages c.self.invariant.page_lists
     (sym c.place_of.ensures.place ∙ c.in_default.is))))

@@ -44,7 +44,8 @@ returns-in-Some-clause-waits g c =
 
 pub returns-in_ok-list-in-None-clause-waits : goal.returns-in_ok-list-in-None-clause-waits
 returns-in_ok-list-in-None-clause-waits g c =
-    (λ i. keyed (c.in_ok-list-in-None.ensures.keys i) ((c.wait-in-None.ensures.waits ∙ ap (links.with_last c.in_ok-list-in-None.list c.args.call)
+    (λ i. keyed (c.in_ok-list-in-None.ensures.keys
+    i) ((c.wait-in-None.ensures.waits ∙ ap (links.with_last c.in_ok-list-in-None.list c.args.call)
     c.in_ok-list-in-None.ensures.waits) i))
     ∙ last_new same_origin c.args.origin.now c.self.inside.origins.keys c.self.inside.calls.waits c.self.invariant.origin_lists c.args.call
     c.in_ok-list-in-None.list (sym c.place_of.ensures.place ∙ c.in-None.is) c.in_ok-list-in-None.ensures.list

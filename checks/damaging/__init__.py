@@ -1,0 +1,1 @@
+"""Damaged scripts, and what the program may say of them."""
