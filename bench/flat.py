@@ -109,7 +109,7 @@ def measured(header, events, folder):
         for event in events:
             script.write(event)
             count += 1
-    runs = max(5, min(50, 50_000 // count))
+    runs = max(7, min(300, 300_000 // count))
     return count, *((both - first) / count for both, first in zip(costs(whole, runs), costs(alone, runs)))
 
 
