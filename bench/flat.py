@@ -13,7 +13,7 @@ import sys
 import tempfile
 
 from lines import ENDPOINTS, HEADER, compact, line, raw_reply, reply
-from measure import instructions, run
+from measure import instructions, run, write
 
 LOST = "HTTP/1.1 404 Not Found\r\nContent-Type: application/json\r\n\r\n{}"
 PROVIDERS = 50
@@ -89,7 +89,12 @@ def plain_header(_):
     return HEADER
 
 
-SHAPES = [("gets", plain_header, gets), ("windows", plain_header, windows), ("cookies", plain_header, cookies), ("suffixes", rules, suffixes)]
+SHAPES = [
+    ("gets", plain_header, gets),
+    ("windows", plain_header, windows),
+    ("cookies", plain_header, cookies),
+    ("suffixes", rules, suffixes),
+]
 
 
 def costs(path, runs):
@@ -101,14 +106,8 @@ def costs(path, runs):
 def measured(header, events, folder):
     """Events, and what each takes beside the header."""
     alone, whole = os.path.join(folder, "header.jsonl"), os.path.join(folder, "script.jsonl")
-    with open(alone, "w") as script:
-        script.write(header)
-    count = 0
-    with open(whole, "w") as script:
-        script.write(header)
-        for event in events:
-            script.write(event)
-            count += 1
+    write(alone, header, [])
+    count = write(whole, header, events)
     runs = max(7, min(300, 300_000 // count))
     return count, *((both - first) / count for both, first in zip(costs(whole, runs), costs(alone, runs)))
 

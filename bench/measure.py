@@ -96,16 +96,22 @@ class Measured(NamedTuple):
     instructions: float
 
 
+def write(path, header, events):
+    """Writes the script of this header and these lines of events, which may come one after another, and tells how many there are."""
+    count = 0
+    with open(path, "w") as script:
+        script.write(header)
+        for event in events:
+            script.write(event)
+            count += 1
+    return count
+
+
 def measured(header, events):
-    """The run over the script of this header and these lines of events, which may come one after another."""
+    """The run over the script of this header and these lines of events."""
     with tempfile.TemporaryDirectory() as folder:
         path = os.path.join(folder, "script.jsonl")
-        count = 0
-        with open(path, "w") as script:
-            script.write(header)
-            for event in events:
-                script.write(event)
-                count += 1
+        count = write(path, header, events)
         return Measured(count, os.path.getsize(path) / 1e6, *run(path), instructions(path))
 
 
