@@ -1,6 +1,7 @@
 //! The beginning of a call.
-ghost use Rattle.std.specs.Prelude.{◌≡◌, [], ◌∷◌, Some, IfOk, IfSome, length};
+ghost use Rattle.std.specs.Prelude.{◌≡◌, [], ◌∷◌, Some, false, IfOk, IfSome, IsTrue, length};
 ghost use Rattle.fed_origin.specs.WebUrl.{origin_of, scheme_of};
+ghost use Rattle.fed_provider.specs.WellKnown.{WellKnownUrlOf};
 ghost use Rattle.fed_status.specs.Flags.{has_flag};
 ghost use Rattle.fed_status.specs.Login.{status_of};
 ghost use Rattle.fed_status.specs.Shared.{world_of};
@@ -13,8 +14,9 @@ use fed_io::{Fault, Items, NoRoom};
 use fed_origin::{
     GetOptions, LoginStatus, Mediation, Mode, Origin, ProviderOptions, Scheme, WebUrl,
 };
-use fed_provider::wellknown_url;
+use fed_provider::{ProviderStep, wellknown_url};
 use fed_status::{LoginMap, Shared, SilentFlags};
+use fed_suffix::Suffixes;
 use std::alloc::Global;
 
 /// The origin of the only provider.
@@ -33,36 +35,58 @@ fn only_provider(options: &GetOptions) -> &ProviderOptions
     &options.providers.as_slice()[ONLY_PLACE as usize]
 }
 
-/// The first requests of a call of a page of the first origin to its only provider, which is of the second origin, or the step
-/// at which the call fails.
+/// Whether the configuration URL of the only provider is https (else row C2).
+pub fn is_secure(options: &GetOptions) -> bool
+    requires { length options.now.providers ≡ 1 }
+    ensures yes { IsTrue result → IfSome (provider_at only_place options.now) (λ p. scheme_of p.config ≡ Scheme.Https) }
+    ensures no { result ≡ false → IfSome (provider_at only_place options.now) (λ p. scheme_of p.config ≡ Scheme.Http) }
+{
+    only_provider(options).config.scheme() == Scheme::Https
+}
+
+/// The well-known URL of the only provider, whose configuration URL is https, or the step where it has no site.
+pub fn only_wellknown(
+    alloc: Global,
+    rules: &Suffixes,
+    options: &GetOptions,
+) -> Result<Result<WebUrl, ProviderStep>, NoRoom>
+    requires one { length options.now.providers ≡ 1 }
+    requires secure { IfSome (provider_at only_place options.now) (λ p. scheme_of p.config ≡ Scheme.Https) }
+    ensures { IfOk result (λ url. IfSome (provider_at only_place options.now) (λ p. url ≡ WellKnownUrlOf rules.now p.config)) }
+{
+    match wellknown_url(alloc, rules, &only_provider(options).config) {
+        Ok(url) => Ok(Ok(url)),
+        Err(Fault::Step(step)) => Ok(Err(step)),
+        Err(Fault::NoRoom) => Err(NoRoom),
+    }
+}
+
+/// The first requests of a call of a page of the first origin to its only provider, which is of the second origin and has this
+/// well-known URL, or the step at which the call fails.
 pub fn first_requests(
     alloc: Global,
     origin: &Origin,
     options: &GetOptions,
     provider: &Origin,
+    wellknown: Result<WebUrl, ProviderStep>,
     shared: &Shared<'_>,
 ) -> Result<Result<Items<Effect>, FailStep>, NoRoom>
     requires one { length options.now.providers ≡ 1 }
     requires its { IfSome (provider_at only_place options.now) (λ p. provider.now ≡ origin_of p.config) }
+    requires secure { IfSome (provider_at only_place options.now) (λ p. scheme_of p.config ≡ Scheme.Https) }
+    requires known { IfSome (provider_at only_place options.now)
+        (λ p. wellknown ≡ WellKnownUrlOf (world_of shared.now).rules p.config) }
     ensures value { IfOk result (λ first. spec.first_outcome first
         ≡ spec.start_at (world_of shared.now) origin.now options.now only_place (provider_at only_place options.now)) }
-    ensures secure { IfOk result (λ first. IfOk first (λ _. IfSome (provider_at only_place options.now)
-        (λ p. scheme_of p.config ≡ Scheme.Https))) }
 {
-    let config = &only_provider(options).config;
-    // Row C2.
-    if config.scheme() == Scheme::Http {
-        return Ok(Err(FailStep::ConfigScheme));
-    }
     // Row C3.
     if lacks_activation(options.mode, options.activation) {
         return Ok(Err(FailStep::NoActivation));
     }
     // Row C4.
-    let wellknown = match wellknown_url(alloc, shared.rules, config) {
+    let wellknown = match wellknown {
         Ok(url) => url,
-        Err(Fault::Step(_)) => return Ok(Err(FailStep::NoSite)),
-        Err(Fault::NoRoom) => return Err(NoRoom),
+        Err(_) => return Ok(Err(FailStep::NoSite)),
     };
     // Row C5.
     if is_prevented(options.mediation, shared.flags, origin) {
@@ -73,7 +97,8 @@ pub fn first_requests(
         return Ok(Err(FailStep::LoggedOut));
     }
     // Row C7.
-    Ok(Ok(requests(alloc, wellknown, config)?))
+    let requests = requests(alloc, wellknown, &only_provider(options).config)?;
+    Ok(Ok(requests))
 }
 
 // Whether the call is active and the user did nothing at the page.

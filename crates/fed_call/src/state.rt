@@ -1,21 +1,23 @@
 //! The states of a call.
-ghost use Rattle.std.specs.Prelude.{◌≡◌, IfOk, Some, length, option_map};
+ghost use Rattle.std.specs.Prelude.{◌≡◌, IfOk, IfSome, Some, length, option_map};
 ghost use Rattle.std.specs.Option.{option_copied};
+ghost use Rattle.fed_origin.specs.WebUrl.{scheme_of};
+ghost use Rattle.fed_provider.specs.WellKnown.{WellKnownUrlOf};
 ghost use Rattle.fed_status.specs.Shared.{world_of};
-ghost use Rattle.fed_call.specs.Facts.{started, stage_of, next_facts};
-ghost use Rattle.fed_consent.specs.Outcomes.{ignored};
+ghost use Rattle.fed_call.specs.Facts.{provider_at, started, stage_of, next_facts};
+ghost use Rattle.fed_consent.specs.Outcomes.{ignored, only_place};
 ghost use Rattle.fed_call.specs.Row.{start_row, call_row, declined, kept_declined};
 ghost use Rattle.fed_call.specs.State.{facts_of};
 ghost use Rattle.fed_call.specs.WindowRows.{awaited_by};
 
 use crate::begun::Call;
 use crate::effects::fails;
-use crate::start::{first_requests, provider_origin};
+use crate::start::{first_requests, is_secure, only_wellknown, provider_origin};
 use crate::{Asserting, Choosing, Listing, Mismatch, Prompting, Reading, Window};
 use fed_consent::{Effect, FailStep, Failure, Input, Why};
 use fed_io::{Items, NoRoom};
-use fed_origin::{GetOptions, Origin, Stage};
-use fed_provider::FirstReplies;
+use fed_origin::{GetOptions, Origin, Scheme, Stage, WebUrl};
+use fed_provider::{FirstReplies, ProviderStep};
 use fed_status::Shared;
 use std::alloc::Global;
 
@@ -69,8 +71,36 @@ impl CallState {
             ≡ started call page origin options (start_row (world_of shared.now) origin options)) }
         ensures stage { IfOk result (λ r. Some (stage_of (facts_of r.0)) ≡ (start_row (world_of shared.now) origin options).stage) }
     {
+        // Row C2.
+        if !is_secure(&options) {
+            return fails(alloc, Failure::plain(FailStep::ConfigScheme));
+        }
+        let wellknown = only_wellknown(alloc, shared.rules, &options)?;
+        CallState::start_with(alloc, call, page, origin, options, wellknown, shared)
+    }
+
+    /// The same for a call whose configuration URL is https, where its well-known URL is known: it is not made anew. `wellknown` is
+    /// what `wellknown_url` of fed_provider answers.
+    pub fn start_with(
+        alloc: Global,
+        call: u32,
+        page: u32,
+        origin: Origin,
+        options: GetOptions,
+        wellknown: Result<WebUrl, ProviderStep>,
+        shared: &Shared<'_>,
+    ) -> Result<(CallState, Items<Effect>), NoRoom>
+        requires one { length options.providers ≡ 1 }
+        requires secure { IfSome (provider_at only_place options) (λ p. scheme_of p.config ≡ Scheme.Https) }
+        requires known { IfSome (provider_at only_place options)
+            (λ p. wellknown ≡ WellKnownUrlOf (world_of shared.now).rules p.config) }
+        ensures effects { IfOk result (λ r. r.1 ≡ (start_row (world_of shared.now) origin options).effects) }
+        ensures state { IfOk result (λ r. facts_of r.0
+            ≡ started call page origin options (start_row (world_of shared.now) origin options)) }
+        ensures stage { IfOk result (λ r. Some (stage_of (facts_of r.0)) ≡ (start_row (world_of shared.now) origin options).stage) }
+    {
         let provider = provider_origin(alloc, &options)?;
-        match first_requests(alloc, &origin, &options, &provider, shared)? {
+        match first_requests(alloc, &origin, &options, &provider, wellknown, shared)? {
             Ok(effects) => {
                 let state = Reading {
                     begun: Call::new(call, page, origin, options, provider),

@@ -1,6 +1,7 @@
 //! What a disconnect call began with.
 ghost use Rattle.std.specs.Prelude.{◌≡◌, [], ◌∷◌, IfOk};
 ghost use Rattle.fed_origin.specs.WebUrl.{scheme_of};
+ghost use Rattle.fed_provider.specs.WellKnown.{WellKnownUrlOf};
 ghost use Rattle.fed_status.specs.Shared.{world_of};
 ghost use Rattle.fed_consent.specs.Outcomes.{only_place};
 ghost use Rattle.fed_disconnect.specs.Facts.{disconnect_options, fresh};
@@ -9,8 +10,9 @@ ghost use Rattle.fed_disconnect.specs.Rows as spec;
 use fed_consent::{Ask, Effect, FailStep, ONLY_PLACE};
 use fed_io::{Fault, Items, NoRoom, Text};
 use fed_origin::{Origin, Scheme, WebUrl};
-use fed_provider::wellknown_url;
+use fed_provider::{ProviderStep, wellknown_url};
 use fed_status::Shared;
+use fed_suffix::Suffixes;
 use std::alloc::Global;
 use std::marker::Model;
 
@@ -85,24 +87,42 @@ impl Begun {
         })
     }
 
-    /// The first requests of the call, or the step at which it fails.
+    /// The first requests of the call, whose well-known URL is this one, or the step at which it fails.
     pub fn first_requests(
         &self,
         alloc: Global,
+        wellknown: Result<WebUrl, ProviderStep>,
         shared: &Shared<'_>,
     ) -> Result<Result<Items<Effect>, FailStep>, NoRoom>
+        requires secure { scheme_of self.now.options.config ≡ Scheme.Https }
+        requires known { wellknown ≡ WellKnownUrlOf (world_of shared.now).rules self.now.options.config }
         ensures { IfOk result (λ first. spec.first_outcome first
             ≡ spec.disconnect_start_row (world_of shared.now) self.now.origin self.now.options) }
     {
-        let wellknown = match wellknown_url(alloc, shared.rules, &self.config) {
+        let wellknown = match wellknown {
             Ok(url) => url,
-            Err(Fault::Step(_)) => return Ok(Err(FailStep::NoSite)),
-            Err(Fault::NoRoom) => return Err(NoRoom),
+            Err(_) => return Ok(Err(FailStep::NoSite)),
         };
         if !shared.kept.has_pair(&self.origin, &self.provider) {
             return Ok(Err(FailStep::NotConnected));
         }
         Ok(Ok(requests(alloc, wellknown, &self.config)?))
+    }
+}
+
+/// The well-known URL of a configuration URL that is https, or the step where it has no site.
+pub(crate) fn wellknown_of(
+    alloc: Global,
+    rules: &Suffixes,
+    config: &WebUrl,
+) -> Result<Result<WebUrl, ProviderStep>, NoRoom>
+    requires { scheme_of config.now ≡ Scheme.Https }
+    ensures { IfOk result (λ url. url ≡ WellKnownUrlOf rules.now config.now) }
+{
+    match wellknown_url(alloc, rules, config) {
+        Ok(url) => Ok(Ok(url)),
+        Err(Fault::Step(step)) => Ok(Err(step)),
+        Err(Fault::NoRoom) => Err(NoRoom),
     }
 }
 

@@ -1,17 +1,19 @@
 //! The states of a disconnect call.
 ghost use Rattle.std.specs.Prelude.{◌≡◌, IfOk, Some, option_map};
+ghost use Rattle.fed_origin.specs.WebUrl.{scheme_of};
+ghost use Rattle.fed_provider.specs.WellKnown.{WellKnownUrlOf};
 ghost use Rattle.fed_status.specs.Shared.{world_of};
 ghost use Rattle.fed_disconnect.specs.Facts.{disconnect_options, disconnect_stage, disconnect_started, next_disconnect_facts};
 ghost use Rattle.fed_disconnect.specs.Rows.{disconnect_row, disconnect_start_row};
 ghost use Rattle.fed_disconnect.specs.State.{disconnect_facts_of};
 
-use crate::begun::Begun;
+use crate::begun::{Begun, wellknown_of};
 use crate::effects::{fails, not_taken};
 use crate::{DReading, DSending};
 use fed_consent::{Effect, FailStep, Failure, Input, Why};
 use fed_io::{Items, NoRoom, Text};
 use fed_origin::{Origin, Scheme, Stage, WebUrl};
-use fed_provider::FirstReplies;
+use fed_provider::{FirstReplies, ProviderStep};
 use fed_status::Shared;
 use std::alloc::Global;
 
@@ -63,8 +65,36 @@ impl DState {
         if config.scheme() == Scheme::Http {
             return fails(alloc, Failure::plain(FailStep::ConfigScheme));
         }
+        let wellknown = wellknown_of(alloc, shared.rules, &config)?;
+        DState::start_with(
+            alloc, call, page, origin, config, client, hint, wellknown, shared,
+        )
+    }
+
+    /// The same for a call whose configuration URL is https, where its well-known URL is known: it is not made anew. `wellknown` is
+    /// what `wellknown_url` of fed_provider answers.
+    pub fn start_with(
+        alloc: Global,
+        call: u32,
+        page: u32,
+        origin: Origin,
+        config: WebUrl,
+        client: Text,
+        hint: Text,
+        wellknown: Result<WebUrl, ProviderStep>,
+        shared: &Shared<'_>,
+    ) -> Result<(DState, Items<Effect>), NoRoom>
+        requires secure { scheme_of config ≡ Scheme.Https }
+        requires known { wellknown ≡ WellKnownUrlOf (world_of shared.now).rules config }
+        ensures effects { IfOk result (λ r. r.1 ≡ (disconnect_start_row (world_of shared.now) origin
+            (disconnect_options config client hint)).effects) }
+        ensures state { IfOk result (λ r. disconnect_facts_of r.0 ≡ disconnect_started call page origin (disconnect_options config client
+            hint) (disconnect_start_row (world_of shared.now) origin (disconnect_options config client hint))) }
+        ensures stage { IfOk result (λ r. Some (disconnect_stage (disconnect_facts_of r.0))
+            ≡ (disconnect_start_row (world_of shared.now) origin (disconnect_options config client hint)).stage) }
+    {
         let begun = Begun::new(alloc, call, page, origin, config, client, hint)?;
-        match begun.first_requests(alloc, shared)? {
+        match begun.first_requests(alloc, wellknown, shared)? {
             Ok(effects) => {
                 let replies = FirstReplies::none();
                 Ok((DState::DReading(DReading { begun, replies }), effects))

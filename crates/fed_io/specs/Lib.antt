@@ -4,3 +4,4 @@ pub mod Io
 pub mod Memory
 pub mod Quiet
 pub mod Trim
+pub mod Text

@@ -9,23 +9,36 @@ ghost use Rattle.std.specs.Cmp.Lexicographic.{slice_cmp, nat_list_eq_equiv, nat_
 ghost use Rattle.std.specs.Cmp.Rules.{hashing};
 
 use crate::{Items, NoRoom};
+use arrayvec::ArrayString;
 use std::alloc::Global;
 use std::cmp::Ordering;
 use std::hash::{Hash, Hasher};
 use std::marker::Model;
 
-/// A text. Contracts see it as its bytes; equality, order and hash are by these.
+// The bytes of a text that stands in the value itself: names of hosts, ids and hints are mostly no longer, and each piece of memory
+// takes some 180 instructions.
+const SHORT: usize = 24;
+
+// Where the bytes of a text stand.
+#[derive(Drop)]
+enum Place {
+    Here(ArrayString<SHORT>),
+    There(String),
+}
+
+/// A text. Contracts see it as its bytes; equality, order and hash are by these. One of at most 24 bytes takes no memory of its own.
 #[derive(Drop)]
 pub struct Text {
-    inner: String,
+    place: Place,
 }
 
 impl Model for Text {
-    ghost use Rattle.std.specs.Prelude.{List, ℕ, string_bytes};
+    ghost use Rattle.std.specs.Prelude.{List, ℕ};
+    ghost use Rattle.fed_io.specs.Text.{bytes_at};
 
     ghost Value = { List ℕ };
 
-    ghost view = { λ t. string_bytes t.inner };
+    ghost view = { λ t. bytes_at t.place };
 }
 
 impl Text {
@@ -33,23 +46,32 @@ impl Text {
     pub fn of(alloc: Global, s: &str) -> Result<Text, NoRoom>
         ensures { IfOk result (λ text. text ≡ s.now) }
     {
-        Ok(Text {
-            inner: String::from_str(alloc, s)?,
-        })
+        let place = match ArrayString::from(s) {
+            Ok(here) => Place::Here(here),
+            Err(_) => Place::There(String::from_str(alloc, s)?),
+        };
+        Ok(Text { place })
     }
 
     /// The text.
     pub fn as_str(&self) -> &str
         ensures { result.now ≡ self.now }
     {
-        self.inner.as_str()
+        match &self.place {
+            Place::Here(here) => here.as_str(),
+            Place::There(there) => there.as_str(),
+        }
     }
 
     /// A text equal to this one.
     pub fn copy(&self, alloc: Global) -> Result<Text, NoRoom>
         ensures { IfOk result (λ text. text ≡ self.now) }
     {
-        Text::of(alloc, self.as_str())
+        let place = match &self.place {
+            Place::Here(here) => Place::Here(*here),
+            Place::There(there) => Place::There(String::from_str(alloc, there.as_str())?),
+        };
+        Ok(Text { place })
     }
 }
 

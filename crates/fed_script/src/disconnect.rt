@@ -4,14 +4,19 @@ ghost use Rattle.fed_io.specs.Fault.{Answers};
 ghost use Rattle.fed_script.specs.Disconnect as spec;
 
 use crate::cause::{LineCause, MemberName};
+use crate::config::LastConfig;
 use crate::event::Event;
-use crate::member::{number, text, web_url};
+use crate::member::{number, text};
 use fed_io::{Fault, Text};
 use fed_json::Part;
 use std::alloc::Global;
 
-/// The disconnect call that a line names.
-pub(crate) fn disconnect(alloc: Global, d: &Part<'_, '_>) -> Result<Event, Fault<LineCause>>
+/// The disconnect call that a line names; `last` is the configuration URL before it.
+pub(crate) fn disconnect(
+    alloc: Global,
+    last: &mut LastConfig,
+    d: &Part<'_, '_>,
+) -> Result<Event, Fault<LineCause>>
     ensures { Answers result (spec.disconnect_of (data_at d.now)) }
 {
     let page = number(d, MemberName::Page).map_err(Fault::Step)?;
@@ -22,7 +27,7 @@ pub(crate) fn disconnect(alloc: Global, d: &Part<'_, '_>) -> Result<Event, Fault
     Ok(Event::Disconnect {
         page,
         call,
-        config: web_url(alloc, config)?,
+        config: last.read(alloc, config)?,
         client: Text::of(alloc, client)?,
         hint: Text::of(alloc, hint)?,
     })

@@ -8,8 +8,9 @@ ghost use Rattle.fed_script.specs.Member.{required};
 ghost use Rattle.fed_script.specs.declared.cause.MemberName.TheVariants as names;
 
 use crate::cause::{LineCause, MemberName};
+use crate::config::LastConfig;
 use crate::event::Event;
-use crate::member::{member, number, optional_text, text, web_url};
+use crate::member::{member, number, optional_text, text};
 use crate::options::{OptionMembers, option_members};
 use fed_io::{Fault, Items, NoRoom, Text, text_of};
 use fed_json::Part;
@@ -126,14 +127,18 @@ fn options_of(
     })
 }
 
-/// The get that a line names.
-pub(crate) fn get(alloc: Global, d: &Part<'_, '_>) -> Result<Event, Fault<LineCause>>
+/// The get that a line names; `last` is the configuration URL before it.
+pub(crate) fn get(
+    alloc: Global,
+    last: &mut LastConfig,
+    d: &Part<'_, '_>,
+) -> Result<Event, Fault<LineCause>>
     ensures { Answers result (spec.get_of (data_at d.now)) }
 {
     match get_members(d) {
         Err(cause) => Err(Fault::Step(cause)),
         Ok(members) => {
-            let config = web_url(alloc, members.provider.config)?;
+            let config = last.read(alloc, members.provider.config)?;
             let provider = provider_of(alloc, config, &members.provider)?;
             Ok(Event::Get {
                 page: members.page,

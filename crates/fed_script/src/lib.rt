@@ -4,6 +4,7 @@
 mod bytes;
 mod cause;
 mod choose;
+mod config;
 mod disconnect;
 mod event;
 mod get;

@@ -9,6 +9,7 @@ ghost use Rattle.std.specs.Result.{result_map_both};
 
 use crate::cause::{LineCause, MemberName};
 use crate::choose::choose;
+use crate::config::LastConfig;
 use crate::disconnect::disconnect;
 use crate::event::Event;
 use crate::get::get;
@@ -40,7 +41,12 @@ fn kind_of<'a>(d: &Part<'_, 'a>) -> Result<&'a str, LineCause>
 }
 
 // The event of a line of this kind.
-fn event_of_kind(alloc: Global, kind: &str, d: &Part<'_, '_>) -> Result<Event, Fault<LineCause>>
+fn event_of_kind(
+    alloc: Global,
+    last: &mut LastConfig,
+    kind: &str,
+    d: &Part<'_, '_>,
+) -> Result<Event, Fault<LineCause>>
     ensures { Answers result (spec.event_of_kind kind.now (data_at d.now)) }
 {
     match kind {
@@ -48,7 +54,7 @@ fn event_of_kind(alloc: Global, kind: &str, d: &Part<'_, '_>) -> Result<Event, F
         "at" => at(d).map_err(Fault::Step),
         "load" => load(alloc, d),
         "closepage" => close_page(d).map_err(Fault::Step),
-        "get" => get(alloc, d),
+        "get" => get(alloc, last, d),
         "abort" => abort(d).map_err(Fault::Step),
         "continue" => go_on(d).map_err(Fault::Step),
         "cancel" => cancel(d).map_err(Fault::Step),
@@ -59,15 +65,16 @@ fn event_of_kind(alloc: Global, kind: &str, d: &Part<'_, '_>) -> Result<Event, F
         "idpclose" => idp_close(d).map_err(Fault::Step),
         "prevent" => prevent(d).map_err(Fault::Step),
         "setstatus" => set_status(d).map_err(Fault::Step),
-        "disconnect" => disconnect(alloc, d),
+        "disconnect" => disconnect(alloc, last, d),
         _ => Err(Fault::Step(LineCause::NoKind)),
     }
 }
 
-/// The event that a line names, before the lines before it are looked at.
+/// The event that a line names, before the lines before it are looked at; `last` is the configuration URL before it.
 pub(crate) fn event_named(
     alloc: Global,
     scratch: &mut Scratch,
+    last: &mut LastConfig,
     line: &[u8],
 ) -> Result<Event, Fault<LineCause>>
     ensures { Answers result (spec.event_named line.now) }
@@ -75,7 +82,7 @@ pub(crate) fn event_named(
     let tape = tape_of(alloc, scratch, line)?;
     let d = Part::of(&tape);
     match kind_of(&d) {
-        Ok(kind) => event_of_kind(alloc, kind, &d),
+        Ok(kind) => event_of_kind(alloc, last, kind, &d),
         Err(cause) => Err(Fault::Step(cause)),
     }
 }

@@ -6,6 +6,7 @@ ghost use Rattle.fed_script.specs.Used as spec;
 ghost use Rattle.fed_script.specs.Used.{unused, used_after, is_used, is_late, is_back, IsUnused};
 
 use crate::cause::LineCause;
+use crate::config::LastConfig;
 use crate::event::Event;
 use crate::line::event_named;
 use fed_io::{Fault, NoRoom};
@@ -22,8 +23,9 @@ pub struct Used {
     started: bool,
     events: u32,
     time: u64,
-    // The memory in which lines are read, kept from one to the next.
+    // The memory in which lines are read, and what was read last, kept from one line to the next.
     scratch: Scratch,
+    config: LastConfig,
 }
 
 impl Model for Used {
@@ -45,6 +47,7 @@ impl Used {
             events: 0,
             time,
             scratch: Scratch::new(alloc),
+            config: LastConfig::none(),
         }
     }
 
@@ -101,7 +104,7 @@ impl Used {
         ensures answer { Answers result (event_named line.now) }
         ensures same { self.new ≡ self.old }
     {
-        event_named(alloc, &mut self.scratch, line)
+        event_named(alloc, &mut self.scratch, &mut self.config, line)
     }
 
     /// Counts an event, its call's number as used, and the time that it names. On NoRoom nothing changes.

@@ -7,14 +7,15 @@ ghost use Rattle.fed_trace.specs.Begun.{is_get};
 ghost use Rattle.fed_trace.specs.Call.{Known, OfGet, OfDisconnect, kind_of, page_of};
 ghost use Rattle.fed_session.specs.StepParts.{known_of, awaited_in, stage_in, outcome_at, kept_next};
 
-use fed_call::CallState;
+use fed_call::{CallState, Ended};
 use fed_consent::{Effect, Input};
-use fed_disconnect::DState;
+use fed_disconnect::{DEnded, DState};
 use fed_io::{Items, NoRoom};
 use fed_origin::{Origin, Stage};
 use fed_status::Shared;
 use std::alloc::Global;
 use std::marker::Model;
+use std::mem;
 
 /// The state of a call that is pending, by its kind, in a place of its own.
 #[derive(Drop)]
@@ -51,13 +52,15 @@ impl Pending {
         ensures kept { IfOk result (λ r. r.0 ≡ kept_next (world_of shared.now) (known_of self) input.now) }
     {
         match self {
-            Pending::Get(state) => {
-                let (state, effects) = Box::into_inner(state).advance(alloc, input, shared)?;
-                Ok((Kept::of_get(alloc, state)?, effects))
+            Pending::Get(mut place) => {
+                let state = mem::replace(&mut *place, CallState::Ended(Ended));
+                let (state, effects) = state.advance(alloc, input, shared)?;
+                Ok((Kept::get_in(place, state), effects))
             }
-            Pending::Disconnect(state) => {
-                let (state, effects) = Box::into_inner(state).advance(alloc, input, shared)?;
-                Ok((Kept::of_disconnect(alloc, state)?, effects))
+            Pending::Disconnect(mut place) => {
+                let state = mem::replace(&mut *place, DState::DEnded(DEnded));
+                let (state, effects) = state.advance(alloc, input, shared)?;
+                Ok((Kept::disconnect_in(place, state), effects))
             }
         }
     }
@@ -122,6 +125,36 @@ impl Kept {
             other => Ok(Kept {
                 state: Some(Pending::Disconnect(Box::new(alloc, other)?)),
             }),
+        }
+    }
+
+    // What is kept of a get in this state, in the place of the state before it. It takes no memory.
+    fn get_in(mut place: Box<CallState>, state: CallState) -> Kept
+        ensures { result ≡ option_map OfGet (facts_of state) }
+    {
+        match state {
+            CallState::Ended(..) => Kept::over(),
+            other => {
+                *place = other;
+                Kept {
+                    state: Some(Pending::Get(place)),
+                }
+            }
+        }
+    }
+
+    // The same of a disconnect call.
+    fn disconnect_in(mut place: Box<DState>, state: DState) -> Kept
+        ensures { result ≡ option_map OfDisconnect (disconnect_facts_of state) }
+    {
+        match state {
+            DState::DEnded(..) => Kept::over(),
+            other => {
+                *place = other;
+                Kept {
+                    state: Some(Pending::Disconnect(place)),
+                }
+            }
         }
     }
 

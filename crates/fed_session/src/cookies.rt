@@ -3,19 +3,23 @@ ghost use Rattle.std.specs.Prelude.{◌≡◌, ◌<◌, ◌-◌, ◌^◌, [], If
 ghost use Rattle.fed_cookie.specs.SetCookie.{HasNoLineEnd};
 ghost use Rattle.fed_jar.specs.Send.{jar_text};
 ghost use Rattle.fed_jar.specs.Store.{cookie_of};
+ghost use Rattle.fed_origin.specs.WebUrl.{scheme_of};
+ghost use Rattle.fed_provider.specs.WellKnown.{WellKnownUrlOf};
 ghost use Rattle.fed_session.specs.Cookies.{with_write};
 
+use crate::rules::Rules;
 use fed_cookie::RawCookie;
 use fed_io::{Bytes, NoRoom};
 use fed_jar::{Cookie, Jar};
-use fed_origin::WebUrl;
+use fed_origin::{Scheme, WebUrl};
+use fed_provider::ProviderStep;
 use fed_suffix::Suffixes;
 use std::alloc::Global;
 use std::marker::Model;
 
 /// The public suffix rules, and the cookies, each of which is kept under its party by these rules.
 pub struct Cookies {
-    rules: Suffixes,
+    rules: Rules,
     jar: Jar,
 }
 
@@ -50,7 +54,7 @@ impl Cookies {
         ensures { result ≡ record { rules = rules; list = []; entered = 0 } }
     {
         Cookies {
-            rules,
+            rules: Rules::new(rules),
             jar: Jar::new(alloc),
         }
     }
@@ -59,7 +63,20 @@ impl Cookies {
     pub(crate) fn rules(&self) -> &Suffixes
         ensures { result.now ≡ self.now.rules }
     {
-        &self.rules
+        self.rules.suffixes()
+    }
+
+    /// The well-known URL of a configuration URL that is https, or the step where it has no site.
+    pub(crate) fn wellknown(
+        &mut self,
+        alloc: Global,
+        config: &WebUrl,
+    ) -> Result<Result<WebUrl, ProviderStep>, NoRoom>
+        requires { scheme_of config.now ≡ Scheme.Https }
+        ensures answer { IfOk result (λ url. url ≡ WellKnownUrlOf self.old.rules config.now) }
+        ensures same { self.new ≡ self.old }
+    {
+        self.rules.wellknown(alloc, config)
     }
 
     /// The Cookie field of a request to the URL at the time.
@@ -67,7 +84,7 @@ impl Cookies {
         ensures value { IfOk result (λ text. text ≡ jar_text self.now.rules to.now now self.now.list) }
         ensures line { IfOk result (λ text. HasNoLineEnd text) }
     {
-        self.jar.cookie_text(alloc, &self.rules, to, now)
+        self.jar.cookie_text(alloc, self.rules.suffixes(), to, now)
     }
 
     /// Stores the cookie of a Set-Cookie field of a page of the URL, unless it is ignored.
@@ -75,7 +92,7 @@ impl Cookies {
         requires { self.old.entered < 2 ^ 64 - 1 }
         ensures { OnOk result (self.new ≡ with_write self.old (cookie_of self.old.rules url.now now raw)) }
     {
-        self.jar.store(&self.rules, url, now, raw)?;
+        self.jar.store(self.rules.suffixes(), url, now, raw)?;
         Ok(())
     }
 

@@ -1,9 +1,10 @@
 //! Calls of `IdentityCredential.disconnect`.
-ghost use Rattle.std.specs.Prelude.{◌≡◌, ◌≤◌, ◌+◌, nat_eq, is_some, false, IfOk, OnOk};
+ghost use Rattle.std.specs.Prelude.{◌≡◌, ◌≤◌, ◌+◌, nat_eq, is_some, false, Some, IfOk, OnOk};
 ghost use Rattle.std.specs.List.{list_any};
 ghost use Rattle.std.specs.Map.{lookup};
-ghost use Rattle.fed_disconnect.specs.Facts.{disconnect_options};
-ghost use Rattle.fed_status.specs.Shared.{world_of};
+ghost use Rattle.fed_disconnect.specs.Facts.{disconnect_options, disconnect_stage, disconnect_started};
+ghost use Rattle.fed_disconnect.specs.Rows.{disconnect_start_row};
+ghost use Rattle.fed_disconnect.specs.State.{disconnect_facts_of};
 ghost use Rattle.fed_trace.specs.Begun.{ToDisconnect};
 ghost use Rattle.fed_trace.specs.Call.{first_row};
 ghost use Rattle.fed_trace.specs.Row.{begin_effects};
@@ -18,8 +19,7 @@ use crate::tabs::Tabs;
 use fed_consent::{Effect, Why};
 use fed_disconnect::DState;
 use fed_io::{Items, NoRoom, Steps, Text};
-use fed_origin::{Origin, WebUrl};
-use fed_status::Shared;
+use fed_origin::{Origin, Scheme, WebUrl};
 use fed_trace::Out;
 use std::alloc::Global;
 use std::sync::ledger::Ledger;
@@ -28,7 +28,7 @@ use std::sync::ledger::Ledger;
 pub(crate) fn disconnect<L: Ledger>(
     alloc: Global,
     line: u32,
-    sight: &Sight,
+    sight: &mut Sight,
     tabs: &mut Tabs,
     page: u32,
     call: u32,
@@ -38,13 +38,14 @@ pub(crate) fn disconnect<L: Ledger>(
     steps: &mut Steps<L>,
 ) -> Result<Items<Out>, NoRoom>
     requires { list_any (nat_eq call) tabs.old.taken ≡ false }
-    ensures outs { IfOk result (λ outs. outs ≡ records_of line (begin_effects (world_in sight.now) (cookies_of sight.now)
+    ensures outs { IfOk result (λ outs. outs ≡ records_of line (begin_effects (world_in sight.old) (cookies_of sight.old)
         (lookup (nat_eq page) tabs.old.pages) (is_some (lookup (nat_eq page) tabs.old.gets)) page call
         (ToDisconnect (disconnect_options config.now client.now hint.now)))) }
-    ensures tabs { OnOk result (BeginsIf page call (begin_kept (world_in sight.now) (lookup (nat_eq page) tabs.old.pages)
+    ensures tabs { OnOk result (BeginsIf page call (begin_kept (world_in sight.old) (lookup (nat_eq page) tabs.old.pages)
         (is_some (lookup (nat_eq page) tabs.old.gets)) page call
         (ToDisconnect (disconnect_options config.now client.now hint.now))) tabs.old tabs.new) }
     ensures steps { steps.new ≤ steps.old + 20 }
+    ensures sight { sight.new ≡ sight.old }
 {
     let Some(origin) = tabs.origin(page) else {
         return ignored(alloc, line, Why::NoPage);
@@ -52,16 +53,7 @@ pub(crate) fn disconnect<L: Ledger>(
     if !origin.is_trustworthy() {
         return ignored(alloc, line, Why::PageInsecure);
     }
-    let (kept, effects) = begin(
-        alloc,
-        &sight.lent(),
-        page,
-        call,
-        origin,
-        config,
-        client,
-        hint,
-    )?;
+    let (kept, effects) = begin(alloc, sight, page, call, origin, config, client, hint)?;
     tabs.begin(page, call, kept, steps)?;
     let outs = answered(alloc, line, sight, call, page, effects)?;
     Ok(outs)
@@ -70,7 +62,7 @@ pub(crate) fn disconnect<L: Ledger>(
 // A disconnect call that is taken: what is kept of it, and what it does.
 fn begin(
     alloc: Global,
-    shared: &Shared<'_>,
+    sight: &mut Sight,
     page: u32,
     call: u32,
     origin: &Origin,
@@ -78,24 +70,70 @@ fn begin(
     client: &Text,
     hint: &Text,
 ) -> Result<(Kept, Items<Effect>), NoRoom>
-    ensures effects { IfOk result (λ r. r.1 ≡ (first_row (world_of shared.now) false origin.now
+    ensures effects { IfOk result (λ r. r.1 ≡ (first_row (world_in sight.old) false origin.now
         (ToDisconnect (disconnect_options config.now client.now hint.now))).effects) }
-    ensures kept { IfOk result (λ r. r.0 ≡ begun_as (world_of shared.now) false (record {
+    ensures kept { IfOk result (λ r. r.0 ≡ begun_as (world_in sight.old) false (record {
       call = call;
       page = page;
       origin = origin.now;
       options = ToDisconnect (disconnect_options config.now client.now hint.now);
     })) }
+    ensures sight { sight.new ≡ sight.old }
 {
-    let (state, effects) = DState::start(
+    let (state, effects) = start(
         alloc,
-        call,
+        sight,
         page,
+        call,
         origin.copy(alloc)?,
         config.copy(alloc)?,
         client.copy(alloc)?,
         hint.copy(alloc)?,
-        shared,
     )?;
     Ok((Kept::of_disconnect(alloc, state)?, effects))
+}
+
+// A call that begins. The well-known URL is looked for among those that are known.
+fn start(
+    alloc: Global,
+    sight: &mut Sight,
+    page: u32,
+    call: u32,
+    origin: Origin,
+    config: WebUrl,
+    client: Text,
+    hint: Text,
+) -> Result<(DState, Items<Effect>), NoRoom>
+    ensures effects { IfOk result (λ r. r.1 ≡ (disconnect_start_row (world_in sight.old) origin
+        (disconnect_options config client hint)).effects) }
+    ensures state { IfOk result (λ r. disconnect_facts_of r.0 ≡ disconnect_started call page origin (disconnect_options config client
+        hint) (disconnect_start_row (world_in sight.old) origin (disconnect_options config client hint))) }
+    ensures stage { IfOk result (λ r. Some (disconnect_stage (disconnect_facts_of r.0))
+        ≡ (disconnect_start_row (world_in sight.old) origin (disconnect_options config client hint)).stage) }
+    ensures sight { sight.new ≡ sight.old }
+{
+    if config.scheme() == Scheme::Http {
+        return DState::start(
+            alloc,
+            call,
+            page,
+            origin,
+            config,
+            client,
+            hint,
+            &sight.lent(),
+        );
+    }
+    let wellknown = sight.cookies.wellknown(alloc, &config)?;
+    DState::start_with(
+        alloc,
+        call,
+        page,
+        origin,
+        config,
+        client,
+        hint,
+        wellknown,
+        &sight.lent(),
+    )
 }

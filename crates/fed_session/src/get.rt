@@ -1,10 +1,12 @@
 //! Calls of `navigator.credentials.get`.
-ghost use Rattle.std.specs.Prelude.{◌≡◌, ◌≤◌, ◌+◌, length, nat_eq, is_some, false, IfOk, OnOk};
+ghost use Rattle.std.specs.Prelude.{◌≡◌, ◌≤◌, ◌+◌, length, nat_eq, is_some, false, Some, IfOk, IfSome, OnOk};
 ghost use Rattle.std.specs.List.{list_any};
 ghost use Rattle.std.specs.Map.{lookup};
-ghost use Rattle.fed_consent.specs.Outcomes.{fails};
+ghost use Rattle.fed_call.specs.Facts.{provider_at, stage_of, started};
+ghost use Rattle.fed_call.specs.Row.{start_row};
+ghost use Rattle.fed_call.specs.State.{facts_of};
+ghost use Rattle.fed_consent.specs.Outcomes.{fails, only_place};
 ghost use Rattle.fed_consent.specs.Failures.{plain};
-ghost use Rattle.fed_status.specs.Shared.{world_of};
 ghost use Rattle.fed_trace.specs.Records.{records_of};
 ghost use Rattle.fed_trace.specs.Begun.{ToGet};
 ghost use Rattle.fed_trace.specs.Call.{first_row};
@@ -17,10 +19,9 @@ use crate::calls::Kept;
 use crate::sight::Sight;
 use crate::tabs::Tabs;
 use fed_call::CallState;
-use fed_consent::{Effect, FailStep, Failure, Finish, Why};
+use fed_consent::{Effect, FailStep, Failure, Finish, ONLY_PLACE, Why};
 use fed_io::{Items, NoRoom, Steps};
-use fed_origin::{GetOptions, Origin};
-use fed_status::Shared;
+use fed_origin::{GetOptions, Origin, Scheme, WebUrl};
 use fed_trace::Out;
 use std::alloc::Global;
 use std::sync::ledger::Ledger;
@@ -29,7 +30,7 @@ use std::sync::ledger::Ledger;
 pub(crate) fn get<L: Ledger>(
     alloc: Global,
     line: u32,
-    sight: &Sight,
+    sight: &mut Sight,
     tabs: &mut Tabs,
     page: u32,
     call: u32,
@@ -38,11 +39,12 @@ pub(crate) fn get<L: Ledger>(
 ) -> Result<Items<Out>, NoRoom>
     requires one { length options.now.providers ≡ 1 }
     requires fresh { list_any (nat_eq call) tabs.old.taken ≡ false }
-    ensures outs { IfOk result (λ outs. outs ≡ records_of line (begin_effects (world_in sight.now) (cookies_of sight.now)
+    ensures outs { IfOk result (λ outs. outs ≡ records_of line (begin_effects (world_in sight.old) (cookies_of sight.old)
         (lookup (nat_eq page) tabs.old.pages) (is_some (lookup (nat_eq page) tabs.old.gets)) page call (ToGet options.now))) }
-    ensures tabs { OnOk result (BeginsIf page call (begin_kept (world_in sight.now) (lookup (nat_eq page) tabs.old.pages)
+    ensures tabs { OnOk result (BeginsIf page call (begin_kept (world_in sight.old) (lookup (nat_eq page) tabs.old.pages)
         (is_some (lookup (nat_eq page) tabs.old.gets)) page call (ToGet options.now)) tabs.old tabs.new) }
     ensures steps { steps.new ≤ steps.old + 20 }
+    ensures sight { sight.new ≡ sight.old }
 {
     let Some(origin) = tabs.origin(page) else {
         return ignored(alloc, line, Why::NoPage);
@@ -52,7 +54,7 @@ pub(crate) fn get<L: Ledger>(
     }
     let (kept, effects) = begin(
         alloc,
-        &sight.lent(),
+        sight,
         tabs.is_busy(page),
         page,
         call,
@@ -67,7 +69,7 @@ pub(crate) fn get<L: Ledger>(
 // A get that is taken: what is kept of it, and what it does.
 fn begin(
     alloc: Global,
-    shared: &Shared<'_>,
+    sight: &mut Sight,
     busy: bool,
     page: u32,
     call: u32,
@@ -75,22 +77,55 @@ fn begin(
     options: &GetOptions,
 ) -> Result<(Kept, Items<Effect>), NoRoom>
     requires { length options.now.providers ≡ 1 }
-    ensures effects { IfOk result (λ r. r.1 ≡ (first_row (world_of shared.now) busy origin.now (ToGet options.now)).effects) }
-    ensures kept { IfOk result (λ r. r.0 ≡ begun_as (world_of shared.now) busy (record
+    ensures effects { IfOk result (λ r. r.1 ≡ (first_row (world_in sight.old) busy origin.now (ToGet options.now)).effects) }
+    ensures kept { IfOk result (λ r. r.0 ≡ begun_as (world_in sight.old) busy (record
         { call = call; page = page; origin = origin.now; options = ToGet options.now })) }
+    ensures sight { sight.new ≡ sight.old }
 {
     if busy {
         return Ok((Kept::over(), pending_elsewhere(alloc)?));
     }
-    let (state, effects) = CallState::start(
+    let (state, effects) = start(
         alloc,
-        call,
+        sight,
         page,
+        call,
         origin.copy(alloc)?,
         options.copy(alloc)?,
-        shared,
     )?;
     Ok((Kept::of_get(alloc, state)?, effects))
+}
+
+// The configuration URL of the only provider.
+fn config_of(options: &GetOptions) -> &WebUrl
+    requires { length options.now.providers ≡ 1 }
+    ensures { IfSome (provider_at only_place options.now) (λ p. result.now ≡ p.config) }
+{
+    &options.providers.as_slice()[ONLY_PLACE as usize].config
+}
+
+// A call that begins, whose page has no pending get. The well-known URL is looked for among those that are known.
+fn start(
+    alloc: Global,
+    sight: &mut Sight,
+    page: u32,
+    call: u32,
+    origin: Origin,
+    options: GetOptions,
+) -> Result<(CallState, Items<Effect>), NoRoom>
+    requires { length options.providers ≡ 1 }
+    ensures effects { IfOk result (λ r. r.1 ≡ (start_row (world_in sight.old) origin options).effects) }
+    ensures state { IfOk result (λ r. facts_of r.0
+        ≡ started call page origin options (start_row (world_in sight.old) origin options)) }
+    ensures stage { IfOk result (λ r. Some (stage_of (facts_of r.0)) ≡ (start_row (world_in sight.old) origin options).stage) }
+    ensures sight { sight.new ≡ sight.old }
+{
+    let config = config_of(&options);
+    if config.scheme() == Scheme::Http {
+        return CallState::start(alloc, call, page, origin, options, &sight.lent());
+    }
+    let wellknown = sight.cookies.wellknown(alloc, config)?;
+    CallState::start_with(alloc, call, page, origin, options, wellknown, &sight.lent())
 }
 
 // The page has a pending get.

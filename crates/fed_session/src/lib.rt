@@ -10,6 +10,7 @@ mod input;
 mod load;
 mod page;
 mod resume;
+mod rules;
 mod session;
 mod sight;
 mod tabs;

@@ -258,7 +258,7 @@ impl Session {
         let outs = get(
             self.alloc,
             line,
-            &self.sight,
+            &mut self.sight,
             &mut self.tabs,
             page,
             call,
@@ -292,7 +292,7 @@ impl Session {
         let outs = disconnect(
             self.alloc,
             line,
-            &self.sight,
+            &mut self.sight,
             &mut self.tabs,
             page,
             call,

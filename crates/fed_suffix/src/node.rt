@@ -148,12 +148,14 @@ impl SuffixNode {
         ensures { IfOk result (λ node. (labels : List (List ℕ)) (exception : Bool) → self ≡ set.insert set.empty (labels, exception)
             → node ≡ set.insert set.empty (label.now ∷ labels, exception)) }
     {
-        let Ok(label) = label.to_vec(alloc) else {
+        let (Ok(label), Ok(mut labels), Ok(mut nodes)) = (
+            label.to_vec(alloc),
+            IndexSet::with_capacity(alloc, 1),
+            Vec::with_capacity(alloc, 1),
+        ) else {
             self.let_go();
             return Err(NoRoom);
         };
-        let mut labels = IndexSet::new(alloc);
-        let mut nodes = Vec::new(alloc);
         add_node(&mut labels, &mut nodes, label, self)?;
         Ok(SuffixNode {
             labels,

@@ -9,18 +9,18 @@ use Rattle.fed_session.specs.StepParts.{known_of, kept_next, outcome_at}
 use Rattle.fed_session.proofs.clauses.Outcome.{get_does, get_becomes}
 use Rattle.fed_session.proofs.calls.Pending.advance.Goals as goal
 
-pub returns-in_ok-of_get-in-Get-clause-effects : goal.returns-in_ok-of_get-in-Get-clause-effects
-returns-in_ok-of_get-in-Get-clause-effects c =
+pub returns-in_ok-state-in-Get-clause-effects : goal.returns-in_ok-state-in-Get-clause-effects
+returns-in_ok-state-in-Get-clause-effects c =
     let world = world_of c.args.shared.now in
-    c.in_ok-state-in-Get.ensures.effects ∙ ap (λ s. (call_row world (facts_of s) c.args.input.now).effects) c.into_inner.ensures
-    ∙ get_does world (facts_of c.in-Get.state.value) c.args.input.now
+    c.in_ok-state-in-Get.ensures.effects ∙ ap (λ s. (call_row world (facts_of s) c.args.input.now).effects) (c.replace-state.ensures.value ∙ c.deref_mut.ensures.value)
+    ∙ get_does world (facts_of c.in-Get.place.value) c.args.input.now
     ∙ ap (λ p. (outcome_at world true (known_of p) c.args.input.now).effects) (sym c.in-Get.is)
 
-pub returns-in_ok-of_get-in-Get-clause-kept : goal.returns-in_ok-of_get-in-Get-clause-kept
-returns-in_ok-of_get-in-Get-clause-kept c =
+pub returns-in_ok-state-in-Get-clause-kept : goal.returns-in_ok-state-in-Get-clause-kept
+returns-in_ok-state-in-Get-clause-kept c =
     let world = world_of c.args.shared.now in
-    c.in_ok-of_get-in-Get.ensures ∙ ap (option_map OfGet) c.in_ok-state-in-Get.ensures.state
+    c.get_in.ensures ∙ ap (option_map OfGet) c.in_ok-state-in-Get.ensures.state
     ∙ ap (λ s. option_map OfGet (next_facts world (facts_of s) c.args.input.now (call_row world (facts_of s) c.args.input.now)))
-    c.into_inner.ensures
-    ∙ get_becomes world (facts_of c.in-Get.state.value) c.args.input.now
+    (c.replace-state.ensures.value ∙ c.deref_mut.ensures.value)
+    ∙ get_becomes world (facts_of c.in-Get.place.value) c.args.input.now
     ∙ ap (λ p. kept_next world (known_of p) c.args.input.now) (sym c.in-Get.is)

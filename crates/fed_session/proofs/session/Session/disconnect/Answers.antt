@@ -2,9 +2,12 @@ use Rattle.std.proofs.Common.{◌≡◌, ◌∙◌, sym, subst, refl, nat_eq, fa
 use Rattle.std.specs.List.{list_any}
 use Rattle.fed_script.specs.declared.event.Event.TheVariants as events
 use Rattle.fed_disconnect.specs.Facts.{disconnect_options}
+use Rattle.fed_trace.specs.Row.{with_event}
 use Rattle.fed_trace.specs.Begun.{ToDisconnect}
 use Rattle.fed_session.specs.Session.{State, Stands}
-use Rattle.fed_session.specs.StepParts.{revived}
+use Rattle.fed_session.specs.StepParts.{revived, stepped}
+use Rattle.fed_session.specs.contracts.session.Session.{the_view}
+use Rattle.fed_session.specs.declared.sight.Sight.{Sight}
 use Rattle.fed_session.proofs.events.Begin.{BeginsBy, owes_begin, begin_records-stand, is_new}
 use Rattle.fed_session.proofs.stands.Stands.{stands_after}
 use Rattle.fed_session.proofs.session.Session.disconnect.Goals as goal
@@ -20,8 +23,16 @@ returns-clause-row g c = λ T h.
       c.in_ok-outs.ensures.outs ∙ begin_records-stand _ T c.args.line event c.args.page c.args.call
           (ToDisconnect (disconnect_options c.args.config.now c.args.client.now c.args.hint.now)) before
           begins,
-      stands_after _ _ T c.args.line event before (is_new _ T c.args.call before fresh) refl refl
+      subst {A = Sight}
+          (λ sight. Stands (stepped (the_view (record {
+            alloc = c.self.inside.alloc;
+            alive = c.self.inside.alive;
+            steps = c.self.inside.steps;
+            sight = sight;
+            tabs = c.disconnect.new.tabs;
+          }))) (with_event T c.args.line event)) (sym c.in_ok-outs.ensures.sight)
+          (stands_after _ _ T c.args.line event before (is_new _ T c.args.call before fresh) refl refl
           (owes_begin _ _ T c.args.line event c.args.page c.args.call
           (ToDisconnect (disconnect_options c.args.config.now c.args.client.now c.args.hint.now)) before begins fresh tt refl
-          c.in_ok-outs.ensures.tabs),
+          c.in_ok-outs.ensures.tabs)),
     )
