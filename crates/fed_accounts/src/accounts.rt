@@ -8,9 +8,15 @@ use std::marker::Model;
 
 /// The accounts of a user at a provider, in the provider's order. There is at least one, and their
 /// ids differ. Contracts see them as the list of the accounts.
-#[derive(Drop)]
 pub struct Accounts {
     list: Items<Account>,
+}
+
+// Written out, so that one function lets it go wherever it ends.
+impl Drop for Accounts {
+    fn drop(self) {
+        let Accounts { list: _ } = self;
+    }
 }
 
 impl Model for Accounts {

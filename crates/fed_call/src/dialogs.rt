@@ -85,11 +85,12 @@ pub fn choice_dialog(
 {
     let accounts = all_shown(alloc, place, chooser.accounts().list(), chooser.connected())?;
     let site = site(alloc, shared.rules, &begun.origin.host)?;
-    Ok(Effect::Dialog(Dialog::Choose {
+    let dialog = Dialog::Choose {
         accounts,
         context: begun.context,
         site,
-    }))
+    };
+    Effect::shows(alloc, dialog)
 }
 
 // A link, serialized.
@@ -119,13 +120,14 @@ pub fn prompt_dialog(
     let site = site(alloc, shared.rules, &begun.origin.host)?;
     let privacy = link(alloc, &links.privacy)?;
     let terms = link(alloc, &links.terms)?;
-    Ok(Effect::Dialog(Dialog::Prompt {
+    let dialog = Dialog::Prompt {
         account,
         context: begun.context,
         site,
         privacy,
         terms,
-    }))
+    };
+    Effect::shows(alloc, dialog)
 }
 
 /// What comes first of a prompt: it is shown without links, or the links of the client are asked for, where the account is

@@ -396,11 +396,12 @@ fn mismatch_shown(
         ∷ Effect.Dialog (Dialog.Mismatch place (spec.site_of (world_of shared.now) begun.now.origin) failure) ∷ []) }
 {
     let provider = begun.provider_origin().copy(alloc)?;
-    let dialog = Effect::Dialog(Dialog::Mismatch {
+    let dialog = Dialog::Mismatch {
         provider: place,
         site: site(alloc, shared.rules, &begun.origin.host)?,
         failure,
-    });
+    };
+    let dialog = Effect::shows(alloc, dialog)?;
     Effect::SetLogin(provider, LoginStatus::LoggedOut).then(alloc, dialog)
 }
 

@@ -10,11 +10,11 @@ ghost use Rattle.fed_call.specs.Facts.{provider_at};
 ghost use Rattle.fed_call.specs.ReadingRows as spec;
 
 use fed_consent::{Ask, Effect, FailStep, ONLY_PLACE};
-use fed_io::{Fault, Items, NoRoom};
+use fed_io::{Items, NoRoom};
 use fed_origin::{
     GetOptions, LoginStatus, Mediation, Mode, Origin, ProviderOptions, Scheme, WebUrl,
 };
-use fed_provider::{ProviderStep, wellknown_url};
+use fed_provider::{ProviderStep, site_url};
 use fed_status::{LoginMap, Shared, SilentFlags};
 use fed_suffix::Suffixes;
 use std::alloc::Global;
@@ -54,11 +54,7 @@ pub fn only_wellknown(
     requires secure { IfSome (provider_at only_place options.now) (λ p. scheme_of p.config ≡ Scheme.Https) }
     ensures { IfOk result (λ url. IfSome (provider_at only_place options.now) (λ p. url ≡ WellKnownUrlOf rules.now p.config)) }
 {
-    match wellknown_url(alloc, rules, &only_provider(options).config) {
-        Ok(url) => Ok(Ok(url)),
-        Err(Fault::Step(step)) => Ok(Err(step)),
-        Err(Fault::NoRoom) => Err(NoRoom),
-    }
+    site_url(alloc, rules, &only_provider(options).config)
 }
 
 /// The first requests of a call of a page of the first origin to its only provider, which is of the second origin and has this

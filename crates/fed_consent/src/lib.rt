@@ -6,5 +6,6 @@ mod table;
 
 pub use consent::{AssertionAsk, Chooser, Consent, Manner, Picked, Prompt, Reselection};
 pub use table::{
-    Ask, Detail, Dialog, Effect, FailStep, Failure, Finish, Input, ONLY_PLACE, Shown, Why,
+    Ask, Detail, Dialog, Effect, FailStep, Failure, Finish, Input, ONLY_PLACE, PlacedDialog, Shown,
+    Why,
 };

@@ -8,11 +8,10 @@ ghost use Rattle.fed_disconnect.specs.Facts.{disconnect_options, fresh};
 ghost use Rattle.fed_disconnect.specs.Rows as spec;
 
 use fed_consent::{Ask, Effect, FailStep, ONLY_PLACE};
-use fed_io::{Fault, Items, NoRoom, Text};
+use fed_io::{Items, NoRoom, Text};
 use fed_origin::{Origin, Scheme, WebUrl};
-use fed_provider::{ProviderStep, wellknown_url};
+use fed_provider::ProviderStep;
 use fed_status::Shared;
-use fed_suffix::Suffixes;
 use std::alloc::Global;
 use std::marker::Model;
 
@@ -94,35 +93,20 @@ impl Begun {
         wellknown: Result<WebUrl, ProviderStep>,
         shared: &Shared<'_>,
     ) -> Result<Result<Items<Effect>, FailStep>, NoRoom>
-        requires secure { scheme_of self.now.options.config ≡ Scheme.Https }
         requires known { wellknown ≡ WellKnownUrlOf (world_of shared.now).rules self.now.options.config }
         ensures { IfOk result (λ first. spec.first_outcome first
             ≡ spec.disconnect_start_row (world_of shared.now) self.now.origin self.now.options) }
     {
+        // Looked at first, so that the URL is known to be https in each arm.
+        let provider = &self.provider;
         let wellknown = match wellknown {
             Ok(url) => url,
             Err(_) => return Ok(Err(FailStep::NoSite)),
         };
-        if !shared.kept.has_pair(&self.origin, &self.provider) {
+        if !shared.kept.has_pair(&self.origin, provider) {
             return Ok(Err(FailStep::NotConnected));
         }
         Ok(Ok(requests(alloc, wellknown, &self.config)?))
-    }
-}
-
-/// The well-known URL of a configuration URL that is https, or the step where it has no site.
-pub(crate) fn wellknown_of(
-    alloc: Global,
-    rules: &Suffixes,
-    config: &WebUrl,
-) -> Result<Result<WebUrl, ProviderStep>, NoRoom>
-    requires { scheme_of config.now ≡ Scheme.Https }
-    ensures { IfOk result (λ url. url ≡ WellKnownUrlOf rules.now config.now) }
-{
-    match wellknown_url(alloc, rules, config) {
-        Ok(url) => Ok(Ok(url)),
-        Err(Fault::Step(step)) => Ok(Err(step)),
-        Err(Fault::NoRoom) => Err(NoRoom),
     }
 }
 

@@ -7,13 +7,13 @@ ghost use Rattle.fed_disconnect.specs.Facts.{disconnect_options, disconnect_stag
 ghost use Rattle.fed_disconnect.specs.Rows.{disconnect_row, disconnect_start_row};
 ghost use Rattle.fed_disconnect.specs.State.{disconnect_facts_of};
 
-use crate::begun::{Begun, wellknown_of};
+use crate::begun::Begun;
 use crate::effects::{fails, not_taken};
 use crate::{DReading, DSending};
 use fed_consent::{Effect, FailStep, Failure, Input, Why};
 use fed_io::{Items, NoRoom, Text};
 use fed_origin::{Origin, Scheme, Stage, WebUrl};
-use fed_provider::{FirstReplies, ProviderStep};
+use fed_provider::{FirstReplies, ProviderStep, site_url};
 use fed_status::Shared;
 use std::alloc::Global;
 
@@ -65,7 +65,7 @@ impl DState {
         if config.scheme() == Scheme::Http {
             return fails(alloc, Failure::plain(FailStep::ConfigScheme));
         }
-        let wellknown = wellknown_of(alloc, shared.rules, &config)?;
+        let wellknown = site_url(alloc, shared.rules, &config)?;
         DState::start_with(
             alloc, call, page, origin, config, client, hint, wellknown, shared,
         )

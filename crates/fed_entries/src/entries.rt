@@ -17,7 +17,6 @@ pub type Slots<K, V> = IndexMap<u64, Option<(K, V)>>;
 
 /// Values under keys, in order of entering. One that goes leaves a hole and moves none of the others, so what it costs does
 /// not grow with them. Contracts see those that stand.
-#[derive(Drop)]
 pub struct Entries<K: Eq + Hash, V> {
     /// The number of entering of each.
     entered: IndexMap<K, u64>,
@@ -25,6 +24,17 @@ pub struct Entries<K: Eq + Hash, V> {
     slots: Slots<K, V>,
     /// The number that the next one enters under.
     next: u64,
+}
+
+// Written out, so that one function lets it go wherever it ends.
+impl<K: Eq + Hash + Drop, V: Drop> Drop for Entries<K, V> {
+    fn drop(self) {
+        let Entries {
+            entered: _,
+            slots: _,
+            next: _,
+        } = self;
+    }
 }
 
 impl<K: Eq + Hash, V> Model for Entries<K, V> {

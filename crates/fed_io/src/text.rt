@@ -1,5 +1,5 @@
 //! Texts and lists of bytes, which contracts see as their bytes.
-ghost use Rattle.std.specs.Prelude.{◌≡◌, Some, IfOk, bytes_eq, refl};
+ghost use Rattle.std.specs.Prelude.{◌≡◌, Some, IfOk, IfSome, bytes_eq, refl};
 ghost use Rattle.std.specs.Option.{option_copied};
 ghost use Rattle.std.proofs.Common.{rules};
 ghost use Rattle.std.specs.Ordering.{nat_cmp};
@@ -19,6 +19,16 @@ use std::marker::Model;
 // takes some 180 instructions.
 const SHORT: usize = 24;
 
+// The text as one that stands in the value, where it is short. A longer one is told by its length, before there is an array for it.
+fn short(s: &str) -> Option<ArrayString<SHORT>>
+    ensures { IfSome result (λ here. here.bytes ≡ s.now) }
+{
+    if s.len() > SHORT {
+        return None;
+    }
+    ArrayString::from(s).ok()
+}
+
 // Where the bytes of a text stand.
 #[derive(Drop)]
 enum Place {
@@ -27,9 +37,15 @@ enum Place {
 }
 
 /// A text. Contracts see it as its bytes; equality, order and hash are by these. One of at most 24 bytes takes no memory of its own.
-#[derive(Drop)]
 pub struct Text {
     place: Place,
+}
+
+// Written out, so that one function lets a text go wherever it ends.
+impl Drop for Text {
+    fn drop(self) {
+        let Text { place: _ } = self;
+    }
 }
 
 impl Model for Text {
@@ -46,9 +62,9 @@ impl Text {
     pub fn of(alloc: Global, s: &str) -> Result<Text, NoRoom>
         ensures { IfOk result (λ text. text ≡ s.now) }
     {
-        let place = match ArrayString::from(s) {
-            Ok(here) => Place::Here(here),
-            Err(_) => Place::There(String::from_str(alloc, s)?),
+        let place = match short(s) {
+            Some(here) => Place::Here(here),
+            None => Place::There(String::from_str(alloc, s)?),
         };
         Ok(Text { place })
     }
@@ -155,9 +171,15 @@ impl Hash for Text {
 }
 
 /// Bytes. Contracts see them as their list; equality, order and hash are by it.
-#[derive(Drop)]
 pub struct Bytes {
     inner: Vec<u8>,
+}
+
+// Written out, so that one function lets it go wherever it ends.
+impl Drop for Bytes {
+    fn drop(self) {
+        let Bytes { inner: _ } = self;
+    }
 }
 
 impl Model for Bytes {

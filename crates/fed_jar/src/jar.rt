@@ -24,11 +24,21 @@ use std::marker::Model;
 /// Cookies, no two with the same name, domain and path, kept by the parties of the hosts that stored
 /// them. Contracts see them in the order of first storing over all parties, the party of each, and
 /// how many new keys ever entered.
-#[derive(Drop)]
 pub struct Jar {
     parties: Parties,
     entered: u64,
     alloc: Global,
+}
+
+// Written out, so that one function lets it go wherever it ends.
+impl Drop for Jar {
+    fn drop(self) {
+        let Jar {
+            parties: _,
+            entered: _,
+            alloc: _,
+        } = self;
+    }
 }
 
 impl Model for Jar {

@@ -13,7 +13,6 @@ use std::marker::Model;
 use std::sync::ledger::Ledger;
 
 /// Nodes, of which each stands in one page list or is free, and in one waiting list at most. Lists are numbered from 0.
-#[derive(Drop)]
 pub struct Links {
     slots: Vec<Slot>,
     pages: Vec<Ends>,
@@ -22,6 +21,19 @@ pub struct Links {
     free: Option<u32>,
     /// How many nodes are free.
     spare: u32,
+}
+
+// Written out, so that one function lets it go wherever it ends.
+impl Drop for Links {
+    fn drop(self) {
+        let Links {
+            slots: _,
+            pages: _,
+            origins: _,
+            free: _,
+            spare: _,
+        } = self;
+    }
 }
 
 impl Model for Links {

@@ -26,10 +26,16 @@ pub enum HostKind {
 
 /// A host, with its text as the URL standard writes it (URL 3.5). Contracts see it as the bytes of the text, all below
 /// 128; the text says which kind it is.
-#[derive(Drop)]
 pub struct Host {
     pub kind: HostKind,
     pub text: Text,
+}
+
+// Written out, so that one function lets it go wherever it ends.
+impl Drop for Host {
+    fn drop(self) {
+        let Host { kind: _, text: _ } = self;
+    }
 }
 
 impl Model for Host {

@@ -1,8 +1,8 @@
 //! The text of a URL of the web, and where its parts stand in it.
-ghost use Rattle.std.specs.Prelude.{◌≡◌, ◌↔◌, Some, Ok, IfOk, IsAscii, IsTrue};
+ghost use Rattle.std.specs.Prelude.{◌≡◌, ◌↔◌, Option, Some, Ok, IfOk, IsAscii, IsTrue};
 ghost use Rattle.std.specs.Option.{option_copied};
 ghost use Rattle.url.specs.Parser.{parse_url};
-ghost use Rattle.url.specs.Parts.{serialize};
+ghost use Rattle.url.specs.Parts.{Parts, serialize};
 ghost use Rattle.fed_origin.specs.Plain as spec;
 
 use crate::plain::{FRONT, Plain, Tail};
@@ -14,7 +14,6 @@ use url::{Position, Url};
 
 /// A URL of the web as its text, with the parts that are asked for kept beside it, so that none is looked for again. Contracts
 /// see it as the parts that `url` reads in the text.
-#[derive(Drop)]
 pub(crate) struct Layout {
     text: String,
     scheme: Scheme,
@@ -26,6 +25,21 @@ pub(crate) struct Layout {
     query: Option<usize>,
     // Before `#`, or the end of the text.
     end: usize,
+}
+
+// Written out, so that one function lets it go wherever it ends.
+impl Drop for Layout {
+    fn drop(self) {
+        let Layout {
+            text: _,
+            scheme: _,
+            host: _,
+            port: _,
+            path: _,
+            query: _,
+            end: _,
+        } = self;
+    }
 }
 
 impl Model for Layout {
@@ -131,6 +145,14 @@ impl Layout {
         ensures { IsTrue result ↔ (self.now ≡ other.now) }
     {
         self.text.as_str() == other.text.as_str()
+    }
+
+    /// Whether this is the text, which is then read as the URL against any other.
+    pub fn is_text(&self, text: &str) -> bool
+        ensures same { IsTrue result ↔ (text.now ≡ serialize self.now) }
+        ensures read { IsTrue result → (base : Option Parts) → web_part (parse_url base text.now) ≡ Ok self.now }
+    {
+        self.text.as_str() == text
     }
 
     pub fn host(&self) -> &Host

@@ -102,7 +102,6 @@ impl Context {
 }
 
 /// What a call says of one provider (FedCM, IdentityProviderRequestOptions).
-#[derive(Drop)]
 pub struct ProviderOptions {
     /// The configuration URL.
     pub config: WebUrl,
@@ -116,6 +115,20 @@ pub struct ProviderOptions {
     pub domain_hint: Option<Text>,
     /// What the provider gets with the assertion request, as plain text (this profile's own).
     pub params: Option<Text>,
+}
+
+// Written out, so that one function lets it go wherever it ends.
+impl Drop for ProviderOptions {
+    fn drop(self) {
+        let ProviderOptions {
+            config: _,
+            client: _,
+            nonce: _,
+            login_hint: _,
+            domain_hint: _,
+            params: _,
+        } = self;
+    }
 }
 
 impl ProviderOptions {

@@ -10,11 +10,22 @@ use itoa::Buffer;
 use std::alloc::Global;
 
 /// A tuple origin: scheme, host and port (HTML 7.1.1).
-#[derive(Eq, PartialOrd, Ord, Hash, Drop)]
+#[derive(Eq, PartialOrd, Ord, Hash)]
 pub struct Origin {
     pub scheme: Scheme,
     pub host: Host,
     pub port: u16,
+}
+
+// Written out, so that one function lets it go wherever it ends.
+impl Drop for Origin {
+    fn drop(self) {
+        let Origin {
+            scheme: _,
+            host: _,
+            port: _,
+        } = self;
+    }
 }
 
 impl PartialEq for Origin {

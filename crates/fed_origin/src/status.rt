@@ -48,7 +48,7 @@ impl LoginStatus {
 
 /// A kept permission: the user let this account of the provider sign in at pages of this origin
 /// (FedCM, "connected accounts set").
-#[derive(PartialEq, Eq, PartialOrd, Ord, Hash, Drop)]
+#[derive(PartialEq, Eq, PartialOrd, Ord, Hash)]
 pub struct Triple {
     /// The origin of the pages.
     pub page: Origin,
@@ -56,6 +56,17 @@ pub struct Triple {
     pub provider: Origin,
     /// The account's id at the provider.
     pub account: Text,
+}
+
+// Written out, so that one function lets it go wherever it ends.
+impl Drop for Triple {
+    fn drop(self) {
+        let Triple {
+            page: _,
+            provider: _,
+            account: _,
+        } = self;
+    }
 }
 
 impl Triple {

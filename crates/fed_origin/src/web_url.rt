@@ -15,9 +15,15 @@ use url::{ParseError, Url};
 
 /// A URL whose scheme is http or https, without a user name or password. Contracts see it as the parts that `url` gives.
 /// Copies share the text, so that one takes no memory.
-#[derive(Drop)]
 pub struct WebUrl {
     layout: Rc<Layout>,
+}
+
+// Written out, so that one function lets it go wherever it ends.
+impl Drop for WebUrl {
+    fn drop(self) {
+        let WebUrl { layout: _ } = self;
+    }
 }
 
 impl Model for WebUrl {
@@ -86,6 +92,15 @@ impl WebUrl {
         ensures { IsTrue result ↔ (self.now ≡ other.now) }
     {
         self.layout.is_same(&other.layout)
+    }
+
+    /// Whether this is the serialized text of the URL (URL 4.5). `read` and `join` take such a text as this URL, whatever it is
+    /// joined to, so that it need not be read. It takes no memory.
+    pub fn is_text(&self, text: &str) -> bool
+        ensures same { IsTrue result ↔ (text.now ≡ serialize self.now) }
+        ensures read { IsTrue result → (base : Option Parts) → web_part (parse_url base text.now) ≡ Ok self.now }
+    {
+        self.layout.is_text(text)
     }
 
     // A plain URL, which is read alike against any URL, and which spares `url`'s walk: it takes some 3,000 instructions.

@@ -98,7 +98,12 @@ fn print_record(alloc: Global, printer: &mut Printer, out: &Out) -> Result<(), N
             *kind,
             bytes.as_slice(),
         ),
-        Out::Dialog { line, call, dialog } => print_dialog(printer, *line, *call, dialog),
+        Out::Dialog { line, call, dialog } => print_dialog(
+            printer,
+            *line,
+            *call,
+            dialog.as_dialog(),
+        ),
         Out::Window {
             line,
             call,

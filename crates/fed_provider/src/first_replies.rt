@@ -4,7 +4,7 @@ ghost use Rattle.fed_origin.specs.WebUrl.{scheme_of};
 ghost use Rattle.fed_provider.specs.Config.{ConfigOf};
 ghost use Rattle.fed_provider.specs.FirstReplies as spec;
 
-use crate::{Config, ProviderStep, read_config, read_wellknown, wellknown_url};
+use crate::{Config, ProviderStep, read_config, read_wellknown, site_url};
 use fed_io::{Fault, NoRoom};
 use fed_origin::{ReplyKind, Scheme, WebUrl};
 use fed_suffix::Suffixes;
@@ -154,10 +154,9 @@ fn wellknown_file(
     requires { scheme_of config.now ≡ Scheme.Https }
     ensures { IfOk result (λ read. read ≡ spec.wellknown_read rules.now config.now raw.now) }
 {
-    let base = match wellknown_url(alloc, rules, config) {
+    let base = match site_url(alloc, rules, config)? {
         Ok(base) => base,
-        Err(Fault::Step(step)) => return Ok(Err(step)),
-        Err(Fault::NoRoom) => return Err(NoRoom),
+        Err(step) => return Ok(Err(step)),
     };
     match read_wellknown(alloc, raw, &base, config) {
         Ok(()) => Ok(Ok(())),

@@ -14,4 +14,4 @@ pub use first_replies::{FirstReplies, Heard};
 pub use fed_origin::Endpoint;
 pub use metadata::{PolicyLinks, read_metadata};
 pub use step::ProviderStep;
-pub use wellknown::{read_wellknown, wellknown_url};
+pub use wellknown::{read_wellknown, site_url, wellknown_url};

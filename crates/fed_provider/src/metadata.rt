@@ -11,12 +11,21 @@ use fed_reply::{JsonBuffer, Member, read_json, text_member};
 use std::alloc::Global;
 
 /// The links of a client's metadata (FedCM, "The client metadata endpoint").
-#[derive(Drop)]
 pub struct PolicyLinks {
     /// The privacy policy.
     pub privacy: Option<WebUrl>,
     /// The terms of service.
     pub terms: Option<WebUrl>,
+}
+
+// Written out, so that one function lets it go wherever it ends.
+impl Drop for PolicyLinks {
+    fn drop(self) {
+        let PolicyLinks {
+            privacy: _,
+            terms: _,
+        } = self;
+    }
 }
 
 impl PolicyLinks {

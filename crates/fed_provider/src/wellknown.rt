@@ -41,6 +41,22 @@ pub fn wellknown_url(
     }
 }
 
+/// The same, where the step is an answer that can be kept and handed on.
+pub fn site_url(
+    alloc: Global,
+    rules: &Suffixes,
+    config: &WebUrl,
+) -> Result<Result<WebUrl, ProviderStep>, NoRoom>
+    requires { scheme_of config.now ≡ Scheme.Https }
+    ensures { IfOk result (λ url. url ≡ spec.WellKnownUrlOf rules.now config.now) }
+{
+    match wellknown_url(alloc, rules, config) {
+        Ok(url) => Ok(Ok(url)),
+        Err(Fault::Step(step)) => Ok(Err(step)),
+        Err(Fault::NoRoom) => Err(NoRoom),
+    }
+}
+
 // The text of a site.
 fn site_text(site: &[u8]) -> &str
     requires { IsAscii site.now }
@@ -114,6 +130,9 @@ fn lists(
     let Some(text) = only_text(list_member(file, "provider_urls")) else {
         return Err(Fault::Step(ProviderStep::WellKnownShape));
     };
+    if config.is_text(text) {
+        return Ok(());
+    }
     match base.join(alloc, text) {
         Ok(url) => {
             if url.as_str() == config.as_str() {

@@ -20,10 +20,19 @@ use std::alloc::Global;
 const MARK: [u8; 3] = [0xEF, 0xBB, 0xBF];
 
 /// What a value is read from: the body of its reply, and memory for the reading. Both are lent to the tape.
-#[derive(Drop)]
 pub struct JsonBuffer {
     body: Option<Bytes>,
     scratch: Scratch,
+}
+
+// Written out, so that one function lets it go wherever it ends.
+impl Drop for JsonBuffer {
+    fn drop(self) {
+        let JsonBuffer {
+            body: _,
+            scratch: _,
+        } = self;
+    }
 }
 
 impl JsonBuffer {

@@ -11,11 +11,21 @@ use http_header::{HeaderMap, HeaderValue, ValueIter};
 use std::marker::Model;
 
 /// A reply that was read: its status, its fields and its body.
-#[derive(Drop)]
 pub struct Reply {
     status: StatusCode,
     fields: HeaderMap,
     body: Bytes,
+}
+
+// Written out, so that one function lets it go wherever it ends.
+impl Drop for Reply {
+    fn drop(self) {
+        let Reply {
+            status: _,
+            fields: _,
+            body: _,
+        } = self;
+    }
 }
 
 impl Model for Reply {
@@ -75,7 +85,11 @@ impl Reply {
     pub(crate) fn into_body(self) -> Bytes
         ensures { result ≡ self.body }
     {
-        let Reply { body, .. } = self;
+        let Reply {
+            status: _,
+            fields: _fields,
+            body,
+        } = self;
         body
     }
 }

@@ -16,12 +16,23 @@ use std::marker::Model;
 /// A reader of a script that comes in pieces, which may end anywhere. Of the bytes it keeps those alone that follow the
 /// last line end. It reads the lines as `read_script` does: the first as the header, each later one as blank or as an
 /// event, up to the first bad one. After want of memory it answers that from then on.
-#[derive(Drop)]
 pub struct ScriptReader {
     rest: Vec<u8>,
     reading: Reading,
     alive: bool,
     alloc: Global,
+}
+
+// Written out, so that one function lets it go wherever it ends.
+impl Drop for ScriptReader {
+    fn drop(self) {
+        let ScriptReader {
+            rest: _,
+            reading: _,
+            alive: _,
+            alloc: _,
+        } = self;
+    }
 }
 
 impl Model for ScriptReader {

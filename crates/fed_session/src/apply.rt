@@ -17,9 +17,7 @@ use std::alloc::Global;
 pub(crate) fn ignored(alloc: Global, line: u32, why: Why) -> Result<Items<Out>, NoRoom>
     ensures { IfOk result (λ outs. outs ≡ records_of line (Ignored why ∷ [])) }
 {
-    let mut outs = Items::new(alloc);
-    outs.push(Out::Ignored { line, why })?;
-    Ok(outs)
+    Ok(Items::from_vec(Vec::from_array(alloc, [Out::Ignored { line, why }])?))
 }
 
 /// What a call of the page does, in its order: what it sets is set, and the rest is answered as records.
@@ -51,7 +49,8 @@ pub(crate) fn answered(
 ) -> Result<Items<Out>, NoRoom>
     ensures { IfOk result (λ outs. outs ≡ call_records line (cookies_of sight.now) call page effects) }
 {
-    let mut outs = Items::new(alloc);
+    // Room for all of them at once: a list that grows takes room for four records first, which is more than most need.
+    let mut outs = Items::from_vec(Vec::with_capacity(alloc, effects.len())?);
     for effect in effects.into_vec() {
         if let Some(out) = record(alloc, line, sight, call, page, effect)? {
             outs.push(out)?;

@@ -3,18 +3,27 @@ ghost use Rattle.std.specs.Prelude.{◌≡◌, IfOk};
 ghost use Rattle.fed_origin.specs.WebUrl.{scheme_of};
 ghost use Rattle.fed_provider.specs.WellKnown.{WellKnownUrlOf};
 
-use fed_io::{Fault, NoRoom};
+use fed_io::NoRoom;
 use fed_origin::{Scheme, WebUrl};
-use fed_provider::{ProviderStep, wellknown_url};
+use fed_provider::{ProviderStep, site_url};
 use fed_suffix::Suffixes;
 use std::alloc::Global;
 use std::marker::Model;
 
 // A configuration URL that is https with its well-known URL, or the step where it has no site.
-#[derive(Drop)]
 pub struct Site {
     config: WebUrl,
     wellknown: Result<WebUrl, ProviderStep>,
+}
+
+// Written out, so that one function lets it go wherever it ends.
+impl Drop for Site {
+    fn drop(self) {
+        let Site {
+            config: _,
+            wellknown: _,
+        } = self;
+    }
 }
 
 /// The public suffix rules. The site that was asked for last is kept, since the next call mostly names the same provider: its
@@ -83,29 +92,12 @@ impl Rules {
                 return copied(alloc, &site.wellknown);
             }
         }
-        let site = Site::of(alloc, &self.suffixes, config)?;
-        let wellknown = copied(alloc, &site.wellknown)?;
-        self.last = Some(site);
-        Ok(wellknown)
-    }
-}
-
-impl Site {
-    // The site of a configuration URL by these rules.
-    fn of(alloc: Global, rules: &Suffixes, config: &WebUrl) -> Result<Site, NoRoom>
-        requires { scheme_of config.now ≡ Scheme.Https }
-        ensures config { IfOk result (λ site. site.config ≡ config.now) }
-        ensures wellknown { IfOk result (λ site. site.wellknown ≡ WellKnownUrlOf rules.now config.now) }
-    {
-        let wellknown = match wellknown_url(alloc, rules, config) {
-            Ok(url) => Ok(url),
-            Err(Fault::Step(step)) => Err(step),
-            Err(Fault::NoRoom) => return Err(NoRoom),
-        };
-        Ok(Site {
+        let wellknown = site_url(alloc, &self.suffixes, config)?;
+        self.last = Some(Site {
             config: config.copy(alloc)?,
-            wellknown,
-        })
+            wellknown: copied(alloc, &wellknown)?,
+        });
+        Ok(wellknown)
     }
 }
 

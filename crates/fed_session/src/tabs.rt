@@ -28,7 +28,6 @@ use std::marker::Model;
 use std::sync::ledger::Ledger;
 
 /// The pages that stand, and the calls that were taken. What names one page or one call looks at no other.
-#[derive(Drop)]
 pub struct Tabs {
     /// The pages that stand, with their origins.
     pages: Entries<u32, Origin>,
@@ -40,6 +39,19 @@ pub struct Tabs {
     table: Table<Kept>,
     /// How many loads, calls and opened windows there were. There are no more pages, pending calls and origins waited for.
     changes: u32,
+}
+
+// Written out, so that one function lets it go wherever it ends.
+impl Drop for Tabs {
+    fn drop(self) {
+        let Tabs {
+            pages: _,
+            gets: _,
+            taken: _,
+            table: _,
+            changes: _,
+        } = self;
+    }
 }
 
 impl Model for Tabs {

@@ -11,10 +11,19 @@ use std::marker::Model;
 /// The origins at whose pages no account is chosen without the user (Credential Management, 2.3.3, "prevent silent access
 /// flag"). Contracts see them as a list in order of setting. That none stands twice is a fact of the type; each call that only
 /// looks gives it.
-#[derive(Drop)]
 pub struct SilentFlags {
     origins: IndexSet<Origin>,
     alloc: Global,
+}
+
+// Written out, so that one function lets it go wherever it ends.
+impl Drop for SilentFlags {
+    fn drop(self) {
+        let SilentFlags {
+            origins: _,
+            alloc: _,
+        } = self;
+    }
 }
 
 impl Model for SilentFlags {

@@ -12,10 +12,16 @@ use std::marker::Model;
 
 /// The kept permissions (FedCM, "connected accounts set"). Contracts see them as a list in order of entering. That
 /// none stands twice is a fact of the type; each call that only looks gives it.
-#[derive(Drop)]
 pub struct KeptSet {
     table: Table,
     alloc: Global,
+}
+
+// Written out, so that one function lets it go wherever it ends.
+impl Drop for KeptSet {
+    fn drop(self) {
+        let KeptSet { table: _, alloc: _ } = self;
+    }
 }
 
 impl Model for KeptSet {

@@ -11,10 +11,19 @@ use std::marker::Model;
 
 /// The login statuses that were set (Login Status API, "login status map"). Contracts see them as a list of origins with
 /// their statuses in order of entering. That no origin stands twice is a fact of the type; each call that only looks gives it.
-#[derive(Drop)]
 pub struct LoginMap {
     statuses: IndexMap<Origin, LoginStatus>,
     alloc: Global,
+}
+
+// Written out, so that one function lets it go wherever it ends.
+impl Drop for LoginMap {
+    fn drop(self) {
+        let LoginMap {
+            statuses: _,
+            alloc: _,
+        } = self;
+    }
 }
 
 impl Model for LoginMap {

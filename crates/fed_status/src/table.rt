@@ -18,12 +18,22 @@ use indexmap::{IndexMap, IndexSet};
 use std::alloc::Global;
 
 /// The kept permissions, in order of entering, under the numbers of their parts: so one is found without a copy of its parts.
-#[derive(Drop)]
 pub struct Table {
     pub names: Names,
     pub kept: Entries<Place, Triple>,
     /// The accounts of the pairs of which some permission is kept.
     pub pairs: Pairs,
+}
+
+// Written out, so that one function lets it go wherever it ends.
+impl Drop for Table {
+    fn drop(self) {
+        let Table {
+            names: _,
+            kept: _,
+            pairs: _,
+        } = self;
+    }
 }
 
 impl Table {

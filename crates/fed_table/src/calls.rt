@@ -16,12 +16,22 @@ use std::marker::Model;
 use std::sync::ledger::Ledger;
 
 /// Calls, each with its item, in page lists and waiting lists. Lists are numbered from 0.
-#[derive(Drop)]
 pub struct Calls<C> {
     links: Links,
     /// The call of each node.
     owners: Vec<u32>,
     places: CallPlaces<C>,
+}
+
+// Written out, so that one function lets it go wherever it ends.
+impl<C: Drop> Drop for Calls<C> {
+    fn drop(self) {
+        let Calls {
+            links: _,
+            owners: _,
+            places: _,
+        } = self;
+    }
 }
 
 impl<C> Model for Calls<C> {

@@ -21,7 +21,6 @@ use std::sync::ledger::Ledger;
 
 /// Pages in order of first opening, each with its pending calls; provider origins, each with the calls that wait for it; and
 /// an item for each call, which is present or lent out.
-#[derive(Drop)]
 pub struct Table<C> {
     /// The place of a page is the number of its list.
     pages: IndexSet<u32>,
@@ -29,6 +28,18 @@ pub struct Table<C> {
     origins: IndexSet<Origin>,
     calls: Calls<C>,
     alloc: Global,
+}
+
+// Written out, so that one function lets it go wherever it ends.
+impl<C: Drop> Drop for Table<C> {
+    fn drop(self) {
+        let Table {
+            pages: _,
+            origins: _,
+            calls: _,
+            alloc: _,
+        } = self;
+    }
 }
 
 impl<C> Model for Table<C> {

@@ -1,6 +1,6 @@
 //! Records of a step.
 
-use fed_consent::{Dialog, Finish, Why};
+use fed_consent::{Finish, PlacedDialog, Why};
 use fed_io::Bytes;
 use fed_origin::{ReplyKind, WebUrl};
 
@@ -19,7 +19,7 @@ pub enum Out {
     Dialog {
         line: u32,
         call: u32,
-        dialog: Dialog,
+        dialog: PlacedDialog,
     },
     /// The login window of the provider at this place in the call's list opens at this URL.
     Window {

@@ -51,8 +51,7 @@ pub fn provider(alloc: Global, config: &str) -> Result<ProviderOptions, NoRoom> 
 
 // The same, with a nonce.
 pub fn provider_with_nonce(alloc: Global) -> Result<ProviderOptions, NoRoom> {
-    Ok(ProviderOptions {
-        nonce: Some(Text::of(alloc, "n1")?),
-        ..provider(alloc, CONFIG)?
-    })
+    let mut provider = provider(alloc, CONFIG)?;
+    provider.nonce = Some(Text::of(alloc, "n1")?);
+    Ok(provider)
 }

@@ -1,5 +1,5 @@
 //! The lines of records, most of them those of the worked scripts.
-use fed_consent::{Detail, Dialog, FailStep, Failure, Finish, Shown, Why};
+use fed_consent::{Detail, Dialog, FailStep, Failure, Finish, PlacedDialog, Shown, Why};
 use fed_io::{Bytes, Items, NoRoom, Text};
 use fed_origin::{Context, ReplyKind, WebUrl};
 use fed_print::print;
@@ -69,14 +69,15 @@ fn choose(alloc: Global, ann: Shown, bob: Shown, context: Context) -> Result<Out
     accounts.push(ann)?;
     accounts.push(bob)?;
     let site = Text::of(alloc, "rp.example")?;
+    let dialog = Dialog::Choose {
+        accounts,
+        context,
+        site,
+    };
     Ok(Out::Dialog {
         line: 6,
         call: 1,
-        dialog: Dialog::Choose {
-            accounts,
-            context,
-            site,
-        },
+        dialog: PlacedDialog::new(alloc, dialog)?,
     })
 }
 
@@ -114,16 +115,17 @@ fn prompt(
     terms: Option<Text>,
 ) -> Result<Out, NoRoom> {
     let site = Text::of(alloc, "rp.example")?;
+    let dialog = Dialog::Prompt {
+        account,
+        context,
+        site,
+        privacy,
+        terms,
+    };
     Ok(Out::Dialog {
         line: 8,
         call: 1,
-        dialog: Dialog::Prompt {
-            account,
-            context,
-            site,
-            privacy,
-            terms,
-        },
+        dialog: PlacedDialog::new(alloc, dialog)?,
     })
 }
 
@@ -162,14 +164,15 @@ fn at_status(step: FailStep) -> Failure {
 
 #[test]
 fn mismatches(rt: HostRuntime) -> Result<(), Fail> {
+    let dialog = Dialog::Mismatch {
+        provider: 0,
+        site: Text::of(rt.alloc(), "rp.example")?,
+        failure: at_status(FailStep::AccountsReply),
+    };
     let out = Out::Dialog {
         line: 7,
         call: 1,
-        dialog: Dialog::Mismatch {
-            provider: 0,
-            site: Text::of(rt.alloc(), "rp.example")?,
-            failure: at_status(FailStep::AccountsReply),
-        },
+        dialog: PlacedDialog::new(rt.alloc(), dialog)?,
     };
     let line =
         "{\"call\":1,\"detail\":\"status\",\"dialog\":\"mismatch\",\"line\":7,\"out\":\"dialog\",\"provider\":0,\"site\":\"rp.example\",\"step\":\"accounts-reply\"}\n";

@@ -107,7 +107,11 @@ fn copy_of(alloc: Global, text: &str) -> Result<WebUrl, NoRoom> {
 }
 
 fn is_written(url: &WebUrl, text: &str, path: &str, target: &str) -> bool {
-    url.as_str() == text && url.path() == path && url.path_query() == target
+    url.as_str() == text
+        && url.is_text(text)
+        && !url.is_text(path)
+        && url.path() == path
+        && url.path_query() == target
 }
 
 fn has_parts(alloc: Global, line: &str) -> Result<bool, Fail> {

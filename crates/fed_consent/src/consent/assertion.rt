@@ -10,7 +10,6 @@ use std::alloc::Global;
 use std::marker::Model;
 
 /// A request for a token (FedCM, "The identity assertion endpoint"). Only `Consent::spend` makes one. Contracts see its fields.
-#[derive(Drop)]
 pub struct AssertionAsk {
     to: WebUrl,
     origin: Origin,
@@ -20,6 +19,22 @@ pub struct AssertionAsk {
     account: Text,
     disclosure: bool,
     manner: Manner,
+}
+
+// Written out, so that one function lets it go wherever it ends.
+impl Drop for AssertionAsk {
+    fn drop(self) {
+        let AssertionAsk {
+            to: _,
+            origin: _,
+            client: _,
+            nonce: _,
+            params: _,
+            account: _,
+            disclosure: _,
+            manner: _,
+        } = self;
+    }
 }
 
 impl Model for AssertionAsk {

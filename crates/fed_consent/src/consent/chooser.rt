@@ -10,12 +10,23 @@ use std::marker::Model;
 
 /// Several accounts of a provider, among which the user is to choose (FedCM, "Browser API", the account chooser). Contracts
 /// see them with the call, the place of the provider in its list, and which of them are connected.
-#[derive(Drop)]
 pub struct Chooser {
     call: u32,
     provider: u32,
     accounts: Accounts,
     connected: Items<bool>,
+}
+
+// Written out, so that one function lets it go wherever it ends.
+impl Drop for Chooser {
+    fn drop(self) {
+        let Chooser {
+            call: _,
+            provider: _,
+            accounts: _,
+            connected: _,
+        } = self;
+    }
 }
 
 impl Model for Chooser {

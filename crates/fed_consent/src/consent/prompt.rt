@@ -8,10 +8,19 @@ use std::marker::Model;
 
 /// An account that the user is asked to go on with (FedCM, "Browser API", the account prompt). Contracts see the account with
 /// its call, provider and connection, and whether the prompt waits for metadata.
-#[derive(Drop)]
 pub struct Prompt {
     pub(super) picked: Picked,
     pub(super) waits: bool,
+}
+
+// Written out, so that one function lets it go wherever it ends.
+impl Drop for Prompt {
+    fn drop(self) {
+        let Prompt {
+            picked: _,
+            waits: _,
+        } = self;
+    }
 }
 
 impl Model for Prompt {

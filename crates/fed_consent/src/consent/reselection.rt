@@ -11,11 +11,21 @@ use std::marker::Model;
 
 /// The account that the rules of reselection name (FedCM, "auto re-authentication"; the rules are this profile's own). Contracts
 /// see it with the call and the place of the provider in its list; it is connected.
-#[derive(Drop)]
 pub struct Reselection {
     call: u32,
     provider: u32,
     account: Account,
+}
+
+// Written out, so that one function lets it go wherever it ends.
+impl Drop for Reselection {
+    fn drop(self) {
+        let Reselection {
+            call: _,
+            provider: _,
+            account: _,
+        } = self;
+    }
 }
 
 impl Model for Reselection {

@@ -8,7 +8,6 @@ use fed_io::Text;
 use fed_origin::{Origin, ReplyKind, WebUrl};
 
 /// A request of a call, with the URL that it goes to (FedCM, "Identity provider HTTP API").
-#[derive(Drop)]
 pub enum Ask {
     /// For the well-known file of the configuration URL's site.
     WellKnown {
@@ -37,6 +36,29 @@ pub enum Ask {
         hint: Text,
         origin: Origin,
     },
+}
+
+// Written out, so that one function lets it go wherever it ends.
+impl Drop for Ask {
+    fn drop(self) {
+        match self {
+            Ask::WellKnown { to: _ }
+            | Ask::Config { to: _ }
+            | Ask::Accounts { to: _ }
+            | Ask::Metadata {
+                to: _,
+                client: _,
+                origin: _,
+            }
+            | Ask::Assertion(_)
+            | Ask::Disconnect {
+                to: _,
+                client: _,
+                hint: _,
+                origin: _,
+            } => {}
+        }
+    }
 }
 
 impl Ask {

@@ -1,7 +1,7 @@
 //! What a call does.
 ghost use Rattle.std.specs.Prelude.{◌≡◌, [], ◌∷◌, IfOk};
 
-use super::{Ask, Dialog, Finish, Why};
+use super::{Ask, Dialog, Finish, PlacedDialog, Why};
 use fed_io::{Items, NoRoom};
 use fed_origin::{LoginStatus, Origin, Triple, WebUrl};
 use std::alloc::Global;
@@ -15,7 +15,7 @@ pub enum Effect {
     /// A request to the provider at this place in the call's list.
     Send(u32, Ask),
     /// A dialog is shown.
-    Dialog(Dialog),
+    Dialog(PlacedDialog),
     /// The login window of the provider at this place in the call's list opens at this URL.
     Window(u32, WebUrl),
     /// The login status of a provider's origin is set.
@@ -35,13 +35,18 @@ pub enum Effect {
 }
 
 impl Effect {
+    /// A dialog is shown.
+    pub fn shows(alloc: Global, dialog: Dialog) -> Result<Effect, NoRoom>
+        ensures { IfOk result (λ effect. effect ≡ Effect.Dialog dialog) }
+    {
+        Ok(Effect::Dialog(PlacedDialog::new(alloc, dialog)?))
+    }
+
     /// All that a call does, where it does this alone.
     pub fn alone(self, alloc: Global) -> Result<Items<Effect>, NoRoom>
         ensures { IfOk result (λ effects. effects ≡ self ∷ []) }
     {
-        let mut effects = Items::new(alloc);
-        effects.push(self)?;
-        Ok(effects)
+        Ok(Items::from_vec(Vec::from_array(alloc, [self])?))
     }
 
     /// All that a call does, where it does this and then the other.

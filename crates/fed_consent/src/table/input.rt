@@ -4,7 +4,6 @@ use fed_io::{Bytes, Text};
 use fed_origin::ReplyKind;
 
 /// What a call that began can take (this profile's own).
-#[derive(Drop)]
 pub enum Input {
     /// The bytes that came for a request of this kind to the provider at this place in the call's list. No bytes stand for a
     /// connection that gave nothing.
@@ -30,4 +29,27 @@ pub enum Input {
     Resume,
     /// The page aborted the call.
     Abort,
+}
+
+// Written out, so that one function lets it go wherever it ends.
+impl Drop for Input {
+    fn drop(self) {
+        match self {
+            Input::Reply {
+                provider: _,
+                kind: _,
+                raw: _,
+            }
+            | Input::Choose {
+                provider: _,
+                account: _,
+            }
+            | Input::GoOn
+            | Input::Cancel
+            | Input::SignIn
+            | Input::Shut
+            | Input::Resume
+            | Input::Abort => {}
+        }
+    }
 }
