@@ -52,7 +52,7 @@ pub enum Dialog {
     },
 }
 
-/// A dialog in a place of its own: it is more than twice as large as all else that a call does, and what a call does is moved often.
+/// A dialog in a place of its own, so that an effect and a record, which are moved often, have no room for a whole one.
 /// Contracts see the dialog.
 #[derive(Drop)]
 pub struct PlacedDialog {
