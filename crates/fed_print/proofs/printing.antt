@@ -1,2 +1,3 @@
 -- What a printer writes.
 pub mod Pieces
+pub mod Requests

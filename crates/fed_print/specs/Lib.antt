@@ -3,5 +3,6 @@ pub mod Dialogs
 pub mod Lines
 pub mod Object
 pub mod Objects
+pub mod Pieces
 pub mod Records
 pub mod Tokens

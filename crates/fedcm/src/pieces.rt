@@ -13,6 +13,7 @@ use crate::run::{put, take_line};
 use crate::status::Status;
 use crate::stop::{Met, Stop};
 use fed_io::{Sink, Source, Steps};
+use fed_print::RecordLines;
 use fed_script::{LineCause, ScriptReader};
 use fed_session::Session;
 use std::alloc::Global;
@@ -24,7 +25,7 @@ fn take_piece<K: Sink, L: Ledger>(
     reader: &mut ScriptReader,
     session: &mut Option<Session>,
     sink: &mut K,
-    text: &mut Vec<u8>,
+    lines: &mut RecordLines,
     steps: &mut Steps<L>,
     piece: &[u8],
 ) -> Result<Option<(u32, LineCause)>, Stop>
@@ -44,7 +45,7 @@ fn take_piece<K: Sink, L: Ledger>(
 {
     let mut rest = piece;
     while let Some((line, further)) = reader.next(rest)? {
-        match take_line(alloc, session, sink, text, steps, line) {
+        match take_line(alloc, session, sink, lines, steps, line) {
             Err(stop) => return Err(stop),
             Ok(Some(bad)) => return Ok(Some(bad)),
             Ok(None) => {}
@@ -61,7 +62,7 @@ pub fn take_pieces<S: Source, K: Sink, L: Ledger>(
     sink: &mut K,
     reader: &mut ScriptReader,
     session: &mut Option<Session>,
-    text: &mut Vec<u8>,
+    lines: &mut RecordLines,
     steps: &mut Steps<L>,
 ) -> Result<Met, Stop>
     requires { IsAt reader.old session.old (K.taken sink.old) (K.taken sink.old) [] }
@@ -83,7 +84,7 @@ pub fn take_pieces<S: Source, K: Sink, L: Ledger>(
             Ok(0) => return Ok(Met::End),
             Ok(n) => n,
         };
-        match take_piece(alloc, reader, session, sink, text, steps, &buffer[..got]) {
+        match take_piece(alloc, reader, session, sink, lines, steps, &buffer[..got]) {
             Err(stop) => return Err(stop),
             Ok(Some((number, cause))) => return Ok(Met::Bad(number, cause)),
             Ok(None) => {}
@@ -103,7 +104,7 @@ pub fn take_last<K: Sink, L: Ledger>(
     reader: &mut ScriptReader,
     session: &mut Option<Session>,
     sink: &mut K,
-    text: &mut Vec<u8>,
+    lines: &mut RecordLines,
     steps: &mut Steps<L>,
 ) -> Result<Option<(u32, LineCause)>, Stop>
     requires { (start : Option (List ℕ)) × (bytes : List ℕ) × IsAt reader.old session.old start (K.taken sink.old) bytes }
@@ -118,7 +119,7 @@ pub fn take_last<K: Sink, L: Ledger>(
     match reader.last() {
         Err(_) => Err(Stop::NoRoom),
         Ok(None) => Ok(None),
-        Ok(Some(line)) => match take_line(alloc, session, sink, text, steps, line) {
+        Ok(Some(line)) => match take_line(alloc, session, sink, lines, steps, line) {
             Err(stop) => Err(stop),
             Ok(bad) => Ok(bad),
         },
@@ -131,7 +132,6 @@ pub fn put_last<K: Sink>(
     events: u32,
     bad: Option<(u32, LineCause)>,
     sink: &mut K,
-    text: &mut Vec<u8>,
 ) -> Result<Status, Stop>
     ensures status { IfOk result (λ status. status ≡ end_status bad) }
     ensures ok { OnOk result (Appends (K.taken sink.old) (K.taken sink.new) (last_text events bad)) }
@@ -140,15 +140,15 @@ pub fn put_last<K: Sink>(
     ensures fault { IsErrOf result Stop.WriteFault → Rose (K.faults sink.old) (K.faults sink.new) }
     ensures kind { IsErrOf result Stop.ReadFault → ⊥ }
 {
-    text.clear();
+    let mut text = Vec::new(alloc);
     match bad {
         None => {
-            print_end(alloc, events, text)?;
+            print_end(alloc, events, &mut text)?;
             put(sink, text.as_slice())?;
             Ok(Status::Done)
         }
         Some((number, cause)) => {
-            print_bad(alloc, number, cause, text)?;
+            print_bad(alloc, number, cause, &mut text)?;
             put(sink, text.as_slice())?;
             Ok(Status::BadScript)
         }

@@ -1,26 +1,15 @@
-//! The lines of records, of a bad script and of the end.
+//! The lines of the end, of a bad script and of a test of twins.
 ghost use Rattle.std.specs.Prelude.{◌≡◌, ◌++◌, OnOk, OnErr, option_map};
 ghost use Rattle.std.specs.Option.{option_copied};
-ghost use Rattle.fed_print.specs.Lines.{line_of, text_of};
+ghost use Rattle.fed_print.specs.Lines.{line_of};
 ghost use Rattle.fed_script.specs.Cause.{member_named, name_text, pair_member_named};
 ghost use Rattle.fedcm.specs.Text as spec;
 
 use fed_io::NoRoom;
-use fed_print::{Object, print};
+use fed_print::Object;
 use fed_script::{LineCause, PairCause, PairStop};
-use fed_trace::Out;
 use fed_twin::TwinFault;
 use std::alloc::Global;
-
-/// Appends the lines of records, in their order.
-pub fn print_all(alloc: Global, outs: &[Out], text: &mut Vec<u8>) -> Result<(), NoRoom>
-    ensures { OnOk result (text.new.items ≡ text.old.items ++ text_of outs.now) }
-{
-    for out in outs {
-        print(alloc, out, text)?;
-    }
-    Ok(())
-}
 
 /// Appends the line for the end of a script with so many events. On want of memory the text is unchanged.
 pub fn print_end(alloc: Global, events: u32, text: &mut Vec<u8>) -> Result<(), NoRoom>

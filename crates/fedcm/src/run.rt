@@ -11,9 +11,9 @@ ghost use Rattle.fed_trace.specs.Row.{with_event};
 ghost use Rattle.fed_trace.specs.Trace.{Trace};
 ghost use Rattle.fedcm.specs.Told.{Told, At, tell, event_text, line_text, bad_of};
 
-use crate::print::print_all;
 use crate::stop::Stop;
 use fed_io::{NoRoom, Sink, Steps, put_all};
+use fed_print::RecordLines;
 use fed_script::{Event, Header, Line, LineCause};
 use fed_session::Session;
 use std::alloc::Global;
@@ -33,12 +33,11 @@ pub fn put<K: Sink>(sink: &mut K, text: &[u8]) -> Result<(), Stop>
     }
 }
 
-// Takes an event, and puts its records. The text is memory that is used again.
+// Takes an event, and puts its records. The lines are memory that is used again.
 fn take_event<K: Sink, L: Ledger>(
-    alloc: Global,
     session: &mut Session,
     sink: &mut K,
-    text: &mut Vec<u8>,
+    lines: &mut RecordLines,
     steps: &mut Steps<L>,
     number: u32,
     event: &Event,
@@ -55,10 +54,10 @@ fn take_event<K: Sink, L: Ledger>(
     ensures fault { IsErrOf result Stop.WriteFault → Rose (K.faults sink.old) (K.faults sink.new) }
     ensures kind { IsErrOf result Stop.ReadFault → ⊥ }
 {
-    text.clear();
+    lines.clear();
     let outs = session.step(number, event, steps)?;
-    print_all(alloc, outs.as_slice(), text)?;
-    put(sink, text.as_slice())
+    lines.push_all(outs.as_slice())?;
+    put(sink, lines.as_slice())
 }
 
 // Begins the session of a header.
@@ -84,7 +83,7 @@ pub fn take_line<K: Sink, L: Ledger>(
     alloc: Global,
     session: &mut Option<Session>,
     sink: &mut K,
-    text: &mut Vec<u8>,
+    lines: &mut RecordLines,
     steps: &mut Steps<L>,
     line: Line,
 ) -> Result<Option<(u32, LineCause)>, Stop>
@@ -104,7 +103,7 @@ pub fn take_line<K: Sink, L: Ledger>(
         Line::Bad(number, cause) => Ok(Some((*number, *cause))),
         Line::Event(number, event) => match session {
             Some(session) => {
-                take_event(alloc, session, sink, text, steps, *number, event)?;
+                take_event(session, sink, lines, steps, *number, event)?;
                 Ok(None)
             }
             None => Ok(None),

@@ -14,6 +14,7 @@ use crate::read::LIMIT;
 use crate::status::Status;
 use crate::stop::{Met, Stop};
 use fed_io::{Sink, Source, Steps};
+use fed_print::RecordLines;
 use fed_script::ScriptReader;
 use fed_session::Session;
 use std::alloc::Global;
@@ -25,7 +26,7 @@ fn take_end<K: Sink, L: Ledger>(
     reader: &mut ScriptReader,
     session: &mut Option<Session>,
     sink: &mut K,
-    text: &mut Vec<u8>,
+    lines: &mut RecordLines,
     steps: &mut Steps<L>,
 ) -> Result<Status, Stop>
     requires { (start : Option (List ℕ)) × (bytes : List ℕ) × IsAt reader.old session.old start (K.taken sink.old) bytes }
@@ -38,9 +39,9 @@ fn take_end<K: Sink, L: Ledger>(
     ensures fault { IsErrOf result Stop.WriteFault → Rose (K.faults sink.old) (K.faults sink.new) }
     ensures kind { IsErrOf result Stop.ReadFault → ⊥ }
 {
-    match take_last(alloc, reader, session, sink, text, steps) {
+    match take_last(alloc, reader, session, sink, lines, steps) {
         Err(stop) => Err(stop),
-        Ok(bad) => match put_last(alloc, reader.events(), bad, sink, text) {
+        Ok(bad) => match put_last(alloc, reader.events(), bad, sink) {
             Err(stop) => Err(stop),
             Ok(status) => Ok(status),
         },
@@ -54,7 +55,7 @@ fn stream<S: Source, K: Sink, L: Ledger>(
     sink: &mut K,
     reader: &mut ScriptReader,
     session: &mut Option<Session>,
-    text: &mut Vec<u8>,
+    lines: &mut RecordLines,
     steps: &mut Steps<L>,
 ) -> Result<Status, Stop>
     requires { IsAt reader.old session.old (K.taken sink.old) (K.taken sink.old) [] }
@@ -66,14 +67,14 @@ fn stream<S: Source, K: Sink, L: Ledger>(
     ensures source_faults { S.faults source.old ≤ S.faults source.new }
     ensures sink_faults { K.faults sink.old ≤ K.faults sink.new }
 {
-    match take_pieces(alloc, source, sink, reader, session, text, steps) {
+    match take_pieces(alloc, source, sink, reader, session, lines, steps) {
         Err(stop) => Err(stop),
         Ok(Met::TooLong) => Ok(Status::TooLong),
-        Ok(Met::End) => match take_end(alloc, reader, session, sink, text, steps) {
+        Ok(Met::End) => match take_end(alloc, reader, session, sink, lines, steps) {
             Err(stop) => Err(stop),
             Ok(status) => Ok(status),
         },
-        Ok(Met::Bad(number, cause)) => match put_last(alloc, 0, Some((number, cause)), sink, text) {
+        Ok(Met::Bad(number, cause)) => match put_last(alloc, 0, Some((number, cause)), sink) {
             Err(stop) => Err(stop),
             Ok(status) => Ok(status),
         },
@@ -109,14 +110,14 @@ pub fn run<S: Source, K: Sink, L: Ledger>(
 {
     let mut reader = ScriptReader::new(alloc);
     let mut session = None;
-    let mut text = Vec::new(alloc);
+    let mut lines = RecordLines::new(alloc);
     match stream(
         alloc,
         source,
         sink,
         &mut reader,
         &mut session,
-        &mut text,
+        &mut lines,
         steps,
     ) {
         Ok(status) => status,

@@ -15,11 +15,10 @@ ghost use Rattle.fedcm.specs.Make as spec;
 ghost use Rattle.fedcm.specs.Text.{summary_members};
 
 use crate::make::make_script;
-use crate::print::print_all;
 use crate::status::Status;
 use fed_consent::Finish;
 use fed_io::{NoRoom, Sink, Steps, put_all};
-use fed_print::Object;
+use fed_print::{Object, RecordLines};
 use fed_script::{Numbered, Script};
 use fed_session::Session;
 use fed_trace::Out;
@@ -149,9 +148,8 @@ impl Tally {
 
 // Takes an event: its records are written in place of those before, counted, and forgotten.
 fn take_event<L: Ledger>(
-    alloc: Global,
     session: &mut Session,
-    text: &mut Vec<u8>,
+    lines: &mut RecordLines,
     steps: &mut Steps<L>,
     numbered: &Numbered,
     tally: Tally,
@@ -165,9 +163,9 @@ fn take_event<L: Ledger>(
         × (new ≡ spec.tally_of (records_in (with_event T numbered.now.line numbered.now.event).rows))) }
 {
     let outs = session.step(numbered.line, &numbered.event, steps)?;
-    text.clear();
-    print_all(alloc, outs.as_slice(), text)?;
-    tally.with(outs.as_slice(), text.as_slice())
+    lines.clear();
+    lines.push_all(outs.as_slice())?;
+    tally.with(outs.as_slice(), lines.as_slice())
 }
 
 // Takes the events of the script in a session in which nothing happened.
@@ -180,11 +178,11 @@ fn take_events<L: Ledger>(
     requires { Stands session.old (start script.now.header) }
     ensures { IfOk result (λ tally. tally ≡ spec.tally_of (records_in (trace_of script.now).rows)) }
 {
-    let mut text = Vec::new(alloc);
+    let mut lines = RecordLines::new(alloc);
     let mut tally = Tally::none();
     let events = script.events();
     for numbered in events {
-        tally = take_event(alloc, session, &mut text, steps, numbered, tally)?;
+        tally = take_event(session, &mut lines, steps, numbered, tally)?;
     }
     Ok(tally)
 }

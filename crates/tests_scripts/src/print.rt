@@ -2,7 +2,7 @@
 use fed_consent::{Detail, Dialog, FailStep, Failure, Finish, PlacedDialog, Shown, Why};
 use fed_io::{Bytes, Items, NoRoom, Text};
 use fed_origin::{Context, ReplyKind, WebUrl};
-use fed_print::print;
+use fed_print::{RecordLines, print};
 use fed_reply::ReplyStep;
 use fed_trace::Out;
 use std::alloc::Global;
@@ -42,6 +42,54 @@ fn requests_that_are_no_text(rt: HostRuntime) -> Result<(), Fail> {
     let line =
         "{\"call\":1,\"kind\":\"assertion\",\"line\":3,\"out\":\"request\",\"provider\":0,\"raw\":\"R0VUIC/DqQ==\"}\n";
     assert!(rt; is_printed(rt.alloc(), out, line)?);
+    Ok(())
+}
+
+// Requests of each kind twice, then others of the kinds, and bytes that are no text.
+fn many_requests(alloc: Global) -> Result<Vec<Out>, NoRoom> {
+    let mut outs = Vec::new(alloc);
+    for bytes in [
+        b"GET /a\r\n",
+        b"GET /a\r\n",
+        b"GET /b\r\n",
+        b"GET /\xc3\xa9\r",
+        b"GET /a\r\n",
+    ] {
+        for kind in [
+            ReplyKind::WellKnown,
+            ReplyKind::Config,
+            ReplyKind::Accounts,
+            ReplyKind::Metadata,
+            ReplyKind::Assertion,
+            ReplyKind::Disconnect,
+        ] {
+            outs.push(request(alloc, kind, bytes)?)?;
+        }
+        outs.push(Out::Ignored {
+            line: 4,
+            why: Why::NoPage,
+        })?;
+    }
+    Ok(outs)
+}
+
+// Lines that are kept together are those of each record alone, also where a request was written before.
+#[test]
+fn requests_that_were_written_before(rt: HostRuntime) -> Result<(), Fail> {
+    let alloc = rt.alloc();
+    let outs = many_requests(alloc)?;
+    let mut text = Vec::new(alloc);
+    let mut lines = RecordLines::new(alloc);
+    for out in outs.as_slice() {
+        print(alloc, out, &mut text)?;
+        lines.push(out)?;
+    }
+    assert!(rt; text.len() > 2_000);
+    assert!(rt; lines.as_slice() == text.as_slice());
+    lines.clear();
+    assert!(rt; lines.as_slice().is_empty());
+    lines.push_all(outs.as_slice())?;
+    assert!(rt; lines.as_slice() == text.as_slice());
     Ok(())
 }
 

@@ -1,0 +1,167 @@
+//! The lines of records, one behind the other.
+ghost use Rattle.std.specs.Prelude.{◌≡◌, ◌++◌, [], decimal, OnOk};
+ghost use Rattle.fed_print.specs.Lines.{record_line, text_of};
+ghost use Rattle.fed_print.specs.Pieces as spec;
+
+use crate::quoted::Quotes;
+use crate::records::print;
+use fed_io::NoRoom;
+use fed_origin::ReplyKind;
+use fed_trace::Out;
+use itoa::Buffer;
+use std::alloc::Global;
+use std::marker::Model;
+
+fn push_number(text: &mut Vec<u8>, number: u32) -> Result<(), NoRoom>
+    ensures { OnOk result (text.new.items ≡ text.old.items ++ decimal number) }
+{
+    let mut buffer = Buffer::new();
+    text.extend_from_slice(buffer.format(number).as_bytes())?;
+    Ok(())
+}
+
+fn push_call_and_kind(text: &mut Vec<u8>, call: u32, kind: ReplyKind) -> Result<(), NoRoom>
+    ensures { OnOk result (text.new.items ≡ text.old.items ++ spec.call_and_kind call kind) }
+{
+    text.extend_from_slice(b"{\"call\":")?;
+    push_number(text, call)?;
+    text.extend_from_slice(b",\"kind\":\"")?;
+    text.extend_from_slice(kind.as_str().as_bytes())?;
+    Ok(())
+}
+
+fn push_line_and_provider(text: &mut Vec<u8>, line: u32, provider: u32) -> Result<(), NoRoom>
+    ensures { OnOk result (text.new.items ≡ text.old.items ++ spec.line_and_provider line provider) }
+{
+    text.extend_from_slice(b"\",\"line\":")?;
+    push_number(text, line)?;
+    text.extend_from_slice(b",\"out\":\"request\",\"provider\":")?;
+    push_number(text, provider)?;
+    Ok(())
+}
+
+fn push_bytes_and_end(text: &mut Vec<u8>, quoted: &[u8]) -> Result<(), NoRoom>
+    ensures { OnOk result (text.new.items ≡ text.old.items ++ spec.bytes_and_end quoted.now) }
+{
+    text.extend_from_slice(b",\"text\":")?;
+    text.extend_from_slice(quoted)?;
+    text.extend_from_slice(b"}\n")?;
+    Ok(())
+}
+
+// Appends the line of a request whose bytes JSON writes so.
+#[tactic(auto, using(std::proofs::Common::append_assoc), unfolding(crate::specs::Pieces::request_pieces))]
+fn push_quoted(
+    text: &mut Vec<u8>,
+    line: u32,
+    call: u32,
+    provider: u32,
+    kind: ReplyKind,
+    quoted: &[u8],
+) -> Result<(), NoRoom>
+    ensures { OnOk result (text.new.items ≡ text.old.items ++ spec.request_pieces line call provider kind quoted.now) }
+{
+    push_call_and_kind(text, call, kind)?;
+    push_line_and_provider(text, line, provider)?;
+    push_bytes_and_end(text, quoted)?;
+    Ok(())
+}
+
+/// The lines of records. Contracts see them as their bytes. Their memory is used again, and the bytes of the last requests of some
+/// kinds are kept as JSON writes them, since the next call mostly sends the same.
+pub struct RecordLines {
+    alloc: Global,
+    text: Vec<u8>,
+    quotes: Quotes,
+}
+
+// Written out, so that one function lets them go wherever they end.
+impl Drop for RecordLines {
+    fn drop(self) {
+        let RecordLines {
+            alloc: _,
+            text: _,
+            quotes: _,
+        } = self;
+    }
+}
+
+impl Model for RecordLines {
+    ghost use Rattle.std.specs.Prelude.{List, ℕ};
+
+    ghost Value = { List ℕ };
+
+    ghost view = { λ l. l.text.items };
+}
+
+impl RecordLines {
+    /// No lines. It takes no memory.
+    pub fn new(alloc: Global) -> RecordLines
+        ensures { result ≡ [] }
+    {
+        RecordLines {
+            alloc,
+            text: Vec::new(alloc),
+            quotes: Quotes::none(),
+        }
+    }
+
+    /// No lines any more. It takes no memory.
+    pub fn clear(&mut self)
+        ensures { self.new ≡ [] }
+    {
+        self.text.clear();
+    }
+
+    /// The lines. It takes no memory.
+    pub fn as_slice(&self) -> &[u8]
+        ensures { result.now ≡ self.now }
+    {
+        self.text.as_slice()
+    }
+
+    // Keeps the bytes of a request as JSON writes them, where they are not kept yet.
+    fn learn(&mut self, kind: ReplyKind, bytes: &[u8]) -> Result<(), NoRoom>
+        ensures { self.new ≡ self.old }
+    {
+        if self.quotes.find(kind, bytes).is_some() {
+            return Ok(());
+        }
+        self.quotes.keep(self.alloc, kind, bytes)
+    }
+
+    /// Appends the line of a record, as `print` does. On want of memory a part of the line may stand behind the lines.
+    #[tactic(auto, using(crate::proofs::printing::Requests::request_written))]
+    pub fn push(&mut self, out: &Out) -> Result<(), NoRoom>
+        ensures { OnOk result (self.new ≡ self.old ++ record_line out.now) }
+    {
+        let Out::Request {
+            line,
+            call,
+            provider,
+            kind,
+            bytes,
+        } = out
+        else {
+            return print(self.alloc, out, &mut self.text);
+        };
+        self.learn(*kind, bytes.as_slice())?;
+        match self.quotes.find(*kind, bytes.as_slice()) {
+            Some(quoted) => {
+                push_quoted(&mut self.text, *line, *call, *provider, *kind, quoted)?;
+                Ok(())
+            }
+            None => print(self.alloc, out, &mut self.text),
+        }
+    }
+
+    /// Appends the lines of records, in their order. On want of memory a part of them may stand behind the lines.
+    pub fn push_all(&mut self, outs: &[Out]) -> Result<(), NoRoom>
+        ensures { OnOk result (self.new ≡ self.old ++ text_of outs.now) }
+    {
+        for out in outs {
+            self.push(out)?;
+        }
+        Ok(())
+    }
+}

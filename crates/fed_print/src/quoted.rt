@@ -1,0 +1,116 @@
+//! Requests whose bytes are kept as JSON writes them.
+ghost use Rattle.std.specs.Prelude.{◌≡◌, IfOk, IfSome, Some};
+ghost use Rattle.json.specs.Print.{quoted};
+ghost use Rattle.fed_print.specs.Records.{ascii_text};
+
+use crate::ascii::ascii_text;
+use fed_io::{Bytes, NoRoom};
+use fed_origin::ReplyKind;
+use json::Writer;
+use std::alloc::Global;
+use std::marker::Model;
+
+// Bytes that are a text, and that text as JSON writes it.
+#[derive(Drop)]
+struct Quoted {
+    bytes: Bytes,
+    text: Vec<u8>,
+}
+
+impl Model for Quoted {
+    ghost use Rattle.std.specs.Prelude.{List, ℕ, ◌≡◌, Some};
+
+    ghost Value = { List ℕ };
+
+    ghost use Rattle.json.specs.Print.{quoted};
+    ghost use Rattle.fed_print.specs.Records.{ascii_text};
+
+    ghost view = { λ q. q.bytes };
+
+    ghost invariant = { λ q. (ascii_text q.bytes ≡ Some q.bytes) × (q.text.items ≡ quoted q.bytes) };
+}
+
+// A text as JSON writes it.
+#[tactic(auto, using(crate::proofs::printing::Requests::string_alone))]
+fn quoted_text(alloc: Global, text: &str) -> Result<Vec<u8>, NoRoom>
+    ensures { IfOk result (λ written. written.items ≡ quoted text.now) }
+{
+    let mut writer = Writer::new(Vec::new(alloc));
+    writer.string(text)?;
+    Ok(writer.into_inner())
+}
+
+impl Quoted {
+    // The bytes as JSON writes them, where they are a text.
+    fn of(alloc: Global, bytes: &[u8]) -> Result<Option<Quoted>, NoRoom>
+        ensures { IfOk result (λ found. found ≡ ascii_text bytes.now) }
+    {
+        let Some(text) = ascii_text(bytes) else {
+            return Ok(None);
+        };
+        Ok(Some(Quoted {
+            bytes: Bytes::of(alloc, bytes)?,
+            text: quoted_text(alloc, text)?,
+        }))
+    }
+
+    // The text, where these are its bytes.
+    fn text_of(&self, bytes: &[u8]) -> Option<&[u8]>
+        ensures { IfSome result (λ text. (ascii_text bytes.now ≡ Some bytes.now) × (text.now ≡ quoted bytes.now)) }
+    {
+        if self.bytes.as_slice() == bytes {
+            Some(self.text.as_slice())
+        } else {
+            None
+        }
+    }
+}
+
+/// The last requests of the kinds that are the same for each call of a provider. To write their bytes as JSON, with an escape
+/// for each line end, takes some 1,500 instructions a request.
+#[derive(Drop)]
+pub(crate) struct Quotes {
+    wellknown: Option<Quoted>,
+    config: Option<Quoted>,
+    accounts: Option<Quoted>,
+}
+
+impl Quotes {
+    /// Nothing is kept.
+    pub(crate) fn none() -> Quotes {
+        Quotes {
+            wellknown: None,
+            config: None,
+            accounts: None,
+        }
+    }
+
+    /// The bytes as JSON writes them, where the last request of the kind had these.
+    pub(crate) fn find(&self, kind: ReplyKind, bytes: &[u8]) -> Option<&[u8]>
+        ensures { IfSome result (λ text. (ascii_text bytes.now ≡ Some bytes.now) × (text.now ≡ quoted bytes.now)) }
+    {
+        let last = match kind {
+            ReplyKind::WellKnown => &self.wellknown,
+            ReplyKind::Config => &self.config,
+            ReplyKind::Accounts => &self.accounts,
+            _ => return None,
+        };
+        last.as_ref()?.text_of(bytes)
+    }
+
+    /// Keeps the bytes of a request of the kind, where it is one that is kept and they are a text.
+    pub(crate) fn keep(
+        &mut self,
+        alloc: Global,
+        kind: ReplyKind,
+        bytes: &[u8],
+    ) -> Result<(), NoRoom> {
+        match kind {
+            ReplyKind::WellKnown => self.wellknown = Quoted::of(alloc, bytes)?,
+            ReplyKind::Config => self.config = Quoted::of(alloc, bytes)?,
+            ReplyKind::Accounts => self.accounts = Quoted::of(alloc, bytes)?,
+            _ => {}
+        }
+        Ok(())
+    }
+}
