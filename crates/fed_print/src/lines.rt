@@ -15,6 +15,11 @@ use std::marker::Model;
 fn push_number(text: &mut Vec<u8>, number: u32) -> Result<(), NoRoom>
     ensures { OnOk result (text.new.items ≡ text.old.items ++ decimal number) }
 {
+    // The place of a provider is mostly this one.
+    if number == 0 {
+        text.push(b'0')?;
+        return Ok(());
+    }
     let mut buffer = Buffer::new();
     text.extend_from_slice(buffer.format(number).as_bytes())?;
     Ok(())
@@ -120,16 +125,6 @@ impl RecordLines {
         self.text.as_slice()
     }
 
-    // Keeps the bytes of a request as JSON writes them, where they are not kept yet.
-    fn learn(&mut self, kind: ReplyKind, bytes: &[u8]) -> Result<(), NoRoom>
-        ensures { self.new ≡ self.old }
-    {
-        if self.quotes.find(kind, bytes).is_some() {
-            return Ok(());
-        }
-        self.quotes.keep(self.alloc, kind, bytes)
-    }
-
     /// Appends the line of a record, as `print` does. On want of memory a part of the line may stand behind the lines.
     #[tactic(auto, using(crate::proofs::printing::Requests::request_written))]
     pub fn push(&mut self, out: &Out) -> Result<(), NoRoom>
@@ -145,7 +140,11 @@ impl RecordLines {
         else {
             return print(self.alloc, out, &mut self.text);
         };
-        self.learn(*kind, bytes.as_slice())?;
+        if let Some(quoted) = self.quotes.find(*kind, bytes.as_slice()) {
+            push_quoted(&mut self.text, *line, *call, *provider, *kind, quoted)?;
+            return Ok(());
+        }
+        self.quotes.keep(self.alloc, *kind, bytes.as_slice())?;
         match self.quotes.find(*kind, bytes.as_slice()) {
             Some(quoted) => {
                 push_quoted(&mut self.text, *line, *call, *provider, *kind, quoted)?;

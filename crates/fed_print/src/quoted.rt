@@ -4,7 +4,7 @@ ghost use Rattle.json.specs.Print.{quoted};
 ghost use Rattle.fed_print.specs.Records.{ascii_text};
 
 use crate::ascii::ascii_text;
-use fed_io::{Bytes, NoRoom};
+use fed_io::NoRoom;
 use fed_origin::ReplyKind;
 use json::Writer;
 use std::alloc::Global;
@@ -13,7 +13,7 @@ use std::marker::Model;
 // Bytes that are a text, and that text as JSON writes it.
 #[derive(Drop)]
 struct Quoted {
-    bytes: Bytes,
+    bytes: Vec<u8>,
     text: Vec<u8>,
 }
 
@@ -25,32 +25,53 @@ impl Model for Quoted {
     ghost use Rattle.json.specs.Print.{quoted};
     ghost use Rattle.fed_print.specs.Records.{ascii_text};
 
-    ghost view = { λ q. q.bytes };
+    ghost view = { λ q. q.bytes.items };
 
-    ghost invariant = { λ q. (ascii_text q.bytes ≡ Some q.bytes) × (q.text.items ≡ quoted q.bytes) };
+    ghost invariant = { λ q. (ascii_text q.bytes.items ≡ Some q.bytes.items) × (q.text.items ≡ quoted q.bytes.items) };
 }
 
-// A text as JSON writes it.
+// A text as JSON writes it, in memory that is used again.
 #[tactic(auto, using(crate::proofs::printing::Requests::string_alone))]
-fn quoted_text(alloc: Global, text: &str) -> Result<Vec<u8>, NoRoom>
+fn quoted_text(memory: Vec<u8>, text: &str) -> Result<Vec<u8>, NoRoom>
     ensures { IfOk result (λ written. written.items ≡ quoted text.now) }
 {
-    let mut writer = Writer::new(Vec::new(alloc));
+    let mut memory = memory;
+    memory.clear();
+    let mut writer = Writer::new(memory);
     writer.string(text)?;
     Ok(writer.into_inner())
 }
 
+// A copy of bytes, in memory that is used again.
+fn copied(memory: Vec<u8>, bytes: &[u8]) -> Result<Vec<u8>, NoRoom>
+    ensures { IfOk result (λ copy. copy.items ≡ bytes.now) }
+{
+    let mut copy = memory;
+    copy.clear();
+    copy.extend_from_slice(bytes)?;
+    Ok(copy)
+}
+
 impl Quoted {
-    // The bytes as JSON writes them, where they are a text.
-    fn of(alloc: Global, bytes: &[u8]) -> Result<Option<Quoted>, NoRoom>
+    // The memory of what was kept.
+    fn memory(alloc: Global, last: Option<Quoted>) -> (Vec<u8>, Vec<u8>) {
+        match last {
+            Some(Quoted { bytes, text }) => (bytes, text),
+            None => (Vec::new(alloc), Vec::new(alloc)),
+        }
+    }
+
+    // The bytes as JSON writes them, where they are a text, in the memory of what was kept last.
+    fn of(alloc: Global, last: Option<Quoted>, bytes: &[u8]) -> Result<Option<Quoted>, NoRoom>
         ensures { IfOk result (λ found. found ≡ ascii_text bytes.now) }
     {
         let Some(text) = ascii_text(bytes) else {
             return Ok(None);
         };
+        let (first, second) = Quoted::memory(alloc, last);
         Ok(Some(Quoted {
-            bytes: Bytes::of(alloc, bytes)?,
-            text: quoted_text(alloc, text)?,
+            bytes: copied(first, bytes)?,
+            text: quoted_text(second, text)?,
         }))
     }
 
@@ -66,8 +87,8 @@ impl Quoted {
     }
 }
 
-/// The last requests of the kinds that are the same for each call of a provider. To write their bytes as JSON, with an escape
-/// for each line end, takes some 1,500 instructions a request.
+/// The last requests of the kinds that are the same for each call of a provider. To make such a record anew, with an escape for each
+/// line end, takes some 2,000 instructions.
 #[derive(Drop)]
 pub(crate) struct Quotes {
     wellknown: Option<Quoted>,
@@ -106,9 +127,18 @@ impl Quotes {
         bytes: &[u8],
     ) -> Result<(), NoRoom> {
         match kind {
-            ReplyKind::WellKnown => self.wellknown = Quoted::of(alloc, bytes)?,
-            ReplyKind::Config => self.config = Quoted::of(alloc, bytes)?,
-            ReplyKind::Accounts => self.accounts = Quoted::of(alloc, bytes)?,
+            ReplyKind::WellKnown => {
+                let last = self.wellknown.take();
+                self.wellknown = Quoted::of(alloc, last, bytes)?;
+            }
+            ReplyKind::Config => {
+                let last = self.config.take();
+                self.config = Quoted::of(alloc, last, bytes)?;
+            }
+            ReplyKind::Accounts => {
+                let last = self.accounts.take();
+                self.accounts = Quoted::of(alloc, last, bytes)?;
+            }
             _ => {}
         }
         Ok(())

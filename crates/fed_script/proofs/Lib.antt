@@ -1,5 +1,6 @@
 pub mod events
 pub mod lines
+pub mod plainly
 pub mod scripts
 pub mod halves
 pub mod pieces

@@ -115,9 +115,12 @@ options_of members provider =
       providers = provider ∷ [];
     }
 
--- the get that a line names
-abbrev pub get_of : Data → Result Event LineCause
-get_of d = do
-  members ← get_members d
+-- the get with these members
+abbrev pub get_by : GetMembers → Result Event LineCause
+get_by members = do
   config ← url_of members.provider.config
   Ok (Get members.page members.call (options_of members.options (provider_of config members.provider)))
+
+-- the get that a line names
+abbrev pub get_of : Data → Result Event LineCause
+get_of d = get_members d >>= get_by

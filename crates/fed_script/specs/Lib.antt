@@ -13,6 +13,7 @@ pub mod Options
 pub mod Get
 pub mod Used
 pub mod Line
+pub mod Plain
 pub mod Script
 pub mod Pieces
 pub mod Reader

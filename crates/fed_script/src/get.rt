@@ -17,24 +17,24 @@ use fed_json::Part;
 use fed_origin::{GetOptions, ProviderOptions, WebUrl};
 use std::alloc::Global;
 
-// The members of an entry of `providers`, its URL as text.
+/// The members of an entry of `providers`, its URL as text.
 #[derive(Clone, Copy, Drop)]
-struct ProviderMembers<'a> {
-    config: &'a str,
-    client: &'a str,
-    nonce: Option<&'a str>,
-    login_hint: Option<&'a str>,
-    domain_hint: Option<&'a str>,
-    params: Option<&'a str>,
+pub(crate) struct ProviderMembers<'a> {
+    pub config: &'a str,
+    pub client: &'a str,
+    pub nonce: Option<&'a str>,
+    pub login_hint: Option<&'a str>,
+    pub domain_hint: Option<&'a str>,
+    pub params: Option<&'a str>,
 }
 
-// The members of a get.
+/// The members of a get.
 #[derive(Clone, Copy, Drop)]
-struct GetMembers<'a> {
-    page: u32,
-    call: u32,
-    options: OptionMembers,
-    provider: ProviderMembers<'a>,
+pub(crate) struct GetMembers<'a> {
+    pub page: u32,
+    pub call: u32,
+    pub options: OptionMembers,
+    pub provider: ProviderMembers<'a>,
 }
 
 // The entry of `providers`, of which there is exactly one.
@@ -137,14 +137,23 @@ pub(crate) fn get(
 {
     match get_members(d) {
         Err(cause) => Err(Fault::Step(cause)),
-        Ok(members) => {
-            let config = last.read(alloc, members.provider.config)?;
-            let provider = provider_of(alloc, config, &members.provider)?;
-            Ok(Event::Get {
-                page: members.page,
-                call: members.call,
-                options: options_of(alloc, members.options, provider)?,
-            })
-        }
+        Ok(members) => get_by(alloc, last, &members),
     }
+}
+
+/// The get with these members.
+pub(crate) fn get_by(
+    alloc: Global,
+    last: &mut LastConfig,
+    members: &GetMembers<'_>,
+) -> Result<Event, Fault<LineCause>>
+    ensures { Answers result (spec.get_by (spec.get_seen members.now)) }
+{
+    let config = last.read(alloc, members.provider.config)?;
+    let provider = provider_of(alloc, config, &members.provider)?;
+    Ok(Event::Get {
+        page: members.page,
+        call: members.call,
+        options: options_of(alloc, members.options, provider)?,
+    })
 }

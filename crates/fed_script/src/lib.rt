@@ -16,6 +16,7 @@ mod load;
 mod member;
 mod options;
 mod pair;
+mod plain;
 mod raw;
 mod reader;
 mod reading;

@@ -12,10 +12,11 @@ use crate::choose::choose;
 use crate::config::LastConfig;
 use crate::disconnect::disconnect;
 use crate::event::Event;
-use crate::get::get;
+use crate::get::{get, get_by};
 use crate::have::have_named;
-use crate::load::load;
+use crate::load::{load, load_by};
 use crate::member::{member, tape_of};
+use crate::plain::{PlainLine, plain_line};
 use crate::reply::reply;
 use crate::single::{
     abort, at, cancel, close_page, go_on, idp_close, prevent, shut_window, sign_in,
@@ -72,6 +73,25 @@ fn event_of_kind(
 
 /// The event that a line names, before the lines before it are looked at; `last` is the configuration URL before it.
 pub(crate) fn event_named(
+    alloc: Global,
+    scratch: &mut Scratch,
+    last: &mut LastConfig,
+    line: &[u8],
+) -> Result<Event, Fault<LineCause>>
+    ensures { Answers result (spec.event_named line.now) }
+{
+    match plain_line(line) {
+        Some(PlainLine::Load { page, url }) => load_by(alloc, page, url),
+        Some(PlainLine::Get(members)) => get_by(alloc, last, &members),
+        Some(PlainLine::ClosePage(page)) => Ok(Event::ClosePage { page }),
+        Some(PlainLine::GoOn(call)) => Ok(Event::GoOn { call }),
+        None => event_of_tape(alloc, scratch, last, line),
+    }
+}
+
+// The same by the tape of the line.
+#[inline(never)]
+fn event_of_tape(
     alloc: Global,
     scratch: &mut Scratch,
     last: &mut LastConfig,

@@ -21,3 +21,12 @@ pub(crate) fn load(alloc: Global, d: &Part<'_, '_>) -> Result<Event, Fault<LineC
     let url = web_url(alloc, url)?;
     Ok(Event::Load { page, url, raw })
 }
+
+/// The load of a page whose URL is a text, without a reply.
+pub(crate) fn load_by(alloc: Global, page: u32, url: &str) -> Result<Event, Fault<LineCause>>
+    ensures { Answers result (spec.load_by page url.now) }
+{
+    let url = web_url(alloc, url)?;
+    let raw = None;
+    Ok(Event::Load { page, url, raw })
+}

@@ -194,13 +194,21 @@ ok | {"do":"get","mediation":null,"mode":null,"activation":null,"context":null,"
 ok | {"do":"load","page":2,"url":"http://rp.example/"}
 ok | {"do":"get","page":1,"call":3,"providers":[{"config":"http://localhost/f","client":""}]}
 ok | {"do":"load","page":1,"url":"https://rp.example/"}
-ok | {"d\u006f":"load","page":1,"url":"https:\/\/a","more":[1e308,-0,0.1,-99999999999999999999,{"more":[]}]}"#
+ok | {"d\u006f":"load","page":1,"url":"https:\/\/a","more":[1e308,-0,0.1,-99999999999999999999,{"more":[]}]}
+ok | {"do":"load","page":1,"url":"https:\/\/a\/"}
+ok | {"do":"load","page":0,"url":"https://ä.example/"}
+ok | {"do": "load","page":1,"url":"https://a/"}
+ok | {"do":"get","page":1,"call":4,"providers":[{"config":"https://a/","client":"\u0063"}]}
+ok | {"do":"get","page":1,"call":5,"providers":[{"config":"https://a/","client":"ä"}]}
+ok | {"do":"get","page":1,"call":6,"providers":[{"config":"https://a/","client":""}]}
+ok | {"do":"closepage","page":4294967295}
+ok | {"do":"continue","call":0}"#
     )
 }
 
 #[test]
 fn good_lines(rt: HostRuntime) -> Result<(), Fail> {
-    assert_eq!(rt; taken(rt.alloc(), 1_700_000_000, good_rows())?, ("", 9));
+    assert_eq!(rt; taken(rt.alloc(), 1_700_000_000, good_rows())?, ("", 17));
     Ok(())
 }
 
@@ -257,6 +265,17 @@ member.login_hint | {"do":"get","page":1,"call":1,"providers":[{"config":"","cli
 member.domain_hint | {"do":"get","page":1,"call":1,"providers":[{"config":"","client":"","domain_hint":true,"params":1}]}
 member.params | {"do":"get","page":1,"call":1,"providers":[{"config":"","client":"","params":{}}]}
 bad-url | {"do":"get","page":1,"call":1,"providers":[{"config":"ws://a/","client":""}]}
+not-json | {"do":"load","page":01,"url":"https://a/"}
+not-json | {"do":"load","page":,"url":"https://a/"}
+not-json | {"do":"load","page":1,"url":"https://a/"
+not-json | {"do":"load","page":1,"url":"https://a/"}}
+not-json | {"do":"load","page":1,"url":"https://a/\"}
+not-json | {"do":"get","page":1,"call":2,"providers":[{"config":"https://a/","client":"c"}]
+member.page | {"do":"closepage","page":4294967296}
+not-json | {"do":"closepage","page":1}}
+not-json | {"do":"continue","call":00}
+member.call | {"do":"continue","call":99999999999}
+call-twice | {"do":"get","page":1,"call":1,"providers":[{"config":"https://a/","client":"c"}]}
 call-twice | {"do":"get","page":1,"call":1,"providers":[{"config":"https://accounts.idp.example/fedcm.json","client":"c1","nonce":"n1"}]}"#
 }
 

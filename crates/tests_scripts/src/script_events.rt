@@ -2,7 +2,7 @@
 
 use crate::script::{GET, LOAD, taken};
 use fed_io::Fault;
-use fed_origin::{Context, LoginStatus, Scheme};
+use fed_origin::{Context, LoginStatus, Mediation, Mode, Scheme};
 use fed_script::{Event, Have, LineCause, Used, read_event};
 use std::alloc::Global;
 use std::test::Fail;
@@ -57,6 +57,49 @@ fn is_get(alloc: Global) -> bool {
         Some(event) => gets(&event),
         None => false,
     }
+}
+
+// Whether an event is a get of page 7 and call 89 whose provider names nothing but a configuration and a client.
+fn gets_alone(event: &Event) -> bool {
+    match event {
+        Event::Get {
+            page,
+            call,
+            options,
+        } => match options.providers.as_slice() {
+            [provider] => {
+                (*page, *call) == (7, 89)
+                    && provider.config.as_str() == "https://a.example/f"
+                    && provider.client.as_str() == "c 1"
+                    && provider.nonce.is_none()
+                    && provider.login_hint.is_none()
+                    && provider.domain_hint.is_none()
+                    && provider.params.is_none()
+                    && (options.mediation, options.mode) == (Mediation::Optional, Mode::Passive)
+                    && (options.activation, options.context) == (false, Context::SignIn)
+            }
+            _ => false,
+        },
+        _ => false,
+    }
+}
+
+fn is_get_alone(alloc: Global, line: &str) -> bool {
+    match event(alloc, line) {
+        Some(event) => gets_alone(&event),
+        None => false,
+    }
+}
+
+// A get as JSON writers give it, and the same with a space.
+#[test]
+fn gets_that_name_nothing_else(rt: HostRuntime) {
+    let plain =
+        r#"{"do":"get","page":7,"call":89,"providers":[{"config":"https://a.example/f","client":"c 1"}]}"#;
+    let spaced =
+        r#"{"do":"get", "page":7,"call":89,"providers":[{"config":"https://a.example/f","client":"c 1"}]}"#;
+    assert!(rt; is_get_alone(rt.alloc(), plain));
+    assert!(rt; is_get_alone(rt.alloc(), spaced));
 }
 
 #[test]

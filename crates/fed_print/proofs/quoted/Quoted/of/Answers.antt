@@ -5,7 +5,7 @@ use Rattle.fed_print.proofs.quoted.Quoted.of.Goals as goal
 
 pub invariant_of-result : goal.invariant_of-result
 invariant_of-result c = (
-  text_is_kept c.args.bytes.now c.in-Some.text.now c.in_ok-of.field-0 c.in-Some.ensures c.in_ok-of.ensures,
+  text_is_kept c.args.bytes.now c.in-Some.text.now c.in_ok-copied.field-0.items c.in-Some.ensures c.in_ok-copied.ensures,
   c.in_ok-quoted_text.ensures
-      ∙ ap quoted (text_is_bytes c.args.bytes.now c.in-Some.text.now c.in-Some.ensures ∙ sym c.in_ok-of.ensures),
+      ∙ ap quoted (text_is_bytes c.args.bytes.now c.in-Some.text.now c.in-Some.ensures ∙ sym c.in_ok-copied.ensures),
 )

@@ -1,0 +1,3 @@
+-- Lines as JSON writers give them.
+pub mod Tokens
+pub mod Events

@@ -1,0 +1,211 @@
+//! Lines as JSON writers give them: no white space, no escape, and their members in the order of the profile's table. They are
+//! told from others byte by byte and read without a tape, which spares some 2,500 instructions; each other line has its tape.
+ghost use Rattle.std.specs.Prelude.{◌≡◌, ◌<◌, ◌++◌, IfSome, IsTrue, decimal, length, true};
+ghost use Rattle.std.specs.List.{list_all};
+ghost use Rattle.fed_script.specs.Get.{get_seen};
+ghost use Rattle.fed_script.specs.Line.{event_named};
+ghost use Rattle.fed_script.specs.Plain as spec;
+ghost use Rattle.fed_script.specs.Plain.{is_plain_byte};
+
+use crate::get::{GetMembers, ProviderMembers};
+use crate::options::OptionMembers;
+use fed_origin::{Context, Mediation, Mode};
+use itoa::Buffer;
+use memchr::memchr;
+use std::str;
+
+/// What such a line says.
+#[derive(Clone, Copy, Drop)]
+pub(crate) enum PlainLine<'a> {
+    Load { page: u32, url: &'a str },
+    Get(GetMembers<'a>),
+    ClosePage(u32),
+    GoOn(u32),
+}
+
+// What is left after a word.
+fn after<'a>(rest: &'a [u8], word: &[u8]) -> Option<&'a [u8]>
+    ensures { IfSome result (λ left. rest.now ≡ word.now ++ left.now) }
+{
+    if rest.len() < word.len() {
+        return None;
+    }
+    let (front, left) = rest.split_at(word.len());
+    if front == word { Some(left) } else { None }
+}
+
+// Nothing more where the word is all that is left.
+fn end(rest: &[u8], word: &[u8]) -> Option<()>
+    ensures { IfSome result (λ nothing. rest.now ≡ word.now) }
+{
+    if rest == word { Some(()) } else { None }
+}
+
+// The digits at the front as a number, which may be another where they are too many or begin with a zero.
+fn digits(rest: &[u8]) -> u32 {
+    let mut number: u32 = 0;
+    let mut at = 0;
+    while at < 10 && at < rest.len() && rest[at].is_ascii_digit() {
+        number = number
+            .wrapping_mul(10)
+            .wrapping_add(u32::from(rest[at] - b'0'));
+        at += 1;
+    }
+    number
+}
+
+// A number as it is written, and what is left after it.
+fn number(rest: &[u8]) -> Option<(u32, &[u8])>
+    ensures { IfSome result (λ found. rest.now ≡ decimal found.0 ++ found.1.now) }
+{
+    let number = digits(rest);
+    let mut buffer = Buffer::new();
+    let left = after(rest, buffer.format(number).as_bytes())?;
+    Some((number, left))
+}
+
+fn is_plain(b: u8) -> bool
+    ensures { result ≡ is_plain_byte b }
+{
+    !(b == b'"' || (b == b'\\' || b < 32))
+}
+
+// Where the first quote stands.
+fn quote_in(rest: &[u8]) -> Option<usize>
+    ensures { IfSome result (λ end. end < length rest.now) }
+{
+    memchr(b'"', rest)
+}
+
+// Whether all bytes stand for themselves. It looks at each, since so several are looked at at once.
+fn are_plain(text: &[u8]) -> bool
+    ensures { IsTrue result → list_all is_plain_byte text.now ≡ true }
+{
+    let mut plain = true;
+    let mut len = 0;
+    while len < text.len() {
+        plain = plain & is_plain(text[len]);
+        len += 1;
+    }
+    plain
+}
+
+// The text up to the quote that ends it, and what is left from the quote on.
+fn text(rest: &[u8]) -> Option<(&str, &[u8])>
+    ensures { IfSome result (λ found. (rest.now ≡ found.0.now ++ found.1.now) × (list_all is_plain_byte found.0.now ≡ true)) }
+{
+    let (text, left) = rest.split_at(quote_in(rest)?);
+    if !are_plain(text) {
+        return None;
+    }
+    match str::from_utf8(text) {
+        Ok(text) => Some((text, left)),
+        Err(_) => None,
+    }
+}
+
+fn load_line(line: &[u8]) -> Option<(u32, &str)>
+    ensures { IfSome result (λ found. (line.now ≡ spec.load_text found.0 found.1.now) × (list_all is_plain_byte found.1.now ≡ true)) }
+{
+    let rest = after(line, b"{\"do\":\"load\",\"page\":")?;
+    let (page, rest) = number(rest)?;
+    let rest = after(rest, b",\"url\":\"")?;
+    let (url, rest) = text(rest)?;
+    end(rest, b"\"}")?;
+    Some((page, url))
+}
+
+fn close_page_line(line: &[u8]) -> Option<u32>
+    ensures { IfSome result (λ page. line.now ≡ spec.closepage_text page) }
+{
+    let rest = after(line, b"{\"do\":\"closepage\",\"page\":")?;
+    let (page, rest) = number(rest)?;
+    end(rest, b"}")?;
+    Some(page)
+}
+
+fn go_on_line(line: &[u8]) -> Option<u32>
+    ensures { IfSome result (λ call. line.now ≡ spec.go_on_text call) }
+{
+    let rest = after(line, b"{\"do\":\"continue\",\"call\":")?;
+    let (call, rest) = number(rest)?;
+    end(rest, b"}")?;
+    Some(call)
+}
+
+// The configuration URL and the client of the only provider, where it names nothing else.
+fn provider(rest: &[u8]) -> Option<(&str, &str)>
+    ensures text { IfSome result (λ found. rest.now ≡ spec.providers_text found.0.now found.1.now) }
+    ensures plain { IfSome result (λ found.
+        (list_all is_plain_byte found.0.now ≡ true) × (list_all is_plain_byte found.1.now ≡ true)) }
+{
+    let rest = after(rest, b",\"providers\":[{\"config\":\"")?;
+    let (config, rest) = text(rest)?;
+    let rest = after(rest, b"\",\"client\":\"")?;
+    let (client, rest) = text(rest)?;
+    end(rest, b"\"}]}")?;
+    Some((config, client))
+}
+
+// The page, the call, and the rest of a get.
+fn get_line(line: &[u8]) -> Option<(u32, u32, (&str, &str))>
+    ensures text { IfSome result (λ found. line.now ≡ spec.get_text found.0 found.1 found.2.0.now found.2.1.now) }
+    ensures plain { IfSome result (λ found.
+        (list_all is_plain_byte found.2.0.now ≡ true) × (list_all is_plain_byte found.2.1.now ≡ true)) }
+{
+    let rest = after(line, b"{\"do\":\"get\",\"page\":")?;
+    let (page, rest) = number(rest)?;
+    let rest = after(rest, b",\"call\":")?;
+    let (call, rest) = number(rest)?;
+    let found = provider(rest)?;
+    Some((page, call, found))
+}
+
+// The members of a get whose provider names nothing else.
+fn members<'a>(page: u32, call: u32, config: &'a str, client: &'a str) -> GetMembers<'a>
+    ensures { get_seen result ≡ spec.plain_members page call config.now client.now }
+{
+    GetMembers {
+        page,
+        call,
+        options: OptionMembers {
+            mediation: Mediation::Optional,
+            mode: Mode::Passive,
+            activation: false,
+            context: Context::SignIn,
+        },
+        provider: ProviderMembers {
+            config,
+            client,
+            nonce: None,
+            login_hint: None,
+            domain_hint: None,
+            params: None,
+        },
+    }
+}
+
+/// What a line says that JSON writers give so; None where it is another line.
+#[tactic(auto, using(crate::proofs::plainly::Events::load_event, crate::proofs::plainly::Events::get_event, crate::proofs::plainly::Events::closepage_event, crate::proofs::plainly::Events::go_on_event))]
+pub(crate) fn plain_line(line: &[u8]) -> Option<PlainLine<'_>>
+    ensures { IfSome result (λ found. event_named line.now ≡ spec.event_by found) }
+{
+    if !line.is_ascii() {
+        return None;
+    }
+    match line.get(7) {
+        Some(b'l') => {
+            let (page, url) = load_line(line)?;
+            Some(PlainLine::Load { page, url })
+        }
+        Some(b'g') => {
+            let (page, call, (config, client)) = get_line(line)?;
+            Some(PlainLine::Get(members(page, call, config, client)))
+        }
+        Some(b'c') => match close_page_line(line) {
+            Some(page) => Some(PlainLine::ClosePage(page)),
+            None => Some(PlainLine::GoOn(go_on_line(line)?)),
+        },
+        _ => None,
+    }
+}
