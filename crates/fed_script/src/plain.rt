@@ -1,6 +1,6 @@
 //! Lines as JSON writers give them: no white space, no escape, and their members in the order of the profile's table. They are
 //! told from others byte by byte and read without a tape, which spares some 2,500 instructions; each other line has its tape.
-ghost use Rattle.std.specs.Prelude.{◌≡◌, ◌<◌, ◌++◌, IfSome, IsTrue, decimal, length, true};
+ghost use Rattle.std.specs.Prelude.{◌≡◌, ◌<◌, ◌++◌, IfSome, IsTrue, IsUtf8, decimal, length, true};
 ghost use Rattle.std.specs.List.{list_all};
 ghost use Rattle.fed_script.specs.Get.{get_seen};
 ghost use Rattle.fed_script.specs.Line.{event_named};
@@ -92,7 +92,8 @@ fn are_plain(text: &[u8]) -> bool
 
 // The text up to the quote that ends it, and what is left from the quote on.
 fn text(rest: &[u8]) -> Option<(&str, &[u8])>
-    ensures { IfSome result (λ found. (rest.now ≡ found.0.now ++ found.1.now) × (list_all is_plain_byte found.0.now ≡ true)) }
+    ensures { IfSome result (λ found. (rest.now ≡ found.0.now ++ found.1.now)
+        × ((list_all is_plain_byte found.0.now ≡ true) × IsUtf8 found.0.now)) }
 {
     let (text, left) = rest.split_at(quote_in(rest)?);
     if !are_plain(text) {
@@ -105,7 +106,8 @@ fn text(rest: &[u8]) -> Option<(&str, &[u8])>
 }
 
 fn load_line(line: &[u8]) -> Option<(u32, &str)>
-    ensures { IfSome result (λ found. (line.now ≡ spec.load_text found.0 found.1.now) × (list_all is_plain_byte found.1.now ≡ true)) }
+    ensures { IfSome result (λ found. (line.now ≡ spec.load_text found.0 found.1.now)
+        × ((list_all is_plain_byte found.1.now ≡ true) × IsUtf8 found.1.now)) }
 {
     let rest = after(line, b"{\"do\":\"load\",\"page\":")?;
     let (page, rest) = number(rest)?;
@@ -138,6 +140,7 @@ fn provider(rest: &[u8]) -> Option<(&str, &str)>
     ensures text { IfSome result (λ found. rest.now ≡ spec.providers_text found.0.now found.1.now) }
     ensures plain { IfSome result (λ found.
         (list_all is_plain_byte found.0.now ≡ true) × (list_all is_plain_byte found.1.now ≡ true)) }
+    ensures utf8 { IfSome result (λ found. IsUtf8 found.0.now × IsUtf8 found.1.now) }
 {
     let rest = after(rest, b",\"providers\":[{\"config\":\"")?;
     let (config, rest) = text(rest)?;
@@ -152,6 +155,7 @@ fn get_line(line: &[u8]) -> Option<(u32, u32, (&str, &str))>
     ensures text { IfSome result (λ found. line.now ≡ spec.get_text found.0 found.1 found.2.0.now found.2.1.now) }
     ensures plain { IfSome result (λ found.
         (list_all is_plain_byte found.2.0.now ≡ true) × (list_all is_plain_byte found.2.1.now ≡ true)) }
+    ensures utf8 { IfSome result (λ found. IsUtf8 found.2.0.now × IsUtf8 found.2.1.now) }
 {
     let rest = after(line, b"{\"do\":\"get\",\"page\":")?;
     let (page, rest) = number(rest)?;
@@ -190,9 +194,6 @@ fn members<'a>(page: u32, call: u32, config: &'a str, client: &'a str) -> GetMem
 pub(crate) fn plain_line(line: &[u8]) -> Option<PlainLine<'_>>
     ensures { IfSome result (λ found. event_named line.now ≡ spec.event_by found) }
 {
-    if !line.is_ascii() {
-        return None;
-    }
     match line.get(7) {
         Some(b'l') => {
             let (page, url) = load_line(line)?;

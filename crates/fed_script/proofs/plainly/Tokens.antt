@@ -1,11 +1,11 @@
 -- The tokens of lines as JSON writers give them, and what is read of them.
-use Rattle.std.proofs.Common.{◌≡◌, ◌<◌, ◌^◌, ◌&&◌, ℕ, List, [], ◌∷◌, ◌++◌, Bool, true, false, cond, codes, decimal, Option, Some, None, Ok, refl, sym, ap, ◌∙◌}
+use Rattle.std.proofs.Common.{◌≡◌, ◌<◌, ◌^◌, ◌&&◌, ℕ, List, [], ◌∷◌, ◌++◌, Bool, true, false, cond, codes, decimal, Option, Some, None, Ok, refl, sym, ap, subst, ◌∙◌}
 use Rattle.std.proofs.Common.{append_assoc, arith}
 use Rattle.std.proofs.lemmas.Bool.Decides.{nat_tests}
-use Rattle.std.proofs.lemmas.Str.{is_utf8-from_IsUtf8, IsUtf8-from_ascii}
+use Rattle.std.proofs.lemmas.Str.{is_utf8-from_IsUtf8, IsUtf8-append}
 use Rattle.std.specs.List.{list_all}
 use Rattle.std.specs.Prelude.{option_and_then, option_map}
-use Rattle.std.specs.Str.{IsAscii, is_utf8}
+use Rattle.std.specs.Str.{IsUtf8, is_utf8}
 use Rattle.json.specs.Token.{Token, begin_object, end_object, begin_array, end_array, key, string, number}
 use Rattle.json.specs.Lex.{tokens}
 use Rattle.json.specs.Json as json
@@ -13,6 +13,8 @@ use Rattle.json.specs.Print.{print, print_from, escape, escape_byte, ArePrintabl
 use Rattle.json.proofs.Printed.Decimals.{IsNumber-decimal}
 use Rattle.json.proofs.Printed.Strings.{escape_byte_plain}
 use Rattle.json.proofs.Printed.Tokens.{tokens-print}
+use Rattle.json.proofs.Printed.Utf8.{IsUtf8-are_ascii}
+use Rattle.std.proofs.DigitsParse.{digits-IsUtf8}
 use Rattle.serde_json.specs.Data.{Num, Data, Members, unsigned, object, array, no_items, item, put, no_members}
 use Rattle.serde_json.specs.Data as value
 use Rattle.serde_json.specs.Read.{read, of_json, max_depth, number_of}
@@ -21,14 +23,17 @@ use Rattle.fed_script.specs.declared.cause.LineCause.TheVariants.{NotJson}
 use Rattle.fed_script.specs.Member.{json_of, or_cause}
 use Rattle.fed_script.specs.Plain.{is_plain_byte, load_text, closepage_text, go_on_text, get_text}
 
+decimal_utf8 : (n : ℕ) → IsUtf8 (decimal n)
+decimal_utf8 n = digits-IsUtf8 10 false n (omega arith) (omega arith)
+
 -- what is read of tokens
 abbrev pub read_of : List Token → Option Data
 read_of ts = option_and_then of_json (option_and_then (λ p. json.if_last p.0 p.1) (json.value max_depth ts))
 
-pub plain_data : (line : List ℕ) (ts : List Token) (d : Data) → IsAscii line → line ≡ print ts → ArePrintable ts
+pub plain_data : (line : List ℕ) (ts : List Token) (d : Data) → IsUtf8 line → line ≡ print ts → ArePrintable ts
     → read_of ts ≡ Some d → json_of line ≡ Ok d
-plain_data line ts d ascii is printable h =
-    let text : is_utf8 line ≡ true = is_utf8-from_IsUtf8 line (IsUtf8-from_ascii line ascii) in
+plain_data line ts d utf8 is printable h =
+    let text : is_utf8 line ≡ true = is_utf8-from_IsUtf8 line utf8 in
     ap (λ b. or_cause NotJson (cond b (read line) None)) text
     ∙ ap (or_cause NotJson) (ap read_of (ap tokens is ∙ tokens-print ts printable) ∙ h)
 
@@ -78,14 +83,17 @@ load_read : (page : ℕ) (url : List ℕ) → read_of (load_tokens page url) ≡
 unfolding json.value json.items json.members
 load_read page url = refl
 
-pub load_is : (line : List ℕ) (page : ℕ) (url : List ℕ) → IsAscii line → page < 2 ^ 64 → list_all is_plain_byte url ≡ true
+pub load_is : (line : List ℕ) (page : ℕ) (url : List ℕ) → IsUtf8 url → page < 2 ^ 64 → list_all is_plain_byte url ≡ true
     → line ≡ load_text page url → json_of line ≡ Ok (load_data page url)
 unfolding load_text ArePrintable
-load_is line page url ascii small plain is =
+load_is line page url utf8 small plain is =
     let front : List ℕ → List ℕ = λ l. codes "{\"do\":\"load\",\"page\":" ++ (decimal page ++ (codes ",\"url\":\"" ++ l)) in
     let back : url ++ codes "\"}" ≡ (escape url ++ codes "\"") ++ codes "}" =
     sym (append_assoc url (codes "\"") (codes "}")) ∙ ap (λ u. (u ++ codes "\"") ++ codes "}") (sym (plain_escape url plain)) in
-    plain_data line (load_tokens page url) (load_data page url) ascii (is ∙ ap front back ∙ sym (load_line page url))
+    let whole : IsUtf8 line = subst IsUtf8 (sym is) (IsUtf8-append (codes "{\"do\":\"load\",\"page\":") _ (IsUtf8-are_ascii _ refl)
+    (IsUtf8-append (decimal page) _ (decimal_utf8 page) (IsUtf8-append (codes ",\"url\":\"") _ (IsUtf8-are_ascii _ refl)
+    (IsUtf8-append url _ utf8 (IsUtf8-are_ascii (codes "\"}") refl))))) in
+    plain_data line (load_tokens page url) (load_data page url) whole (is ∙ ap front back ∙ sym (load_line page url))
     (tt, (tt, (tt, (tt, (IsNumber-decimal page small, (tt, (tt, (tt, tt))))))))
     (load_read page url ∙ ap (λ n. load_from n url) (number_of-decimal page small))
 
@@ -112,11 +120,13 @@ closepage_line : (page : ℕ) → closepage_text page ≡ print (closepage_token
 unfolding print_from escape_byte closepage_text
 closepage_line page = refl
 
-pub closepage_is : (line : List ℕ) (page : ℕ) → IsAscii line → page < 2 ^ 64 → line ≡ closepage_text page
+pub closepage_is : (line : List ℕ) (page : ℕ) → page < 2 ^ 64 → line ≡ closepage_text page
     → json_of line ≡ Ok (closepage_data page)
-unfolding ArePrintable
-closepage_is line page ascii small is =
-    plain_data line (closepage_tokens page) (closepage_data page) ascii (is ∙ closepage_line page)
+unfolding closepage_text ArePrintable
+closepage_is line page small is =
+    let whole : IsUtf8 line = subst IsUtf8 (sym is) (IsUtf8-append (codes "{\"do\":\"closepage\",\"page\":") _ (IsUtf8-are_ascii _ refl)
+    (IsUtf8-append (decimal page) _ (decimal_utf8 page) (IsUtf8-are_ascii (codes "}") refl))) in
+    plain_data line (closepage_tokens page) (closepage_data page) whole (is ∙ closepage_line page)
     (tt, (tt, (tt, (tt, (IsNumber-decimal page small, (tt, tt))))))
     (closepage_read page ∙ ap closepage_from (number_of-decimal page small))
 
@@ -143,11 +153,13 @@ go_on_line : (call : ℕ) → go_on_text call ≡ print (go_on_tokens call)
 unfolding print_from escape_byte go_on_text
 go_on_line call = refl
 
-pub go_on_is : (line : List ℕ) (call : ℕ) → IsAscii line → call < 2 ^ 64 → line ≡ go_on_text call
+pub go_on_is : (line : List ℕ) (call : ℕ) → call < 2 ^ 64 → line ≡ go_on_text call
     → json_of line ≡ Ok (go_on_data call)
-unfolding ArePrintable
-go_on_is line call ascii small is =
-    plain_data line (go_on_tokens call) (go_on_data call) ascii (is ∙ go_on_line call)
+unfolding go_on_text ArePrintable
+go_on_is line call small is =
+    let whole : IsUtf8 line = subst IsUtf8 (sym is) (IsUtf8-append (codes "{\"do\":\"continue\",\"call\":") _ (IsUtf8-are_ascii _ refl)
+    (IsUtf8-append (decimal call) _ (decimal_utf8 call) (IsUtf8-are_ascii (codes "}") refl))) in
+    plain_data line (go_on_tokens call) (go_on_data call) whole (is ∙ go_on_line call)
     (tt, (tt, (tt, (tt, (IsNumber-decimal call small, (tt, tt))))))
     (go_on_read call ∙ ap go_on_from (number_of-decimal call small))
 
@@ -202,12 +214,19 @@ get_written page call config client one two =
     ∙ ap (λ u. (u ++ codes "\"") ++ back (client ++ codes "\"}]}")) (sym (plain_escape config one)) in
     ap front (first ∙ ap (λ l. (escape config ++ codes "\"") ++ back l) last) ∙ sym (get_line page call config client)
 
-pub get_is : (line : List ℕ) (page call : ℕ) (config client : List ℕ) → IsAscii line → page < 2 ^ 64 → call < 2 ^ 64
+pub get_is : (line : List ℕ) (page call : ℕ) (config client : List ℕ) → IsUtf8 config → IsUtf8 client → page < 2 ^ 64 → call < 2 ^ 64
     → list_all is_plain_byte config ≡ true → list_all is_plain_byte client ≡ true → line ≡ get_text page call config client
     → json_of line ≡ Ok (get_data page call config client)
-unfolding ArePrintable
-get_is line page call config client ascii small few one two is =
-    plain_data line (get_tokens page call config client) (get_data page call config client) ascii
+unfolding get_text ArePrintable
+get_is line page call config client first second small few one two is =
+    let inner : IsUtf8 (config ++ (codes "\",\"client\":\"" ++ (client ++ codes "\"}]}"))) =
+    IsUtf8-append config _ first (IsUtf8-append (codes "\",\"client\":\"") _ (IsUtf8-are_ascii _ refl)
+    (IsUtf8-append client _ second (IsUtf8-are_ascii (codes "\"}]}") refl))) in
+    let whole : IsUtf8 line = subst IsUtf8 (sym is) (IsUtf8-append (codes "{\"do\":\"get\",\"page\":") _ (IsUtf8-are_ascii _ refl)
+    (IsUtf8-append (decimal page) _ (decimal_utf8 page) (IsUtf8-append (codes ",\"call\":") _ (IsUtf8-are_ascii _ refl)
+    (IsUtf8-append (decimal call) _ (decimal_utf8 call) (IsUtf8-append (codes ",\"providers\":[{\"config\":\"") _
+    (IsUtf8-are_ascii _ refl) inner))))) in
+    plain_data line (get_tokens page call config client) (get_data page call config client) whole
     (is ∙ get_written page call config client one two) (
       tt,
       (
