@@ -73,7 +73,7 @@ fn push_quoted(
 }
 
 /// The lines of records. Contracts see them as their bytes. Their memory is used again, and the bytes of the last requests of some
-/// kinds are kept as JSON writes them, since the next call mostly sends the same.
+/// kinds are kept as JSON writes them: a call that follows to the same provider sends the same, but for other cookies.
 pub struct RecordLines {
     alloc: Global,
     text: Vec<u8>,

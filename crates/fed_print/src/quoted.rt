@@ -87,8 +87,8 @@ impl Quoted {
     }
 }
 
-/// The last requests of the kinds that are the same for each call of a provider. To make such a record anew, with an escape for each
-/// line end, takes some 2,000 instructions.
+/// The last requests of the kinds that name neither a page nor an account. To make such a record anew, with an escape for each line
+/// end, takes some 2,000 instructions more.
 #[derive(Drop)]
 pub(crate) struct Quotes {
     wellknown: Option<Quoted>,
