@@ -58,7 +58,7 @@ pub fn kept_each(
     kept_at(
         alloc,
         kept,
-        &begun.origin,
+        begun.origin(),
         begun.provider_origin(),
         accounts,
     )
@@ -108,9 +108,9 @@ pub fn connections(
     connections_at(
         alloc,
         kept,
-        &begun.origin,
+        begun.origin(),
         begun.provider_origin(),
-        &begun.provider.client,
+        &begun.provider().client,
         accounts,
     )
 }

@@ -13,6 +13,7 @@ ghost use Rattle.fed_status.specs.Kept.{triple_of};
 
 use crate::begun::Call;
 use crate::effects::finishes;
+use crate::placed::PlacedAccount;
 use crate::{CallState, Ended};
 use fed_accounts::Account;
 use fed_consent::{Ask, Consent, Detail, Effect, FailStep, Failure, Finish, Input, Why};
@@ -28,7 +29,7 @@ pub struct Asserting {
     pub(crate) begun: Call,
     pub(crate) config: Config,
     /// The account that the token is for.
-    pub(crate) account: Account,
+    pub(crate) account: PlacedAccount,
     pub(crate) connected: bool,
     /// Whether it was settled on without the user.
     pub(crate) auto: bool,
@@ -128,7 +129,7 @@ impl Asserting {
             raw.now).effects) }
         ensures state { IfOk result (λ r. facts_of r.0 ≡ None) }
     {
-        match read_assertion(alloc, raw, &self.begun.origin) {
+        match read_assertion(alloc, raw, self.begun.origin()) {
             Ok(token) => self.signs_in(alloc, place, token),
             Err(Fault::Step(step)) => finishes(alloc, token_refused(step)),
             Err(Fault::NoRoom) => Err(NoRoom),
@@ -148,9 +149,10 @@ impl Asserting {
     {
         let begun = &self.begun;
         let auto = self.auto;
-        let mut effects = Effect::Keep(permission(alloc, begun, &self.account)?).alone(alloc)?;
+        let account = self.account.as_account();
+        let mut effects = Effect::Keep(permission(alloc, begun, account)?).alone(alloc)?;
         if !auto {
-            effects.push(Effect::ClearFlag(begun.origin.copy(alloc)?))?;
+            effects.push(Effect::ClearFlag(begun.origin().copy(alloc)?))?;
         }
         effects.push(Effect::Finish(Finish::Token {
             auto,
@@ -167,7 +169,7 @@ fn permission(alloc: Global, begun: &Call, account: &Account) -> Result<Triple, 
         ≡ triple_of begun.now.origin (origin_of begun.now.provider.config) account.now.id) }
 {
     Ok(Triple {
-        page: begun.origin.copy(alloc)?,
+        page: begun.origin().copy(alloc)?,
         provider: begun.provider_origin().copy(alloc)?,
         account: account.id.copy(alloc)?,
     })
@@ -199,7 +201,7 @@ pub fn assertion_request(
     ensures { IfOk result (λ effect. effect ≡ Effect.Send place (Ask.Assertion
         (assertion_fields consent config.now.assertion begun.now.origin begun.now.provider))) }
 {
-    match consent.spend(alloc, &config.assertion, &begun.origin, &begun.provider) {
+    match consent.spend(alloc, &config.assertion, begun.origin(), begun.provider()) {
         Ok(ask) => Ok(Effect::Send(place, ask)),
         Err((NoRoom, consent)) => {
             consent.void();
@@ -228,7 +230,7 @@ pub fn asserts(
     let state = Asserting {
         begun,
         config,
-        account,
+        account: PlacedAccount::new(alloc, account)?,
         connected,
         auto: false,
     };

@@ -16,19 +16,41 @@ use fed_suffix::Suffixes;
 use std::alloc::Global;
 use std::marker::Model;
 
-/// What a call began with. Its only provider has a configuration URL that is https.
-pub struct Call {
-    pub call: u32,
-    pub page: u32,
-    /// The page's origin.
-    pub origin: Origin,
-    pub mediation: Mediation,
-    pub mode: Mode,
-    pub activation: bool,
-    pub context: Context,
-    pub provider: ProviderOptions,
+// The parts of what a call began with.
+struct CallParts {
+    call: u32,
+    page: u32,
+    // The page's origin.
+    origin: Origin,
+    mediation: Mediation,
+    mode: Mode,
+    activation: bool,
+    context: Context,
+    provider: ProviderOptions,
     // The provider's origin, which the rows of accounts look at, made once.
     provider_origin: Origin,
+}
+
+impl Drop for CallParts {
+    fn drop(self) {
+        let CallParts {
+            call: _,
+            page: _,
+            origin: _,
+            mediation: _,
+            mode: _,
+            activation: _,
+            context: _,
+            provider: _,
+            provider_origin: _,
+        } = self;
+    }
+}
+
+/// What a call began with. Its only provider has a configuration URL that is https.
+pub struct Call {
+    // In a place of their own, since each event moves the call's state several times.
+    place: Box<CallParts>,
 }
 
 impl Model for Call {
@@ -40,32 +62,23 @@ impl Model for Call {
     ghost Value = { Begun };
 
     ghost view = { λ c. record {
-      call = c.call;
-      page = c.page;
-      origin = c.origin;
-      mediation = c.mediation;
-      mode = c.mode;
-      activation = c.activation;
-      context = c.context;
-      provider = c.provider;
+      call = c.place.value.call;
+      page = c.place.value.page;
+      origin = c.place.value.origin;
+      mediation = c.place.value.mediation;
+      mode = c.place.value.mode;
+      activation = c.place.value.activation;
+      context = c.place.value.context;
+      provider = c.place.value.provider;
     } };
 
-    ghost invariant = { λ c. (scheme_of c.provider.config ≡ Https) × (c.provider_origin ≡ origin_of c.provider.config) };
+    ghost invariant = { λ c. (scheme_of c.place.value.provider.config ≡ Https)
+        × (c.place.value.provider_origin ≡ origin_of c.place.value.provider.config) };
 }
 
 impl Drop for Call {
     fn drop(self) {
-        let Call {
-            call: _,
-            page: _,
-            origin: _,
-            mediation: _,
-            mode: _,
-            activation: _,
-            context: _,
-            provider: _,
-            provider_origin: _,
-        } = self;
+        let Call { place: _ } = self;
     }
 }
 
@@ -81,19 +94,20 @@ impl Call {
     /// What a call with these options begins with. They have exactly one provider, whose configuration URL is https and of
     /// this origin.
     pub fn new(
+        alloc: Global,
         call: u32,
         page: u32,
         origin: Origin,
         options: GetOptions,
         provider_origin: Origin,
-    ) -> Call
+    ) -> Result<Call, NoRoom>
         requires one { length options.providers ≡ 1 }
         requires secure { IfSome (provider_at only_place options) (λ provider. scheme_of provider.config ≡ Scheme.Https) }
         requires its { IfSome (provider_at only_place options) (λ provider. provider_origin ≡ origin_of provider.config) }
-        ensures options { options_of result ≡ options }
-        ensures call { result.call ≡ call }
-        ensures page { result.page ≡ page }
-        ensures origin { result.origin ≡ origin }
+        ensures options { IfOk result (λ begun. options_of begun ≡ options) }
+        ensures call { IfOk result (λ begun. begun.call ≡ call) }
+        ensures page { IfOk result (λ begun. begun.page ≡ page) }
+        ensures origin { IfOk result (λ begun. begun.origin ≡ origin) }
     {
         let GetOptions {
             mediation,
@@ -102,8 +116,7 @@ impl Call {
             context,
             providers,
         } = options;
-        let provider = only(providers);
-        Call {
+        let parts = CallParts {
             call,
             page,
             origin,
@@ -111,9 +124,61 @@ impl Call {
             mode,
             activation,
             context,
-            provider,
+            provider: only(providers),
             provider_origin,
-        }
+        };
+        Ok(Call {
+            place: Box::new(alloc, parts)?,
+        })
+    }
+
+    /// Its number.
+    pub fn call(&self) -> u32
+        ensures { result ≡ self.now.call }
+    {
+        self.place.call
+    }
+
+    /// The number of its page.
+    pub fn page(&self) -> u32
+        ensures { result ≡ self.now.page }
+    {
+        self.place.page
+    }
+
+    /// The origin of its page.
+    pub fn origin(&self) -> &Origin
+        ensures { result.now ≡ self.now.origin }
+    {
+        &self.place.origin
+    }
+
+    /// Its mediation.
+    pub fn mediation(&self) -> Mediation
+        ensures { result ≡ self.now.mediation }
+    {
+        self.place.mediation
+    }
+
+    /// Its mode.
+    pub fn mode(&self) -> Mode
+        ensures { result ≡ self.now.mode }
+    {
+        self.place.mode
+    }
+
+    /// Its context.
+    pub fn context(&self) -> Context
+        ensures { result ≡ self.now.context }
+    {
+        self.place.context
+    }
+
+    /// Its only provider.
+    pub fn provider(&self) -> &ProviderOptions
+        ensures { result.now ≡ self.now.provider }
+    {
+        &self.place.provider
     }
 
     /// Whether the call has a provider at this place.
@@ -127,7 +192,7 @@ impl Call {
     pub fn provider_origin(&self) -> &Origin
         ensures { result.now ≡ origin_of self.now.provider.config }
     {
-        &self.provider_origin
+        &self.place.provider_origin
     }
 
     /// What a reply of the provider comes to, after these.
@@ -141,6 +206,6 @@ impl Call {
     ) -> Result<Heard, NoRoom>
         ensures { IfOk result (λ heard. heard ≡ reply_heard rules.now replies self.now.provider.config kind raw.now) }
     {
-        replies.hear(alloc, rules, &self.provider.config, kind, raw)
+        replies.hear(alloc, rules, &self.place.provider.config, kind, raw)
     }
 }

@@ -14,6 +14,7 @@ use crate::asserting::asserts;
 use crate::begun::Call;
 use crate::dialogs::prompt_effect;
 use crate::effects::fails;
+use crate::placed::PlacedPrompt;
 use crate::{CallState, Prompting};
 use fed_consent::{Chooser, Effect, FailStep, Failure, Input, Picked, Prompt, Why};
 use fed_io::{Items, NoRoom, Text};
@@ -161,7 +162,7 @@ fn asks_about(
     let state = Prompting {
         begun,
         config,
-        prompt,
+        prompt: PlacedPrompt::new(alloc, prompt)?,
     };
     Ok((CallState::Prompting(state), effects))
 }

@@ -84,10 +84,10 @@ pub fn choice_dialog(
     ensures { IfOk result (λ effect. effect ≡ spec.choice_dialog (world_of shared.now) (begun_facts begun.now) place chooser.now.listed) }
 {
     let accounts = all_shown(alloc, place, chooser.accounts().list(), chooser.connected())?;
-    let site = site(alloc, shared.rules, &begun.origin.host)?;
+    let site = site(alloc, shared.rules, &begun.origin().host)?;
     let dialog = Dialog::Choose {
         accounts,
-        context: begun.context,
+        context: begun.context(),
         site,
     };
     Effect::shows(alloc, dialog)
@@ -117,12 +117,12 @@ pub fn prompt_dialog(
         links.now) }
 {
     let account = shown(alloc, place, prompt.account(), prompt.connected())?;
-    let site = site(alloc, shared.rules, &begun.origin.host)?;
+    let site = site(alloc, shared.rules, &begun.origin().host)?;
     let privacy = link(alloc, &links.privacy)?;
     let terms = link(alloc, &links.terms)?;
     let dialog = Dialog::Prompt {
         account,
-        context: begun.context,
+        context: begun.context(),
         site,
         privacy,
         terms,
@@ -164,8 +164,8 @@ fn metadata_request(alloc: Global, begun: &Call, place: u32, to: &WebUrl) -> Res
 {
     let ask = Ask::Metadata {
         to: to.copy(alloc)?,
-        client: begun.provider.client.copy(alloc)?,
-        origin: begun.origin.copy(alloc)?,
+        client: begun.provider().client.copy(alloc)?,
+        origin: begun.origin().copy(alloc)?,
     };
     Ok(Effect::Send(place, ask))
 }

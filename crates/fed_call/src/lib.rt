@@ -9,6 +9,7 @@ mod dialogs;
 mod effects;
 mod listing;
 mod mismatch;
+mod placed;
 mod prompting;
 mod reading;
 mod start;

@@ -17,6 +17,7 @@ use crate::accounts::{connections, hinted_accounts, kept_each};
 use crate::asserting::assertion_request;
 use crate::begun::Call;
 use crate::dialogs::{choice_dialog, prompt_effect, site};
+use crate::placed::{PlacedAccount, PlacedPrompt};
 use crate::window::{may_sign_in, window_effect};
 use crate::{Asserting, CallState, Choosing, Ended, Mismatch, Prompting, Window};
 use fed_accounts::{Accounts, reselect};
@@ -130,7 +131,7 @@ impl Listing {
             (Some self.begun.provider) raw.now).stage Stage.Listing)
             (with_listing (world_of shared.now) raw.now place (Some self.begun.provider) (listing_facts self))) }
     {
-        match hinted_accounts(alloc, raw, &self.begun.provider)? {
+        match hinted_accounts(alloc, raw, self.begun.provider())? {
             Ok(accounts) => self.accepts(alloc, shared, place, accounts),
             Err(step) => self.refuses(alloc, shared, place, Failure::of_accounts(step)),
         }
@@ -209,12 +210,12 @@ impl Listing {
             (with_accounts (world_of shared.now) place self.begun.provider accounts (listing_facts self))) }
     {
         let kept = kept_each(alloc, shared.kept, &self.begun, accounts.list())?;
-        let flag = shared.flags.is_set(&self.begun.origin);
-        let client = &self.begun.provider.client;
-        let mediation = self.begun.mediation;
+        let flag = shared.flags.is_set(self.begun.origin());
+        let client = &self.begun.provider().client;
+        let mediation = self.begun.mediation();
         match reselect(&accounts, client, kept.as_slice(), flag, mediation) {
             Some(account) => {
-                let call = self.begun.call;
+                let call = self.begun.call();
                 let kept = kept.as_slice();
                 let reselection = Reselection::new(
                     call, place, accounts, client, kept, flag, mediation, account,
@@ -246,7 +247,7 @@ impl Listing {
         let state = Asserting {
             begun,
             config,
-            account,
+            account: PlacedAccount::new(alloc, account)?,
             connected: true,
             auto: true,
         };
@@ -268,7 +269,7 @@ impl Listing {
             self.begun.provider accounts None).stage Stage.Listing)
             (with_offer (world_of shared.now) self.begun.provider accounts (listing_facts self))) }
     {
-        if self.begun.mediation == Mediation::Silent {
+        if self.begun.mediation() == Mediation::Silent {
             let failure = Failure::plain(FailStep::SilentNoAccount);
             let effects = failed(alloc, &self.begun, LoginStatus::LoggedIn, failure)?;
             return Ok((CallState::Ended(Ended), effects));
@@ -318,13 +319,13 @@ impl Listing {
             (with_offer (world_of shared.now) self.begun.provider accounts (listing_facts self))) }
     {
         let waits = !connected && self.config.metadata.is_some();
-        let prompt = Prompt::single(self.begun.call, place, accounts, connected, waits);
+        let prompt = Prompt::single(self.begun.call(), place, accounts, connected, waits);
         let effects = prompt_shown(alloc, shared, &self, place, &prompt)?;
         let Listing { begun, config } = self;
         let state = Prompting {
             begun,
             config,
-            prompt,
+            prompt: PlacedPrompt::new(alloc, prompt)?,
         };
         Ok((CallState::Prompting(state), effects))
     }
@@ -347,7 +348,7 @@ impl Listing {
             self.begun.provider accounts).stage Stage.Listing)
             (with_offer (world_of shared.now) self.begun.provider accounts (listing_facts self))) }
     {
-        let chooser = Chooser::new(self.begun.call, place, accounts, connected);
+        let chooser = Chooser::new(self.begun.call(), place, accounts, connected);
         let effects = choice_shown(alloc, shared, &self.begun, place, &chooser)?;
         let Listing { begun, config } = self;
         let state = Choosing {
@@ -365,8 +366,8 @@ fn is_mismatch(begun: &Call, shared: &Shared<'_>) -> bool
         (status_of (world_of shared.now).login (origin_of begun.now.provider.config)) }
 {
     let was = shared.login.get(begun.provider_origin());
-    begun.mode == Mode::Passive
-        && begun.mediation != Mediation::Silent
+    begun.mode() == Mode::Passive
+        && begun.mediation() != Mediation::Silent
         && was == LoginStatus::LoggedIn
 }
 
@@ -398,7 +399,7 @@ fn mismatch_shown(
     let provider = begun.provider_origin().copy(alloc)?;
     let dialog = Dialog::Mismatch {
         provider: place,
-        site: site(alloc, shared.rules, &begun.origin.host)?,
+        site: site(alloc, shared.rules, &begun.origin().host)?,
         failure,
     };
     let dialog = Effect::shows(alloc, dialog)?;

@@ -15,7 +15,8 @@ use crate::asserting::asserts;
 use crate::begun::Call;
 use crate::dialogs::prompt_dialog;
 use crate::effects::fails;
-use fed_consent::{Effect, FailStep, Failure, Input, ONLY_PLACE, Prompt, Why};
+use crate::placed::PlacedPrompt;
+use fed_consent::{Effect, FailStep, Failure, Input, ONLY_PLACE, Why};
 use fed_io::{Items, NoRoom};
 use fed_origin::{ReplyKind, Stage};
 use fed_provider::{Config, read_metadata};
@@ -26,7 +27,7 @@ use std::alloc::Global;
 pub struct Prompting {
     pub(crate) begun: Call,
     pub(crate) config: Config,
-    pub(crate) prompt: Prompt,
+    pub(crate) prompt: PlacedPrompt,
 }
 
 impl Drop for Prompting {
@@ -102,7 +103,7 @@ impl Prompting {
         ensures state { IfOk result (λ r. facts_of r.0
             ≡ input_facts (world_of shared.now) (prompting_facts self) (inputs.Reply place ReplyKind.Metadata raw.now)) }
     {
-        match (self.prompt.waits(), self.begun.has(place)) {
+        match (self.prompt.as_prompt().waits(), self.begun.has(place)) {
             (true, true) => self.shows_links(alloc, shared, place, raw),
             (true, false) => CallState::Prompting(self).ignores(alloc, Why::NotWaited),
             (false, _) => CallState::Prompting(self).ignores(alloc, Why::NotWaited),
@@ -131,7 +132,7 @@ impl Prompting {
         let state = Prompting {
             begun,
             config,
-            prompt: prompt.ready(),
+            prompt: PlacedPrompt::new(alloc, prompt.open().ready())?,
         };
         Ok((CallState::Prompting(state), effects))
     }
@@ -142,14 +143,14 @@ impl Prompting {
         ensures state { IfOk result (λ r. facts_of r.0
             ≡ at_stage (unwrap_or (spec.went_on (prompting_facts self) Stage.Prompting).stage Stage.Prompting) (prompting_facts self)) }
     {
-        let account = self.prompt.account().copy(alloc)?;
-        let connected = self.prompt.connected();
+        let account = self.prompt.as_prompt().account().copy(alloc)?;
+        let connected = self.prompt.as_prompt().connected();
         let Prompting {
             begun,
             config,
             prompt,
         } = self;
-        match prompt.proceed() {
+        match prompt.open().proceed() {
             Ok(consent) => asserts(
                 alloc, begun, config, ONLY_PLACE, account, connected, consent,
             ),
@@ -157,7 +158,7 @@ impl Prompting {
                 let state = Prompting {
                     begun,
                     config,
-                    prompt,
+                    prompt: PlacedPrompt::new(alloc, prompt)?,
                 };
                 CallState::Prompting(state).ignores(alloc, Why::NotOffered)
             }
@@ -178,6 +179,6 @@ fn links_shown(
 {
     let links = read_metadata(alloc, raw)?;
     let Prompting { begun, prompt, .. } = prompting;
-    let dialog = prompt_dialog(alloc, shared, begun, place, prompt, &links)?;
+    let dialog = prompt_dialog(alloc, shared, begun, place, prompt.as_prompt(), &links)?;
     dialog.alone(alloc)
 }

@@ -103,7 +103,7 @@ impl CallState {
         match first_requests(alloc, &origin, &options, &provider, wellknown, shared)? {
             Ok(effects) => {
                 let state = Reading {
-                    begun: Call::new(call, page, origin, options, provider),
+                    begun: Call::new(alloc, call, page, origin, options, provider)?,
                     replies: FirstReplies::none(),
                 };
                 Ok((CallState::Reading(state), effects))
@@ -208,13 +208,13 @@ impl CallState {
         ensures { result ≡ option_map (λ facts. facts.page) (facts_of self.now) }
     {
         match self {
-            CallState::Reading(state) => Some(state.begun.page),
-            CallState::Listing(state) => Some(state.begun.page),
-            CallState::Mismatch(state) => Some(state.begun.page),
-            CallState::Window(state) => Some(state.begun.page),
-            CallState::Choosing(state) => Some(state.begun.page),
-            CallState::Prompting(state) => Some(state.begun.page),
-            CallState::Asserting(state) => Some(state.begun.page),
+            CallState::Reading(state) => Some(state.begun.page()),
+            CallState::Listing(state) => Some(state.begun.page()),
+            CallState::Mismatch(state) => Some(state.begun.page()),
+            CallState::Window(state) => Some(state.begun.page()),
+            CallState::Choosing(state) => Some(state.begun.page()),
+            CallState::Prompting(state) => Some(state.begun.page()),
+            CallState::Asserting(state) => Some(state.begun.page()),
             CallState::Ended(_) => None,
         }
     }

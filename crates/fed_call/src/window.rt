@@ -70,7 +70,7 @@ impl Window {
 pub fn may_sign_in(begun: &Call) -> bool
     ensures { result ≡ spec.may_sign_in begun.now.mode begun.now.mediation }
 {
-    begun.mode == Mode::Active && begun.mediation != Mediation::Silent
+    begun.mode() == Mode::Active && begun.mediation() != Mediation::Silent
 }
 
 /// The login window of the provider at this place opens.

@@ -1,5 +1,5 @@
 //! Bytes that are a text.
-ghost use Rattle.std.specs.Prelude.{◌≡◌};
+ghost use Rattle.std.specs.Prelude.{◌≡◌, Some, IsTrue};
 ghost use Rattle.std.specs.Option.{option_copied};
 ghost use Rattle.fed_print.specs.Records as spec;
 
@@ -14,4 +14,11 @@ pub fn ascii_text(bytes: &[u8]) -> Option<&str>
         Ok(text) => Some(text),
         Err(_) => None,
     }
+}
+
+// Whether the bytes are such a text.
+pub fn is_ascii_text(bytes: &[u8]) -> bool
+    ensures { IsTrue result → spec.ascii_text bytes.now ≡ Some bytes.now }
+{
+    bytes.is_ascii()
 }

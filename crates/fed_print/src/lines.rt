@@ -1,47 +1,37 @@
 //! The lines of records, one behind the other.
-ghost use Rattle.std.specs.Prelude.{◌≡◌, ◌++◌, [], decimal, OnOk};
+ghost use Rattle.std.specs.Prelude.{◌≡◌, ◌++◌, [], OnOk};
+ghost use Rattle.json.specs.Print.{quoted};
 ghost use Rattle.fed_print.specs.Lines.{record_line, text_of};
 ghost use Rattle.fed_print.specs.Pieces as spec;
 
+use crate::ascii::is_ascii_text;
+use crate::escaped::push_quoted;
+use crate::pieces::push_counted;
 use crate::quoted::Quotes;
+use crate::record_lines::push_record;
 use crate::records::print;
 use fed_io::NoRoom;
 use fed_origin::ReplyKind;
 use fed_trace::Out;
-use itoa::Buffer;
 use std::alloc::Global;
 use std::marker::Model;
 
-fn push_number(text: &mut Vec<u8>, number: u32) -> Result<(), NoRoom>
-    ensures { OnOk result (text.new.items ≡ text.old.items ++ decimal number) }
-{
-    // The place of a provider is mostly this one.
-    if number == 0 {
-        text.push(b'0')?;
-        return Ok(());
-    }
-    let mut buffer = Buffer::new();
-    text.extend_from_slice(buffer.format(number).as_bytes())?;
-    Ok(())
-}
-
+#[tactic(auto, using(std::proofs::Common::append_assoc))]
 fn push_call_and_kind(text: &mut Vec<u8>, call: u32, kind: ReplyKind) -> Result<(), NoRoom>
     ensures { OnOk result (text.new.items ≡ text.old.items ++ spec.call_and_kind call kind) }
 {
-    text.extend_from_slice(b"{\"call\":")?;
-    push_number(text, call)?;
+    push_counted(text, b"{\"call\":", call)?;
     text.extend_from_slice(b",\"kind\":\"")?;
     text.extend_from_slice(kind.as_str().as_bytes())?;
     Ok(())
 }
 
+#[tactic(auto, using(std::proofs::Common::append_assoc))]
 fn push_line_and_provider(text: &mut Vec<u8>, line: u32, provider: u32) -> Result<(), NoRoom>
     ensures { OnOk result (text.new.items ≡ text.old.items ++ spec.line_and_provider line provider) }
 {
-    text.extend_from_slice(b"\",\"line\":")?;
-    push_number(text, line)?;
-    text.extend_from_slice(b",\"out\":\"request\",\"provider\":")?;
-    push_number(text, provider)?;
+    push_counted(text, b"\",\"line\":", line)?;
+    push_counted(text, b",\"out\":\"request\",\"provider\":", provider)?;
     Ok(())
 }
 
@@ -54,9 +44,36 @@ fn push_bytes_and_end(text: &mut Vec<u8>, quoted: &[u8]) -> Result<(), NoRoom>
     Ok(())
 }
 
+fn push_text_and_end(text: &mut Vec<u8>, bytes: &[u8]) -> Result<(), NoRoom>
+    ensures { OnOk result (text.new.items ≡ text.old.items ++ spec.bytes_and_end (quoted bytes.now)) }
+{
+    text.extend_from_slice(b",\"text\":")?;
+    push_quoted(text, bytes)?;
+    text.extend_from_slice(b"}\n")?;
+    Ok(())
+}
+
+// Appends the line of a request of bytes that are a text.
+#[tactic(auto, using(std::proofs::Common::append_assoc), unfolding(crate::specs::Pieces::request_pieces))]
+fn push_request(
+    text: &mut Vec<u8>,
+    line: u32,
+    call: u32,
+    provider: u32,
+    kind: ReplyKind,
+    bytes: &[u8],
+) -> Result<(), NoRoom>
+    ensures { OnOk result (text.new.items ≡ text.old.items ++ spec.request_pieces line call provider kind (quoted bytes.now)) }
+{
+    push_call_and_kind(text, call, kind)?;
+    push_line_and_provider(text, line, provider)?;
+    push_text_and_end(text, bytes)?;
+    Ok(())
+}
+
 // Appends the line of a request whose bytes JSON writes so.
 #[tactic(auto, using(std::proofs::Common::append_assoc), unfolding(crate::specs::Pieces::request_pieces))]
-fn push_quoted(
+fn push_kept(
     text: &mut Vec<u8>,
     line: u32,
     call: u32,
@@ -138,20 +155,29 @@ impl RecordLines {
             bytes,
         } = out
         else {
-            return print(self.alloc, out, &mut self.text);
+            return push_record(self.alloc, &mut self.text, out);
         };
         if let Some(quoted) = self.quotes.find(*kind, bytes.as_slice()) {
-            push_quoted(&mut self.text, *line, *call, *provider, *kind, quoted)?;
+            push_kept(&mut self.text, *line, *call, *provider, *kind, quoted)?;
             return Ok(());
         }
         self.quotes.keep(self.alloc, *kind, bytes.as_slice())?;
-        match self.quotes.find(*kind, bytes.as_slice()) {
-            Some(quoted) => {
-                push_quoted(&mut self.text, *line, *call, *provider, *kind, quoted)?;
-                Ok(())
-            }
-            None => print(self.alloc, out, &mut self.text),
+        if let Some(quoted) = self.quotes.find(*kind, bytes.as_slice()) {
+            push_kept(&mut self.text, *line, *call, *provider, *kind, quoted)?;
+            return Ok(());
         }
+        if !is_ascii_text(bytes.as_slice()) {
+            return print(self.alloc, out, &mut self.text);
+        }
+        push_request(
+            &mut self.text,
+            *line,
+            *call,
+            *provider,
+            *kind,
+            bytes.as_slice(),
+        )?;
+        Ok(())
     }
 
     /// Appends the lines of records, in their order. On want of memory a part of them may stand behind the lines.

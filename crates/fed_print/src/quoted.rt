@@ -4,9 +4,9 @@ ghost use Rattle.json.specs.Print.{quoted};
 ghost use Rattle.fed_print.specs.Records.{ascii_text};
 
 use crate::ascii::ascii_text;
+use crate::escaped::push_quoted;
 use fed_io::NoRoom;
 use fed_origin::ReplyKind;
-use json::Writer;
 use std::alloc::Global;
 use std::marker::Model;
 
@@ -31,15 +31,13 @@ impl Model for Quoted {
 }
 
 // A text as JSON writes it, in memory that is used again.
-#[tactic(auto, using(crate::proofs::printing::Requests::string_alone))]
 fn quoted_text(memory: Vec<u8>, text: &str) -> Result<Vec<u8>, NoRoom>
     ensures { IfOk result (λ written. written.items ≡ quoted text.now) }
 {
-    let mut memory = memory;
-    memory.clear();
-    let mut writer = Writer::new(memory);
-    writer.string(text)?;
-    Ok(writer.into_inner())
+    let mut written = memory;
+    written.clear();
+    push_quoted(&mut written, text.as_bytes())?;
+    Ok(written)
 }
 
 // A copy of bytes, in memory that is used again.

@@ -1,4 +1,6 @@
 //! Lines of the kind `disconnect`.
+ghost use Rattle.std.specs.Prelude.{◌≡◌};
+ghost use Rattle.std.specs.Result.{result_map_both};
 ghost use Rattle.fed_json.specs.Part.{data_at};
 ghost use Rattle.fed_io.specs.Fault.{Answers};
 ghost use Rattle.fed_script.specs.Disconnect as spec;
@@ -11,6 +13,28 @@ use fed_io::{Fault, Text};
 use fed_json::Part;
 use std::alloc::Global;
 
+/// The members of a disconnect call, its URL as text.
+#[derive(Clone, Copy, Drop)]
+pub(crate) struct DisconnectMembers<'a> {
+    pub page: u32,
+    pub call: u32,
+    pub config: &'a str,
+    pub client: &'a str,
+    pub hint: &'a str,
+}
+
+fn disconnect_members<'a>(d: &Part<'_, 'a>) -> Result<DisconnectMembers<'a>, LineCause>
+    ensures { result_map_both spec.disconnect_seen (λ e. e) result ≡ spec.disconnect_members (data_at d.now) }
+{
+    Ok(DisconnectMembers {
+        page: number(d, MemberName::Page)?,
+        call: number(d, MemberName::Call)?,
+        config: text(d, MemberName::Config)?,
+        client: text(d, MemberName::Client)?,
+        hint: text(d, MemberName::Hint)?,
+    })
+}
+
 /// The disconnect call that a line names; `last` is the configuration URL before it.
 pub(crate) fn disconnect(
     alloc: Global,
@@ -19,16 +43,26 @@ pub(crate) fn disconnect(
 ) -> Result<Event, Fault<LineCause>>
     ensures { Answers result (spec.disconnect_of (data_at d.now)) }
 {
-    let page = number(d, MemberName::Page).map_err(Fault::Step)?;
-    let call = number(d, MemberName::Call).map_err(Fault::Step)?;
-    let config = text(d, MemberName::Config).map_err(Fault::Step)?;
-    let client = text(d, MemberName::Client).map_err(Fault::Step)?;
-    let hint = text(d, MemberName::Hint).map_err(Fault::Step)?;
+    match disconnect_members(d) {
+        Err(cause) => Err(Fault::Step(cause)),
+        Ok(members) => disconnect_by(alloc, last, &members),
+    }
+}
+
+/// The disconnect call with these members.
+pub(crate) fn disconnect_by(
+    alloc: Global,
+    last: &mut LastConfig,
+    members: &DisconnectMembers<'_>,
+) -> Result<Event, Fault<LineCause>>
+    ensures { Answers result (spec.disconnect_by (spec.disconnect_seen members.now)) }
+{
+    let config = last.read(alloc, members.config)?;
     Ok(Event::Disconnect {
-        page,
-        call,
-        config: last.read(alloc, config)?,
-        client: Text::of(alloc, client)?,
-        hint: Text::of(alloc, hint)?,
+        page: members.page,
+        call: members.call,
+        config,
+        client: Text::of(alloc, members.client)?,
+        hint: Text::of(alloc, members.hint)?,
     })
 }

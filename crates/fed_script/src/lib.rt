@@ -6,6 +6,7 @@ mod cause;
 mod choose;
 mod config;
 mod disconnect;
+mod escaped;
 mod event;
 mod get;
 mod have;
@@ -24,6 +25,7 @@ mod reply;
 mod script;
 mod single;
 mod status;
+mod texts;
 mod used;
 
 pub use bytes::{is_blank, next_line};

@@ -10,20 +10,21 @@ ghost use Rattle.std.specs.Result.{result_map_both};
 use crate::cause::{LineCause, MemberName};
 use crate::choose::choose;
 use crate::config::LastConfig;
-use crate::disconnect::disconnect;
+use crate::disconnect::{disconnect, disconnect_by};
 use crate::event::Event;
 use crate::get::{get, get_by};
 use crate::have::have_named;
 use crate::load::{load, load_by};
 use crate::member::{member, tape_of};
-use crate::plain::{PlainLine, plain_line};
+use crate::plain::{PlainLine, load_line, plain_line, reply_line};
 use crate::reply::reply;
 use crate::single::{
     abort, at, cancel, close_page, go_on, idp_close, prevent, shut_window, sign_in,
 };
 use crate::status::set_status;
+use crate::texts::{LastTexts, text_bytes};
 use crate::used::Used;
-use fed_io::Fault;
+use fed_io::{Fault, NoRoom};
 use fed_json::Part;
 use json::Scratch;
 use std::alloc::Global;
@@ -71,21 +72,100 @@ fn event_of_kind(
     }
 }
 
-/// The event that a line names, before the lines before it are looked at; `last` is the configuration URL before it.
+/// What is kept from one line to the next: memory for reading, and what was read last. No answer hangs on it.
+#[derive(Drop)]
+pub(crate) struct LineMemory {
+    scratch: Scratch,
+    config: LastConfig,
+    texts: LastTexts,
+}
+
+impl LineMemory {
+    /// Before the first line. It takes no memory.
+    pub(crate) fn new(alloc: Global) -> LineMemory {
+        LineMemory {
+            scratch: Scratch::new(alloc),
+            config: LastConfig::none(),
+            texts: LastTexts::none(),
+        }
+    }
+}
+
+/// The event that a line names, before the lines before it are looked at.
 pub(crate) fn event_named(
     alloc: Global,
-    scratch: &mut Scratch,
-    last: &mut LastConfig,
+    memory: &mut LineMemory,
+    line: &[u8],
+) -> Result<Event, Fault<LineCause>>
+    ensures { Answers result (spec.event_named line.now) }
+{
+    match line.get(7) {
+        Some(b'r') => reply_named(alloc, memory, line),
+        Some(b'l') => load_named(alloc, memory, line),
+        _ => other_named(alloc, memory, line),
+    }
+}
+
+// The same of a line that is perhaps a reply as JSON writers give it.
+fn reply_named(
+    alloc: Global,
+    memory: &mut LineMemory,
+    line: &[u8],
+) -> Result<Event, Fault<LineCause>>
+    ensures { Answers result (spec.event_named line.now) }
+{
+    let Some((call, kind, escaped)) = reply_line(line) else {
+        return event_of_tape(alloc, memory, line);
+    };
+    match memory.texts.read(alloc, kind, escaped) {
+        Ok(Some(raw)) => Ok(Event::Reply {
+            call,
+            provider: 0,
+            kind,
+            raw,
+        }),
+        Ok(None) => event_of_tape(alloc, memory, line),
+        Err(NoRoom) => Err(Fault::NoRoom),
+    }
+}
+
+// The same of a line that is perhaps a load as JSON writers give it.
+fn load_named(
+    alloc: Global,
+    memory: &mut LineMemory,
+    line: &[u8],
+) -> Result<Event, Fault<LineCause>>
+    ensures { Answers result (spec.event_named line.now) }
+{
+    let Some((page, url, reply)) = load_line(line) else {
+        return event_of_tape(alloc, memory, line);
+    };
+    let Some(escaped) = reply else {
+        return load_by(alloc, page, url, None);
+    };
+    match text_bytes(alloc, escaped) {
+        Ok(Some(raw)) => load_by(alloc, page, url, Some(raw)),
+        Ok(None) => event_of_tape(alloc, memory, line),
+        Err(NoRoom) => Err(Fault::NoRoom),
+    }
+}
+
+// The same of a line of another kind.
+fn other_named(
+    alloc: Global,
+    memory: &mut LineMemory,
     line: &[u8],
 ) -> Result<Event, Fault<LineCause>>
     ensures { Answers result (spec.event_named line.now) }
 {
     match plain_line(line) {
-        Some(PlainLine::Load { page, url }) => load_by(alloc, page, url),
-        Some(PlainLine::Get(members)) => get_by(alloc, last, &members),
+        Some(PlainLine::Get(members)) => get_by(alloc, &mut memory.config, &members),
+        Some(PlainLine::Disconnect(members)) => {
+            disconnect_by(alloc, &mut memory.config, &members)
+        }
         Some(PlainLine::ClosePage(page)) => Ok(Event::ClosePage { page }),
         Some(PlainLine::GoOn(call)) => Ok(Event::GoOn { call }),
-        None => event_of_tape(alloc, scratch, last, line),
+        None => event_of_tape(alloc, memory, line),
     }
 }
 
@@ -93,16 +173,15 @@ pub(crate) fn event_named(
 #[inline(never)]
 fn event_of_tape(
     alloc: Global,
-    scratch: &mut Scratch,
-    last: &mut LastConfig,
+    memory: &mut LineMemory,
     line: &[u8],
 ) -> Result<Event, Fault<LineCause>>
     ensures { Answers result (spec.event_named line.now) }
 {
-    let tape = tape_of(alloc, scratch, line)?;
+    let tape = tape_of(alloc, &mut memory.scratch, line)?;
     let d = Part::of(&tape);
     match kind_of(&d) {
-        Ok(kind) => event_of_kind(alloc, last, kind, &d),
+        Ok(kind) => event_of_kind(alloc, &mut memory.config, kind, &d),
         Err(cause) => Err(Fault::Step(cause)),
     }
 }

@@ -7,7 +7,7 @@ use crate::cause::{LineCause, MemberName};
 use crate::event::Event;
 use crate::member::{number, text, web_url};
 use crate::raw::optional_bytes;
-use fed_io::Fault;
+use fed_io::{Bytes, Fault};
 use fed_json::Part;
 use std::alloc::Global;
 
@@ -18,15 +18,18 @@ pub(crate) fn load(alloc: Global, d: &Part<'_, '_>) -> Result<Event, Fault<LineC
     let page = number(d, MemberName::Page).map_err(Fault::Step)?;
     let url = text(d, MemberName::Url).map_err(Fault::Step)?;
     let raw = optional_bytes(alloc, d)?;
-    let url = web_url(alloc, url)?;
-    Ok(Event::Load { page, url, raw })
+    load_by(alloc, page, url, raw)
 }
 
-/// The load of a page whose URL is a text, without a reply.
-pub(crate) fn load_by(alloc: Global, page: u32, url: &str) -> Result<Event, Fault<LineCause>>
-    ensures { Answers result (spec.load_by page url.now) }
+/// The load of a page whose URL is a text, with the bytes of a reply if there are any.
+pub(crate) fn load_by(
+    alloc: Global,
+    page: u32,
+    url: &str,
+    raw: Option<Bytes>,
+) -> Result<Event, Fault<LineCause>>
+    ensures { Answers result (spec.load_by page url.now raw) }
 {
     let url = web_url(alloc, url)?;
-    let raw = None;
     Ok(Event::Load { page, url, raw })
 }

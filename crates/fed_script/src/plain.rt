@@ -1,24 +1,31 @@
-//! Lines as JSON writers give them: no white space, no escape, and their members in the order of the profile's table. They are
-//! told from others byte by byte and read without a tape, which spares some 2,500 instructions; each other line has its tape.
-ghost use Rattle.std.specs.Prelude.{◌≡◌, ◌<◌, ◌++◌, IfSome, IsTrue, IsUtf8, decimal, length, true};
+//! Lines as JSON writers give them: no white space, no escape but in the bytes of replies, and their members in the order of the
+//! profile's table. They are told from others byte by byte and read without a tape, which spares some 2,500 instructions; each other
+//! line has its tape.
+ghost use Rattle.std.specs.Prelude.{◌≡◌, ◌<◌, ◌++◌, ℕ, List, None, Some, Ok, IfSome, IsTrue, IsUtf8, cond, decimal, length, true};
 ghost use Rattle.std.specs.List.{list_all};
+ghost use Rattle.fed_script.specs.declared.event.Event.TheVariants as events;
+ghost use Rattle.json.specs.Print.{escape};
 ghost use Rattle.fed_script.specs.Get.{get_seen};
 ghost use Rattle.fed_script.specs.Line.{event_named};
+ghost use Rattle.fed_script.specs.Load.{load_by};
 ghost use Rattle.fed_script.specs.Plain as spec;
 ghost use Rattle.fed_script.specs.Plain.{is_plain_byte};
 
+use crate::disconnect::DisconnectMembers;
+use crate::escaped::is_plain;
 use crate::get::{GetMembers, ProviderMembers};
 use crate::options::OptionMembers;
-use fed_origin::{Context, Mediation, Mode};
+use crate::texts::last_text;
+use fed_origin::{Context, Mediation, Mode, ReplyKind};
 use itoa::Buffer;
 use memchr::memchr;
 use std::str;
 
-/// What such a line says.
+/// What such a line says, but for loads and replies.
 #[derive(Clone, Copy, Drop)]
 pub(crate) enum PlainLine<'a> {
-    Load { page: u32, url: &'a str },
     Get(GetMembers<'a>),
+    Disconnect(DisconnectMembers<'a>),
     ClosePage(u32),
     GoOn(u32),
 }
@@ -64,12 +71,6 @@ fn number(rest: &[u8]) -> Option<(u32, &[u8])>
     Some((number, left))
 }
 
-fn is_plain(b: u8) -> bool
-    ensures { result ≡ is_plain_byte b }
-{
-    !(b == b'"' || (b == b'\\' || b < 32))
-}
-
 // Where the first quote stands.
 fn quote_in(rest: &[u8]) -> Option<usize>
     ensures { IfSome result (λ end. end < length rest.now) }
@@ -105,16 +106,54 @@ fn text(rest: &[u8]) -> Option<(&str, &[u8])>
     }
 }
 
-fn load_line(line: &[u8]) -> Option<(u32, &str)>
-    ensures { IfSome result (λ found. (line.now ≡ spec.load_text found.0 found.1.now)
-        × ((list_all is_plain_byte found.1.now ≡ true) × IsUtf8 found.1.now)) }
+// The page and the URL of a load, and what is left from the quote after it.
+fn load_front(line: &[u8]) -> Option<(u32, &str, &[u8])>
+    ensures text { IfSome result (λ found. line.now ≡ spec.load_text found.0 found.1.now found.2.now) }
+    ensures plain { IfSome result (λ found. (list_all is_plain_byte found.1.now ≡ true) × IsUtf8 found.1.now) }
 {
     let rest = after(line, b"{\"do\":\"load\",\"page\":")?;
     let (page, rest) = number(rest)?;
     let rest = after(rest, b",\"url\":\"")?;
     let (url, rest) = text(rest)?;
-    end(rest, b"\"}")?;
-    Some((page, url))
+    Some((page, url, rest))
+}
+
+/// The page of a load, its URL, and the text of its reply with its escapes, if it has one.
+pub(crate) fn load_line(line: &[u8]) -> Option<(u32, &str, Option<&[u8]>)>
+    ensures alone { IfSome result (λ found. found.2 ≡ None → event_named line.now ≡ load_by found.0 found.1.now None) }
+    ensures reply { IfSome result (λ found. IfSome found.2 (λ escaped. (raw : List ℕ) → escaped.now ≡ escape raw → IsUtf8 raw
+        → event_named line.now ≡ load_by found.0 found.1.now (Some raw))) }
+{
+    let (page, url, rest) = load_front(line)?;
+    if rest == b"\"}".as_slice() {
+        return Some((page, url, None));
+    }
+    let escaped = last_text(after(rest, b"\",\"text\":\"")?)?;
+    Some((page, url, Some(escaped)))
+}
+
+// The call and the kind of a reply, and what is left from its text on.
+fn reply_front(line: &[u8]) -> Option<(u32, &str, &[u8])>
+    ensures text { IfSome result (λ found. line.now ≡ spec.reply_text found.0 found.1.now found.2.now) }
+    ensures plain { IfSome result (λ found. (list_all is_plain_byte found.1.now ≡ true) × IsUtf8 found.1.now) }
+{
+    let rest = after(line, b"{\"do\":\"reply\",\"call\":")?;
+    let (call, rest) = number(rest)?;
+    let rest = after(rest, b",\"to\":\"")?;
+    let (word, rest) = text(rest)?;
+    let rest = after(rest, b"\",\"text\":\"")?;
+    Some((call, word, rest))
+}
+
+/// The call and the kind of a reply, and its text with its escapes.
+pub(crate) fn reply_line(line: &[u8]) -> Option<(u32, ReplyKind, &[u8])>
+    ensures { IfSome result (λ found. (raw : List ℕ) → found.2.now ≡ escape raw → IsUtf8 raw
+        → event_named line.now ≡ Ok (events.Reply found.0 0 found.1 raw)) }
+{
+    let (call, word, rest) = reply_front(line)?;
+    let kind = ReplyKind::of_word(word)?;
+    let escaped = last_text(rest)?;
+    Some((call, kind, escaped))
 }
 
 fn close_page_line(line: &[u8]) -> Option<u32>
@@ -135,9 +174,22 @@ fn go_on_line(line: &[u8]) -> Option<u32>
     Some(call)
 }
 
-// The configuration URL and the client of the only provider, where it names nothing else.
-fn provider(rest: &[u8]) -> Option<(&str, &str)>
-    ensures text { IfSome result (λ found. rest.now ≡ spec.providers_text found.0.now found.1.now) }
+// Whether a get is active and the user acted at the page, by what follows its providers.
+fn get_end(rest: &[u8]) -> Option<bool>
+    ensures { IfSome result (λ active. rest.now ≡ spec.get_end active) }
+{
+    if rest == b"\"}]}".as_slice() {
+        return Some(false);
+    }
+    if rest == b"\"}],\"mode\":\"active\",\"activation\":true}".as_slice() {
+        return Some(true);
+    }
+    None
+}
+
+// The configuration URL and the client of the only provider, where it names nothing else, and whether the get is active.
+fn provider(rest: &[u8]) -> Option<(&str, &str, bool)>
+    ensures text { IfSome result (λ found. rest.now ≡ spec.providers_text found.0.now found.1.now found.2) }
     ensures plain { IfSome result (λ found.
         (list_all is_plain_byte found.0.now ≡ true) × (list_all is_plain_byte found.1.now ≡ true)) }
     ensures utf8 { IfSome result (λ found. IsUtf8 found.0.now × IsUtf8 found.1.now) }
@@ -146,13 +198,13 @@ fn provider(rest: &[u8]) -> Option<(&str, &str)>
     let (config, rest) = text(rest)?;
     let rest = after(rest, b"\",\"client\":\"")?;
     let (client, rest) = text(rest)?;
-    end(rest, b"\"}]}")?;
-    Some((config, client))
+    let active = get_end(rest)?;
+    Some((config, client, active))
 }
 
 // The page, the call, and the rest of a get.
-fn get_line(line: &[u8]) -> Option<(u32, u32, (&str, &str))>
-    ensures text { IfSome result (λ found. line.now ≡ spec.get_text found.0 found.1 found.2.0.now found.2.1.now) }
+fn get_line(line: &[u8]) -> Option<(u32, u32, (&str, &str, bool))>
+    ensures text { IfSome result (λ found. line.now ≡ spec.get_text found.0 found.1 found.2.0.now found.2.1.now found.2.2) }
     ensures plain { IfSome result (λ found.
         (list_all is_plain_byte found.2.0.now ≡ true) × (list_all is_plain_byte found.2.1.now ≡ true)) }
     ensures utf8 { IfSome result (λ found. IsUtf8 found.2.0.now × IsUtf8 found.2.1.now) }
@@ -165,17 +217,30 @@ fn get_line(line: &[u8]) -> Option<(u32, u32, (&str, &str))>
     Some((page, call, found))
 }
 
+// The mode of a get that is active or not.
+fn mode(active: bool) -> Mode
+    ensures { result ≡ cond active Mode.Active Mode.Passive }
+{
+    if active { Mode::Active } else { Mode::Passive }
+}
+
 // The members of a get whose provider names nothing else.
-fn members<'a>(page: u32, call: u32, config: &'a str, client: &'a str) -> GetMembers<'a>
-    ensures { get_seen result ≡ spec.plain_members page call config.now client.now }
+fn members<'a>(
+    page: u32,
+    call: u32,
+    config: &'a str,
+    client: &'a str,
+    active: bool,
+) -> GetMembers<'a>
+    ensures { get_seen result ≡ spec.plain_members page call config.now client.now active }
 {
     GetMembers {
         page,
         call,
         options: OptionMembers {
             mediation: Mediation::Optional,
-            mode: Mode::Passive,
-            activation: false,
+            mode: mode(active),
+            activation: active,
             context: Context::SignIn,
         },
         provider: ProviderMembers {
@@ -189,19 +254,58 @@ fn members<'a>(page: u32, call: u32, config: &'a str, client: &'a str) -> GetMem
     }
 }
 
-/// What a line says that JSON writers give so; None where it is another line.
-#[tactic(auto, using(crate::proofs::plainly::Events::load_event, crate::proofs::plainly::Events::get_event, crate::proofs::plainly::Events::closepage_event, crate::proofs::plainly::Events::go_on_event))]
+// The texts of a disconnect call.
+fn disconnect_texts(rest: &[u8]) -> Option<(&str, &str, &str)>
+    ensures text { IfSome result (λ found. rest.now ≡ spec.disconnect_texts found.0.now found.1.now found.2.now) }
+    ensures plain { IfSome result (λ found. (list_all is_plain_byte found.0.now ≡ true)
+        × ((list_all is_plain_byte found.1.now ≡ true) × (list_all is_plain_byte found.2.now ≡ true))) }
+    ensures utf8 { IfSome result (λ found. IsUtf8 found.0.now × (IsUtf8 found.1.now × IsUtf8 found.2.now)) }
+{
+    let rest = after(rest, b",\"config\":\"")?;
+    let (config, rest) = text(rest)?;
+    let rest = after(rest, b"\",\"client\":\"")?;
+    let (client, rest) = text(rest)?;
+    let rest = after(rest, b"\",\"hint\":\"")?;
+    let (hint, rest) = text(rest)?;
+    end(rest, b"\"}")?;
+    Some((config, client, hint))
+}
+
+// The page, the call, and the texts of a disconnect call.
+fn disconnect_line(line: &[u8]) -> Option<(u32, u32, (&str, &str, &str))>
+    ensures text { IfSome result (λ found.
+        line.now ≡ spec.disconnect_text found.0 found.1 found.2.0.now found.2.1.now found.2.2.now) }
+    ensures plain { IfSome result (λ found. (list_all is_plain_byte found.2.0.now ≡ true)
+        × ((list_all is_plain_byte found.2.1.now ≡ true) × (list_all is_plain_byte found.2.2.now ≡ true))) }
+    ensures utf8 { IfSome result (λ found. IsUtf8 found.2.0.now × (IsUtf8 found.2.1.now × IsUtf8 found.2.2.now)) }
+{
+    let rest = after(line, b"{\"do\":\"disconnect\",\"page\":")?;
+    let (page, rest) = number(rest)?;
+    let rest = after(rest, b",\"call\":")?;
+    let (call, rest) = number(rest)?;
+    let texts = disconnect_texts(rest)?;
+    Some((page, call, texts))
+}
+
+/// What a line of another kind says that JSON writers give so; None where it is another line.
+#[tactic(auto, using(crate::proofs::plainly::Events::get_event, crate::proofs::plainly::Events::disconnect_event, crate::proofs::plainly::Events::closepage_event, crate::proofs::plainly::Events::go_on_event))]
 pub(crate) fn plain_line(line: &[u8]) -> Option<PlainLine<'_>>
-    ensures { IfSome result (λ found. event_named line.now ≡ spec.event_by found) }
+    ensures { IfSome result (λ said. event_named line.now ≡ spec.event_by said) }
 {
     match line.get(7) {
-        Some(b'l') => {
-            let (page, url) = load_line(line)?;
-            Some(PlainLine::Load { page, url })
-        }
         Some(b'g') => {
-            let (page, call, (config, client)) = get_line(line)?;
-            Some(PlainLine::Get(members(page, call, config, client)))
+            let (page, call, (config, client, active)) = get_line(line)?;
+            Some(PlainLine::Get(members(page, call, config, client, active)))
+        }
+        Some(b'd') => {
+            let (page, call, (config, client, hint)) = disconnect_line(line)?;
+            Some(PlainLine::Disconnect(DisconnectMembers {
+                page,
+                call,
+                config,
+                client,
+                hint,
+            }))
         }
         Some(b'c') => match close_page_line(line) {
             Some(page) => Some(PlainLine::ClosePage(page)),

@@ -6,12 +6,10 @@ ghost use Rattle.fed_script.specs.Used as spec;
 ghost use Rattle.fed_script.specs.Used.{unused, used_after, is_used, is_late, is_back, IsUnused};
 
 use crate::cause::LineCause;
-use crate::config::LastConfig;
 use crate::event::Event;
-use crate::line::event_named;
+use crate::line::{LineMemory, event_named};
 use fed_io::{Fault, NoRoom};
 use indexmap::IndexSet;
-use json::Scratch;
 use std::alloc::Global;
 use std::marker::Model;
 
@@ -23,9 +21,7 @@ pub struct Used {
     started: bool,
     events: u32,
     time: u64,
-    // The memory in which lines are read, and what was read last, kept from one line to the next.
-    scratch: Scratch,
-    config: LastConfig,
+    memory: LineMemory,
 }
 
 impl Model for Used {
@@ -46,8 +42,7 @@ impl Used {
             started: false,
             events: 0,
             time,
-            scratch: Scratch::new(alloc),
-            config: LastConfig::none(),
+            memory: LineMemory::new(alloc),
         }
     }
 
@@ -104,7 +99,7 @@ impl Used {
         ensures answer { Answers result (event_named line.now) }
         ensures same { self.new ≡ self.old }
     {
-        event_named(alloc, &mut self.scratch, &mut self.config, line)
+        event_named(alloc, &mut self.memory, line)
     }
 
     /// Counts an event, its call's number as used, and the time that it names. On NoRoom nothing changes.

@@ -7,7 +7,7 @@ ghost use Rattle.fed_trace.specs.Begun.{is_get};
 ghost use Rattle.fed_trace.specs.Call.{Known, OfGet, OfDisconnect, kind_of, page_of};
 ghost use Rattle.fed_session.specs.StepParts.{known_of, awaited_in, stage_in, outcome_at, kept_next};
 
-use fed_call::{CallState, Ended};
+use fed_call::CallState;
 use fed_consent::{Effect, Input};
 use fed_disconnect::{DEnded, DState};
 use fed_io::{Items, NoRoom};
@@ -17,10 +17,10 @@ use std::alloc::Global;
 use std::marker::Model;
 use std::mem;
 
-/// The state of a call that is pending, by its kind, in a place of its own.
+/// The state of a call that is pending, by its kind. That of a get is small, and what is large of it stands in places of its own.
 #[derive(Drop)]
 pub enum Pending {
-    Get(Box<CallState>),
+    Get(CallState),
     Disconnect(Box<DState>),
 }
 
@@ -52,10 +52,9 @@ impl Pending {
         ensures kept { IfOk result (λ r. r.0 ≡ kept_next (world_of shared.now) (known_of self) input.now) }
     {
         match self {
-            Pending::Get(mut place) => {
-                let state = mem::replace(&mut *place, CallState::Ended(Ended));
+            Pending::Get(state) => {
                 let (state, effects) = state.advance(alloc, input, shared)?;
-                Ok((Kept::get_in(place, state), effects))
+                Ok((Kept::of_get(state), effects))
             }
             Pending::Disconnect(mut place) => {
                 let state = mem::replace(&mut *place, DState::DEnded(DEnded));
@@ -104,15 +103,15 @@ impl Pending {
 }
 
 impl Kept {
-    /// What is kept of a get in this state.
-    pub(crate) fn of_get(alloc: Global, state: CallState) -> Result<Kept, NoRoom>
-        ensures { IfOk result (λ kept. kept ≡ option_map OfGet (facts_of state)) }
+    /// What is kept of a get in this state. It takes no memory.
+    pub(crate) fn of_get(state: CallState) -> Kept
+        ensures { result ≡ option_map OfGet (facts_of state) }
     {
         match state {
-            CallState::Ended(..) => Ok(Kept::over()),
-            other => Ok(Kept {
-                state: Some(Pending::Get(Box::new(alloc, other)?)),
-            }),
+            CallState::Ended(..) => Kept::over(),
+            other => Kept {
+                state: Some(Pending::Get(other)),
+            },
         }
     }
 
@@ -128,22 +127,7 @@ impl Kept {
         }
     }
 
-    // What is kept of a get in this state, in the place of the state before it. It takes no memory.
-    fn get_in(mut place: Box<CallState>, state: CallState) -> Kept
-        ensures { result ≡ option_map OfGet (facts_of state) }
-    {
-        match state {
-            CallState::Ended(..) => Kept::over(),
-            other => {
-                *place = other;
-                Kept {
-                    state: Some(Pending::Get(place)),
-                }
-            }
-        }
-    }
-
-    // The same of a disconnect call.
+    // What is kept of a disconnect call in this state, in the place of the state before it. It takes no memory.
     fn disconnect_in(mut place: Box<DState>, state: DState) -> Kept
         ensures { result ≡ option_map OfDisconnect (disconnect_facts_of state) }
     {

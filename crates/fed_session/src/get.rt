@@ -93,7 +93,7 @@ fn begin(
         origin.copy(alloc)?,
         options.copy(alloc)?,
     )?;
-    Ok((Kept::of_get(alloc, state)?, effects))
+    Ok((Kept::of_get(state), effects))
 }
 
 // The configuration URL of the only provider.

@@ -270,7 +270,13 @@ not-json | {"do":"load","page":,"url":"https://a/"}
 not-json | {"do":"load","page":1,"url":"https://a/"
 not-json | {"do":"load","page":1,"url":"https://a/"}}
 not-json | {"do":"load","page":1,"url":"https://a/\"}
+not-json | {"do":"load","page":1,"url":"https://a/","text":"a\"}
+not-json | {"do":"load","page":1,"url":"https://a/","text":"a\x"}
+not-json | {"do":"load","page":1,"url":"https://a/","text":"a"b"}
+bad-url | {"do":"load","page":1,"url":"ftp://a/","text":"a"}
 not-json | {"do":"get","page":1,"call":2,"providers":[{"config":"https://a/","client":"c"}]
+not-json | {"do":"get","page":1,"call":2,"providers":[{"config":"https://a/","client":"c"}],"mode":"active","activation":true
+member.activation | {"do":"get","page":1,"call":2,"providers":[{"config":"https://a/","client":"c"}],"mode":"active","activation":1}
 member.page | {"do":"closepage","page":4294967296}
 not-json | {"do":"closepage","page":1}}
 not-json | {"do":"continue","call":00}

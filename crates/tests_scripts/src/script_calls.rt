@@ -214,6 +214,9 @@ fn modes(rt: HostRuntime) -> Result<(), Fail> {
     let both =
         r#"{"do":"get","page":1,"call":1,"mode":"active","activation":true,"providers":[{"config":"https://a","client":"c"}]}"#;
     assert!(rt; reads_mode(alloc, both, Mode::Active, true));
+    let written =
+        r#"{"do":"get","page":1,"call":1,"providers":[{"config":"https://a","client":"c"}],"mode":"active","activation":true}"#;
+    assert!(rt; reads_mode(alloc, written, Mode::Active, true));
     Ok(())
 }
 
@@ -221,6 +224,8 @@ fn modes(rt: HostRuntime) -> Result<(), Fail> {
 fn rows_of_replies() -> &'static str {
     r#"ok | {"do":"reply","call":1,"to":"wellknown","text":"HTTP/1.1 200 OK"}
 ok | {"do":"reply","raw":"","to":"config","provider":3,"call":1}
+not-json | {"do":"reply","call":1,"to":"config","text":"HTTP/1.1 200 OK\r\n\q"}
+not-json | {"do":"reply","call":1,"to":"config","text":"HTTP/1.1 200 OK"
 member.call | {"do":"reply","provider":"x"}
 member.provider | {"do":"reply","call":1,"provider":"x"}
 member.provider | {"do":"reply","call":1,"provider":4294967296}

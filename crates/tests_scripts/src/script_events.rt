@@ -206,6 +206,9 @@ fn loads_with_bytes() -> &'static str {
 | {"do":"load","page":1,"url":"https://a","raw":""}
 104 105 | {"do":"load","page":1,"url":"https://a","raw":"aGk=","text":null}
 97 | {"do":"load","page":1,"url":"https://a","raw":"YQ=="}
+34 92 47 10 13 9 97 195 169 | {"do":"load","page":1,"url":"https://a","text":"\"\\/\n\r\taé"}
+8 12 47 31 | {"do":"load","page":1,"url":"https://a","text":"\b\f\/\u001f"}
+10 | {"do":"load","page":1,"url":"https://a","text":"\n" }
 251 255 254 | {"do":"load","page":1,"url":"https://a","raw":"+/\/+"}
 0 255 0 | {"do":"load","page":1,"url":"https://a","raw":"AP8A"}
 none| {"do":"load","page":1,"url":"https://a"}

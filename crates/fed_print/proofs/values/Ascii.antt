@@ -2,6 +2,7 @@
 use Rattle.std.proofs.Common.{◌≡◌, ◌≤◌, ◌∙◌, ℕ, zero, suc, List, [], ◌∷◌, Bool, true, false, ◌&&◌, Some, None}
 use Rattle.std.proofs.Common.{cond, refl, sym, ap, arith}
 use Rattle.std.proofs.lemmas.Bool.Decides.{nat_tests}
+use Rattle.std.specs.Bool.{MatchBool, IsTrue}
 use Rattle.std.specs.List.{list_all}
 use Rattle.std.specs.Prelude.{nat_lt, slice_index, unwrap_or}
 use Rattle.std.specs.Str.{IsAscii, IsNotAscii}
@@ -25,6 +26,12 @@ one_above (b ∷ bytes) (suc i) h = last_false _ _ (one_above bytes i h)
 
 pub text_from_ascii : (bytes : List ℕ) → IsAscii bytes → ascii_text bytes ≡ Some bytes
 text_from_ascii bytes h = ap (λ b. cond b (Some bytes) None) (all_below bytes h)
+
+-- the same by the test
+pub text_when_ascii : (b : Bool) (bytes : List ℕ) → MatchBool b (IsAscii bytes) (IsNotAscii bytes) → IsTrue b
+    → ascii_text bytes ≡ Some bytes
+text_when_ascii true bytes h _ = text_from_ascii bytes h
+text_when_ascii false bytes h e = absurd (cc)
 
 pub none_from_not_ascii : (bytes : List ℕ) → IsNotAscii bytes → ascii_text bytes ≡ None
 none_from_not_ascii bytes h = ap (λ b. cond b (Some bytes) None) (one_above bytes h.0 h.1)

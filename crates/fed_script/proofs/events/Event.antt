@@ -20,7 +20,7 @@ use Rattle.fed_script.specs.Load.{load_of}
 use Rattle.fed_script.specs.Get.{get_members, get_of}
 use Rattle.fed_script.specs.Reply.{reply_of}
 use Rattle.fed_script.specs.Choose.{choose_of}
-use Rattle.fed_script.specs.Disconnect.{disconnect_of}
+use Rattle.fed_script.specs.Disconnect.{disconnect_members, disconnect_of}
 use Rattle.fed_script.specs.Line.{kind_of, event_of_kind, event_named}
 use Rattle.fed_script.specs.Used.{IsKnown, SaysKnown, HasOneProvider, HasKnownStatus}
 
@@ -121,10 +121,7 @@ prevent_good : (d : Data) → IfOk (prevent_of d) Good
 prevent_good d = always Good (required as_u32 names.Page d) _ (λ page. (tt, tt))
 
 disconnect_good : (d : Data) → IfOk (disconnect_of d) Good
-disconnect_good d =
-    always Good (required as_u32 names.Page d) _ (λ page. always Good (required as_u32 names.Call d) _
-    (λ call. always Good (required as_str names.Config d) _ (λ text. always Good (required as_str names.Client d) _
-    (λ client. always Good (required as_str names.Hint d) _ (λ hint. always Good (url_of text) _ (λ config. (tt, tt)))))))
+disconnect_good d = always Good (disconnect_members d) _ (λ members. always Good (url_of members.config) _ (λ config. (tt, tt)))
 
 load_good : (d : Data) → IfOk (load_of d) Good
 load_good d =

@@ -1,21 +1,25 @@
 -- The events that lines as JSON writers give them name.
-use Rattle.std.proofs.Common.{◌≡◌, ◌<◌, ◌^◌, ℕ, List, true, Option, Some, None, Ok, Result, cond, ap, ◌∙◌, arith}
+use Rattle.std.proofs.Common.{◌≡◌, ◌<◌, ◌^◌, ◌++◌, ℕ, List, Bool, true, false, codes, Option, Some, None, Ok, Result, cond, ap, subst, ◌∙◌, arith}
 use Rattle.std.proofs.lemmas.Bool.Decides.{nat_tests}
 use Rattle.std.specs.List.{list_all}
-use Rattle.std.specs.Prelude.{nat_lt}
+use Rattle.std.specs.Prelude.{nat_lt, IfSome}
 use Rattle.std.specs.Str.{IsUtf8}
+use Rattle.json.specs.Print.{escape}
 use Rattle.serde_json.specs.Data.{Data}
+use Rattle.fed_origin.specs.declared.stage.ReplyKind.{ReplyKind}
+use Rattle.fed_origin.specs.Words.{kind_of_word}
 use Rattle.fed_script.specs.declared.cause.LineCause.{LineCause}
 use Rattle.fed_script.specs.declared.cause.LineCause.TheVariants.{Member}
 use Rattle.fed_script.specs.declared.cause.MemberName.TheVariants as names
 use Rattle.fed_script.specs.declared.event.Event.{Event}
 use Rattle.fed_script.specs.declared.event.Event.TheVariants as events
+use Rattle.fed_script.specs.Disconnect.{disconnect_by}
 use Rattle.fed_script.specs.Get.{get_by}
 use Rattle.fed_script.specs.Line.{event_named, kind_of, event_of_kind}
 use Rattle.fed_script.specs.Load.{load_by}
 use Rattle.fed_script.specs.Member.{◌>>=◌, or_cause, small}
-use Rattle.fed_script.specs.Plain.{is_plain_byte, load_text, closepage_text, go_on_text, get_text, plain_members}
-use Rattle.fed_script.proofs.plainly.Tokens.{load_is, closepage_is, go_on_is, get_is}
+use Rattle.fed_script.specs.Plain.{is_plain_byte, load_text, reply_text, closepage_text, go_on_text, get_text, disconnect_text, plain_members}
+use Rattle.fed_script.proofs.plainly.Tokens.{load_is, load_reply_is, reply_is, closepage_is, go_on_is, get_is, disconnect_is}
 
 is_small : (n : ℕ) → n < 2 ^ 32 → small n ≡ Some n
 is_small n h = let below : nat_lt n (2 ^ 32) ≡ true = grind (arith, nat_tests, h) in ap (λ b. cond b (Some n) None) below
@@ -23,14 +27,42 @@ is_small n h = let below : nat_lt n (2 ^ 32) ≡ true = grind (arith, nat_tests,
 named_by : Result Data LineCause → Result Event LineCause
 named_by r = r >>= (λ d. kind_of d >>= (λ kind. event_of_kind kind d))
 
-load_from : Option ℕ → List ℕ → Result Event LineCause
-load_from page url = or_cause (Member names.Page) page >>= (λ p. load_by p url)
+load_from : Option ℕ → List ℕ → Option (List ℕ) → Result Event LineCause
+load_from page url raw = or_cause (Member names.Page) page >>= (λ p. load_by p url raw)
 
-pub load_event : (line : List ℕ) (page : ℕ) (url : List ℕ) → IsUtf8 url → page < 2 ^ 32 → list_all is_plain_byte url ≡ true
-    → line ≡ load_text page url → event_named line ≡ load_by page url
+pub load_event : (line : List ℕ) (page : ℕ) (url rest : List ℕ) → line ≡ load_text page url rest → rest ≡ codes "\"}" → IsUtf8 url
+    → page < 2 ^ 32 → list_all is_plain_byte url ≡ true → event_named line ≡ load_by page url None
 unfolding named_by load_from
-load_event line page url utf8 h plain is =
-    ap named_by (load_is line page url utf8 (omega arith) plain is) ∙ ap (λ p. load_from p url) (is_small page h)
+load_event line page url rest is last utf8 h plain =
+    ap named_by (load_is line page url utf8 (omega arith) plain (is ∙ ap (load_text page url) last))
+    ∙ ap (λ p. load_from p url None) (is_small page h)
+
+pub load_reply_event : (line : List ℕ) (page : ℕ) (url rest last text : List ℕ) → line ≡ load_text page url rest
+    → rest ≡ codes "\",\"text\":\"" ++ last → last ≡ escape text ++ codes "\"}" → IsUtf8 url → IsUtf8 text → page < 2 ^ 32
+    → list_all is_plain_byte url ≡ true → event_named line ≡ load_by page url (Some text)
+unfolding named_by load_from
+load_reply_event line page url rest last text is goes_on ends first second h plain =
+    ap named_by (load_reply_is line page url text first second (omega arith) plain
+    (is ∙ ap (load_text page url) (goes_on ∙ ap (λ l. codes "\",\"text\":\"" ++ l) ends)))
+    ∙ ap (λ p. load_from p url (Some text)) (is_small page h)
+
+-- what is said of the text of a reply, where there is one
+pub last_found : (rest : List ℕ) (found : Option (List ℕ)) (text : List ℕ) → found ≡ Some text
+    → IfSome found (λ bytes. (rest ≡ escape bytes ++ codes "\"}") × IsUtf8 bytes) → (rest ≡ escape text ++ codes "\"}") × IsUtf8 text
+last_found rest found text is h = subst (λ o. IfSome o (λ bytes. (rest ≡ escape bytes ++ codes "\"}") × IsUtf8 bytes)) is h
+
+reply_from : Option ℕ → Option ReplyKind → List ℕ → Result Event LineCause
+reply_from call kind text =
+    or_cause (Member names.Call) call >>= (λ c. or_cause (Member names.To) kind >>= (λ k. Ok (events.Reply c 0 k text)))
+
+pub reply_event : (line : List ℕ) (call : ℕ) (word rest text : List ℕ) (kind : ReplyKind) → line ≡ reply_text call word rest
+    → rest ≡ escape text ++ codes "\"}" → kind_of_word word ≡ Some kind → IsUtf8 word → IsUtf8 text → call < 2 ^ 32
+    → list_all is_plain_byte word ≡ true → event_named line ≡ Ok (events.Reply call 0 kind text)
+unfolding named_by reply_from
+reply_event line call word rest text kind is ends known first second h plain =
+    ap named_by (reply_is line call word text first second (omega arith) plain (is ∙ ap (reply_text call word) ends))
+    ∙ ap (λ c. reply_from c (kind_of_word word) text) (is_small call h)
+    ∙ ap (λ k. reply_from (Some call) k text) known
 
 closepage_from : Option ℕ → Result Event LineCause
 closepage_from page = or_cause (Member names.Page) page >>= (λ p. Ok (events.ClosePage p))
@@ -50,15 +82,35 @@ unfolding named_by go_on_from
 go_on_event line call h is =
     ap named_by (go_on_is line call (omega arith) is) ∙ ap go_on_from (is_small call h)
 
-get_from : Option ℕ → Option ℕ → List ℕ → List ℕ → Result Event LineCause
-get_from page call config client =
-    (or_cause (Member names.Page) page >>= (λ p. or_cause (Member names.Call) call >>= (λ c. Ok (plain_members p c config client)))) >>= get_by
+get_from : Option ℕ → Option ℕ → List ℕ → List ℕ → Bool → Result Event LineCause
+get_from page call config client active =
+    (or_cause (Member names.Page) page >>= (λ p. or_cause (Member names.Call) call >>= (λ c. Ok (plain_members p c config client active))))
+    >>= get_by
 
-pub get_event : (line : List ℕ) (page call : ℕ) (config client : List ℕ) → IsUtf8 config → IsUtf8 client → page < 2 ^ 32 → call < 2 ^ 32
-    → list_all is_plain_byte config ≡ true → list_all is_plain_byte client ≡ true → line ≡ get_text page call config client
-    → event_named line ≡ get_by (plain_members page call config client)
+pub get_event : (line : List ℕ) (page call : ℕ) (config client : List ℕ) (active : Bool) → IsUtf8 config → IsUtf8 client → page < 2 ^ 32
+    → call < 2 ^ 32 → list_all is_plain_byte config ≡ true → list_all is_plain_byte client ≡ true
+    → line ≡ get_text page call config client active → event_named line ≡ get_by (plain_members page call config client active)
 unfolding named_by get_from
-get_event line page call config client first second h k one two is =
-    ap named_by (get_is line page call config client first second (omega arith) (omega arith) one two is)
-    ∙ ap (λ p. get_from p (small call) config client) (is_small page h)
-    ∙ ap (λ c. get_from (Some page) c config client) (is_small call k)
+get_event line page call config client false first second h k one two is =
+    ap named_by (get_is line page call config client false first second (omega arith) (omega arith) one two is)
+    ∙ ap (λ p. get_from p (small call) config client false) (is_small page h)
+    ∙ ap (λ c. get_from (Some page) c config client false) (is_small call k)
+get_event line page call config client true first second h k one two is =
+    ap named_by (get_is line page call config client true first second (omega arith) (omega arith) one two is)
+    ∙ ap (λ p. get_from p (small call) config client true) (is_small page h)
+    ∙ ap (λ c. get_from (Some page) c config client true) (is_small call k)
+
+disconnect_from : Option ℕ → Option ℕ → List ℕ → List ℕ → List ℕ → Result Event LineCause
+disconnect_from page call config client hint =
+    (or_cause (Member names.Page) page >>= (λ p. or_cause (Member names.Call) call
+    >>= (λ c. Ok (record { page = p; call = c; config = config; client = client; hint = hint })))) >>= disconnect_by
+
+pub disconnect_event : (line : List ℕ) (page call : ℕ) (config client hint : List ℕ) → IsUtf8 config → IsUtf8 client → IsUtf8 hint
+    → page < 2 ^ 32 → call < 2 ^ 32 → list_all is_plain_byte config ≡ true → list_all is_plain_byte client ≡ true
+    → list_all is_plain_byte hint ≡ true → line ≡ disconnect_text page call config client hint
+    → event_named line ≡ disconnect_by (record { page = page; call = call; config = config; client = client; hint = hint })
+unfolding named_by disconnect_from
+disconnect_event line page call config client hint first second third h k one two three is =
+    ap named_by (disconnect_is line page call config client hint first second third (omega arith) (omega arith) one two three is)
+    ∙ ap (λ p. disconnect_from p (small call) config client hint) (is_small page h)
+    ∙ ap (λ c. disconnect_from (Some page) c config client hint) (is_small call k)

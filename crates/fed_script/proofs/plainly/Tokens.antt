@@ -2,18 +2,18 @@
 use Rattle.std.proofs.Common.{◌≡◌, ◌<◌, ◌^◌, ◌&&◌, ℕ, List, [], ◌∷◌, ◌++◌, Bool, true, false, cond, codes, decimal, Option, Some, None, Ok, refl, sym, ap, subst, ◌∙◌}
 use Rattle.std.proofs.Common.{append_assoc, arith}
 use Rattle.std.proofs.lemmas.Bool.Decides.{nat_tests}
-use Rattle.std.proofs.lemmas.Str.{is_utf8-from_IsUtf8, IsUtf8-append}
+use Rattle.std.proofs.lemmas.Str.{is_utf8-from_IsUtf8, IsUtf8-append, IsUtf8-nil}
 use Rattle.std.specs.List.{list_all}
-use Rattle.std.specs.Prelude.{option_and_then, option_map}
+use Rattle.std.specs.Prelude.{option_and_then, option_map, ⊤}
 use Rattle.std.specs.Str.{IsUtf8, is_utf8}
-use Rattle.json.specs.Token.{Token, begin_object, end_object, begin_array, end_array, key, string, number}
+use Rattle.json.specs.Token.{Token, begin_object, end_object, begin_array, end_array, key, string, number, boolean, null, bad}
 use Rattle.json.specs.Lex.{tokens}
 use Rattle.json.specs.Json as json
-use Rattle.json.specs.Print.{print, print_from, escape, escape_byte, ArePrintable}
+use Rattle.json.specs.Print.{print, print_from, separator, token_text, ends, escape, escape_byte, IsNumber, ArePrintable}
 use Rattle.json.proofs.Printed.Decimals.{IsNumber-decimal}
 use Rattle.json.proofs.Printed.Strings.{escape_byte_plain}
 use Rattle.json.proofs.Printed.Tokens.{tokens-print}
-use Rattle.json.proofs.Printed.Utf8.{IsUtf8-are_ascii}
+use Rattle.json.proofs.Printed.Utf8.{are_ascii, IsUtf8-are_ascii, IsUtf8-quoted, IsUtf8-key, IsUtf8-boolean, IsUtf8-separator}
 use Rattle.std.proofs.DigitsParse.{digits-IsUtf8}
 use Rattle.serde_json.specs.Data.{Num, Data, Members, unsigned, object, array, no_items, item, put, no_members}
 use Rattle.serde_json.specs.Data as value
@@ -21,25 +21,75 @@ use Rattle.serde_json.specs.Read.{read, of_json, max_depth, number_of}
 use Rattle.serde_json.proofs.Numbers.{number_of-decimal}
 use Rattle.fed_script.specs.declared.cause.LineCause.TheVariants.{NotJson}
 use Rattle.fed_script.specs.Member.{json_of, or_cause}
-use Rattle.fed_script.specs.Plain.{is_plain_byte, load_text, closepage_text, go_on_text, get_text}
+use Rattle.fed_script.specs.Plain.{is_plain_byte, load_text, reply_text, closepage_text, go_on_text, get_text, get_end, disconnect_text}
 
-decimal_utf8 : (n : ℕ) → IsUtf8 (decimal n)
-decimal_utf8 n = digits-IsUtf8 10 false n (omega arith) (omega arith)
+-- ---- tokens that can be written, each text in UTF-8
+
+abbrev pub IsGood : Token → Type 0
+IsGood begin_object = ⊤
+IsGood end_object = ⊤
+IsGood begin_array = ⊤
+IsGood end_array = ⊤
+IsGood (key s) = are_ascii s ≡ true
+IsGood (string s) = IsUtf8 s
+IsGood (number s) = IsNumber s × IsUtf8 s
+IsGood (boolean b) = ⊤
+IsGood null = ⊤
+IsGood bad = ⊥
+
+abbrev pub AreGood : List Token → Type 0
+AreGood [] = ⊤
+AreGood (t ∷ ts) = IsGood t × AreGood ts
+
+printable : (ts : List Token) → AreGood ts → ArePrintable ts
+unfolding ArePrintable
+printable [] good = tt
+printable (begin_object ∷ ts) good = (tt, printable ts good.1)
+printable (end_object ∷ ts) good = (tt, printable ts good.1)
+printable (begin_array ∷ ts) good = (tt, printable ts good.1)
+printable (end_array ∷ ts) good = (tt, printable ts good.1)
+printable (key s ∷ ts) good = (tt, printable ts good.1)
+printable (string s ∷ ts) good = (tt, printable ts good.1)
+printable (number s ∷ ts) good = (good.0.0, printable ts good.1)
+printable (boolean b ∷ ts) good = (tt, printable ts good.1)
+printable (null ∷ ts) good = (tt, printable ts good.1)
+printable (bad ∷ ts) good = absurd good.0
+
+one_utf8 : (t : Token) → IsGood t → IsUtf8 (token_text t)
+one_utf8 begin_object good = IsUtf8-are_ascii _ refl
+one_utf8 end_object good = IsUtf8-are_ascii _ refl
+one_utf8 begin_array good = IsUtf8-are_ascii _ refl
+one_utf8 end_array good = IsUtf8-are_ascii _ refl
+one_utf8 (key s) good = IsUtf8-key s (IsUtf8-are_ascii s good)
+one_utf8 (string s) good = IsUtf8-quoted s good
+one_utf8 (number s) good = good.1
+one_utf8 (boolean b) good = IsUtf8-boolean b
+one_utf8 null good = IsUtf8-are_ascii _ refl
+one_utf8 bad good = absurd good
+
+written_utf8 : (b : Bool) (ts : List Token) → AreGood ts → IsUtf8 (print_from b ts)
+unfolding print_from
+written_utf8 b [] good = IsUtf8-nil
+written_utf8 b (t ∷ ts) good =
+    IsUtf8-append (separator b t) _ (IsUtf8-separator b t)
+    (IsUtf8-append (token_text t) _ (one_utf8 t good.0) (written_utf8 (ends t) ts good.1))
 
 -- what is read of tokens
 abbrev pub read_of : List Token → Option Data
 read_of ts = option_and_then of_json (option_and_then (λ p. json.if_last p.0 p.1) (json.value max_depth ts))
 
-pub plain_data : (line : List ℕ) (ts : List Token) (d : Data) → IsUtf8 line → line ≡ print ts → ArePrintable ts
-    → read_of ts ≡ Some d → json_of line ≡ Ok d
-plain_data line ts d utf8 is printable h =
-    let text : is_utf8 line ≡ true = is_utf8-from_IsUtf8 line utf8 in
-    ap (λ b. or_cause NotJson (cond b (read line) None)) text
-    ∙ ap (or_cause NotJson) (ap read_of (ap tokens is ∙ tokens-print ts printable) ∙ h)
+pub plain_data : (line : List ℕ) (ts : List Token) (d : Data) → line ≡ print ts → AreGood ts → read_of ts ≡ Some d → json_of line ≡ Ok d
+plain_data line ts d is good h =
+    let utf8 : is_utf8 line ≡ true = is_utf8-from_IsUtf8 line (subst IsUtf8 (sym is) (written_utf8 false ts good)) in
+    ap (λ b. or_cause NotJson (cond b (read line) None)) utf8
+    ∙ ap (or_cause NotJson) (ap read_of (ap tokens is ∙ tokens-print ts (printable ts good)) ∙ h)
 
--- ---- texts without an escape
+good_number : (n : ℕ) → n < 2 ^ 64 → IsGood (number (decimal n))
+good_number n small = (IsNumber-decimal n small, digits-IsUtf8 10 false n (omega arith) (omega arith))
 
-plain_byte : (b : ℕ) → is_plain_byte b ≡ true → escape_byte b ≡ b ∷ []
+-- ---- texts
+
+pub plain_byte : (b : ℕ) → is_plain_byte b ≡ true → escape_byte b ≡ b ∷ []
 plain_byte b h =
     escape_byte_plain b (λ e. grind (arith, nat_tests, h, e)) (λ e. grind (arith, nat_tests, h, e))
     (grind (arith, nat_tests, h))
@@ -54,48 +104,128 @@ plain_escape (b ∷ text) h =
     let each = both (is_plain_byte b) (list_all is_plain_byte text) h in
     ap (λ l. l ++ escape text) (plain_byte b each.0) ∙ ap (λ l. b ∷ l) (plain_escape text each.1)
 
+-- a text with its escapes, up to its quote
+ended : (text rest : List ℕ) → escape text ++ 34 ∷ rest ≡ (escape text ++ 34 ∷ []) ++ rest
+ended text rest = sym (append_assoc (escape text) (34 ∷ []) rest)
+
+-- the same of a text without an escape
+closed : (text rest : List ℕ) → list_all is_plain_byte text ≡ true → text ++ 34 ∷ rest ≡ (escape text ++ 34 ∷ []) ++ rest
+closed text rest plain = ap (λ u. u ++ 34 ∷ rest) (sym (plain_escape text plain)) ∙ ended text rest
+
 -- the members of a line of this kind, before its others
 abbrev of_kind : List ℕ → Members
 of_kind kind = put (codes "do") (value.string kind) no_members
 
+-- the numbers of a page and of a call
+abbrev counted : Option Num → (Data → Members) → Option Data
+counted n members = option_map object (option_and_then (λ d. Some (members d)) (option_map value.number n))
+
 -- ---- a load
 
-abbrev pub load_tokens : ℕ → List ℕ → List Token
+abbrev load_tokens : ℕ → List ℕ → List Token
 load_tokens page url =
     begin_object ∷ key (codes "do") ∷ string (codes "load") ∷ key (codes "page") ∷ number (decimal page) ∷ key (codes "url")
     ∷ string url ∷ end_object ∷ []
 
-abbrev load_members : Data → List ℕ → Members
-load_members page url = put (codes "url") (value.string url) (put (codes "page") page (of_kind (codes "load")))
-
-abbrev load_from : Option Num → List ℕ → Option Data
-load_from page url = option_map object (option_and_then (λ d. Some (load_members d url)) (option_map value.number page))
+abbrev load_members : List ℕ → Data → Members
+load_members url page = put (codes "url") (value.string url) (put (codes "page") page (of_kind (codes "load")))
 
 abbrev pub load_data : ℕ → List ℕ → Data
-load_data page url = object (load_members (value.number (unsigned page)) url)
+load_data page url = object (load_members url (value.number (unsigned page)))
 
 load_line : (page : ℕ) (url : List ℕ) → print (load_tokens page url)
-    ≡ codes "{\"do\":\"load\",\"page\":" ++ (decimal page ++ (codes ",\"url\":\"" ++ ((escape url ++ codes "\"") ++ codes "}")))
+    ≡ codes "{\"do\":\"load\",\"page\":" ++ (decimal page ++ (codes ",\"url\":\"" ++ ((escape url ++ 34 ∷ []) ++ codes "}")))
 unfolding print_from escape_byte
 load_line page url = refl
 
-load_read : (page : ℕ) (url : List ℕ) → read_of (load_tokens page url) ≡ load_from (number_of (decimal page)) url
+load_read : (page : ℕ) (url : List ℕ) → read_of (load_tokens page url) ≡ counted (number_of (decimal page)) (load_members url)
 unfolding json.value json.items json.members
 load_read page url = refl
 
 pub load_is : (line : List ℕ) (page : ℕ) (url : List ℕ) → IsUtf8 url → page < 2 ^ 64 → list_all is_plain_byte url ≡ true
-    → line ≡ load_text page url → json_of line ≡ Ok (load_data page url)
-unfolding load_text ArePrintable
+    → line ≡ load_text page url (codes "\"}") → json_of line ≡ Ok (load_data page url)
+unfolding load_text
 load_is line page url utf8 small plain is =
     let front : List ℕ → List ℕ = λ l. codes "{\"do\":\"load\",\"page\":" ++ (decimal page ++ (codes ",\"url\":\"" ++ l)) in
-    let back : url ++ codes "\"}" ≡ (escape url ++ codes "\"") ++ codes "}" =
-    sym (append_assoc url (codes "\"") (codes "}")) ∙ ap (λ u. (u ++ codes "\"") ++ codes "}") (sym (plain_escape url plain)) in
-    let whole : IsUtf8 line = subst IsUtf8 (sym is) (IsUtf8-append (codes "{\"do\":\"load\",\"page\":") _ (IsUtf8-are_ascii _ refl)
-    (IsUtf8-append (decimal page) _ (decimal_utf8 page) (IsUtf8-append (codes ",\"url\":\"") _ (IsUtf8-are_ascii _ refl)
-    (IsUtf8-append url _ utf8 (IsUtf8-are_ascii (codes "\"}") refl))))) in
-    plain_data line (load_tokens page url) (load_data page url) whole (is ∙ ap front back ∙ sym (load_line page url))
-    (tt, (tt, (tt, (tt, (IsNumber-decimal page small, (tt, (tt, (tt, tt))))))))
-    (load_read page url ∙ ap (λ n. load_from n url) (number_of-decimal page small))
+    plain_data line (load_tokens page url) (load_data page url)
+    (is ∙ ap front (closed url (codes "}") plain) ∙ sym (load_line page url))
+    (tt, (refl, (IsUtf8-are_ascii _ refl, (refl, (good_number page small, (refl, (utf8, (tt, tt))))))))
+    (load_read page url ∙ ap (λ n. counted n (load_members url)) (number_of-decimal page small))
+
+-- ---- a load with the text of a reply
+
+abbrev load_reply_tokens : ℕ → List ℕ → List ℕ → List Token
+load_reply_tokens page url text =
+    begin_object ∷ key (codes "do") ∷ string (codes "load") ∷ key (codes "page") ∷ number (decimal page) ∷ key (codes "url")
+    ∷ string url ∷ key (codes "text") ∷ string text ∷ end_object ∷ []
+
+abbrev load_reply_members : List ℕ → List ℕ → Data → Members
+load_reply_members url text page = put (codes "text") (value.string text) (load_members url page)
+
+abbrev pub load_reply_data : ℕ → List ℕ → List ℕ → Data
+load_reply_data page url text = object (load_reply_members url text (value.number (unsigned page)))
+
+load_reply_line : (page : ℕ) (url text : List ℕ) → print (load_reply_tokens page url text)
+    ≡ codes "{\"do\":\"load\",\"page\":" ++ (decimal page ++ (codes ",\"url\":\"" ++ ((escape url ++ 34 ∷ [])
+    ++ (codes ",\"text\":\"" ++ ((escape text ++ 34 ∷ []) ++ codes "}")))))
+unfolding print_from escape_byte
+load_reply_line page url text = refl
+
+load_reply_read : (page : ℕ) (url text : List ℕ)
+    → read_of (load_reply_tokens page url text) ≡ counted (number_of (decimal page)) (load_reply_members url text)
+unfolding json.value json.items json.members
+load_reply_read page url text = refl
+
+pub load_reply_is : (line : List ℕ) (page : ℕ) (url text : List ℕ) → IsUtf8 url → IsUtf8 text → page < 2 ^ 64
+    → list_all is_plain_byte url ≡ true → line ≡ load_text page url (codes "\",\"text\":\"" ++ (escape text ++ codes "\"}"))
+    → json_of line ≡ Ok (load_reply_data page url text)
+unfolding load_text
+load_reply_is line page url text first second small plain is =
+    let front : List ℕ → List ℕ = λ l. codes "{\"do\":\"load\",\"page\":" ++ (decimal page ++ (codes ",\"url\":\"" ++ l)) in
+    let back : List ℕ → List ℕ = λ l. codes ",\"text\":\"" ++ l in
+    plain_data line (load_reply_tokens page url text) (load_reply_data page url text)
+    (is ∙ ap front (closed url (back (escape text ++ codes "\"}")) plain ∙ ap (λ l. (escape url ++ 34 ∷ []) ++ back l) (ended text (codes "}")))
+    ∙ sym (load_reply_line page url text))
+    (tt, (refl, (IsUtf8-are_ascii _ refl, (refl, (good_number page small, (refl, (first, (refl, (second, (tt, tt))))))))))
+    (load_reply_read page url text ∙ ap (λ n. counted n (load_reply_members url text)) (number_of-decimal page small))
+
+-- ---- a reply
+
+abbrev reply_tokens : ℕ → List ℕ → List ℕ → List Token
+reply_tokens call word text =
+    begin_object ∷ key (codes "do") ∷ string (codes "reply") ∷ key (codes "call") ∷ number (decimal call) ∷ key (codes "to")
+    ∷ string word ∷ key (codes "text") ∷ string text ∷ end_object ∷ []
+
+abbrev reply_members : List ℕ → List ℕ → Data → Members
+reply_members word text call =
+    put (codes "text") (value.string text) (put (codes "to") (value.string word) (put (codes "call") call (of_kind (codes "reply"))))
+
+abbrev pub reply_data : ℕ → List ℕ → List ℕ → Data
+reply_data call word text = object (reply_members word text (value.number (unsigned call)))
+
+reply_line : (call : ℕ) (word text : List ℕ) → print (reply_tokens call word text)
+    ≡ codes "{\"do\":\"reply\",\"call\":" ++ (decimal call ++ (codes ",\"to\":\"" ++ ((escape word ++ 34 ∷ [])
+    ++ (codes ",\"text\":\"" ++ ((escape text ++ 34 ∷ []) ++ codes "}")))))
+unfolding print_from escape_byte
+reply_line call word text = refl
+
+reply_read : (call : ℕ) (word text : List ℕ)
+    → read_of (reply_tokens call word text) ≡ counted (number_of (decimal call)) (reply_members word text)
+unfolding json.value json.items json.members
+reply_read call word text = refl
+
+pub reply_is : (line : List ℕ) (call : ℕ) (word text : List ℕ) → IsUtf8 word → IsUtf8 text → call < 2 ^ 64
+    → list_all is_plain_byte word ≡ true → line ≡ reply_text call word (escape text ++ codes "\"}")
+    → json_of line ≡ Ok (reply_data call word text)
+unfolding reply_text
+reply_is line call word text first second small plain is =
+    let front : List ℕ → List ℕ = λ l. codes "{\"do\":\"reply\",\"call\":" ++ (decimal call ++ (codes ",\"to\":\"" ++ l)) in
+    let back : List ℕ → List ℕ = λ l. codes ",\"text\":\"" ++ l in
+    plain_data line (reply_tokens call word text) (reply_data call word text)
+    (is ∙ ap front (closed word (back (escape text ++ codes "\"}")) plain ∙ ap (λ l. (escape word ++ 34 ∷ []) ++ back l) (ended text (codes "}")))
+    ∙ sym (reply_line call word text))
+    (tt, (refl, (IsUtf8-are_ascii _ refl, (refl, (good_number call small, (refl, (first, (refl, (second, (tt, tt))))))))))
+    (reply_read call word text ∙ ap (λ n. counted n (reply_members word text)) (number_of-decimal call small))
 
 -- ---- a page that closes
 
@@ -106,13 +236,10 @@ closepage_tokens page =
 abbrev closepage_members : Data → Members
 closepage_members page = put (codes "page") page (of_kind (codes "closepage"))
 
-abbrev closepage_from : Option Num → Option Data
-closepage_from page = option_map object (option_and_then (λ d. Some (closepage_members d)) (option_map value.number page))
-
 abbrev pub closepage_data : ℕ → Data
 closepage_data page = object (closepage_members (value.number (unsigned page)))
 
-closepage_read : (page : ℕ) → read_of (closepage_tokens page) ≡ closepage_from (number_of (decimal page))
+closepage_read : (page : ℕ) → read_of (closepage_tokens page) ≡ counted (number_of (decimal page)) closepage_members
 unfolding json.value json.items json.members
 closepage_read page = refl
 
@@ -122,13 +249,10 @@ closepage_line page = refl
 
 pub closepage_is : (line : List ℕ) (page : ℕ) → page < 2 ^ 64 → line ≡ closepage_text page
     → json_of line ≡ Ok (closepage_data page)
-unfolding closepage_text ArePrintable
 closepage_is line page small is =
-    let whole : IsUtf8 line = subst IsUtf8 (sym is) (IsUtf8-append (codes "{\"do\":\"closepage\",\"page\":") _ (IsUtf8-are_ascii _ refl)
-    (IsUtf8-append (decimal page) _ (decimal_utf8 page) (IsUtf8-are_ascii (codes "}") refl))) in
-    plain_data line (closepage_tokens page) (closepage_data page) whole (is ∙ closepage_line page)
-    (tt, (tt, (tt, (tt, (IsNumber-decimal page small, (tt, tt))))))
-    (closepage_read page ∙ ap closepage_from (number_of-decimal page small))
+    plain_data line (closepage_tokens page) (closepage_data page) (is ∙ closepage_line page)
+    (tt, (refl, (IsUtf8-are_ascii _ refl, (refl, (good_number page small, (tt, tt))))))
+    (closepage_read page ∙ ap (λ n. counted n closepage_members) (number_of-decimal page small))
 
 -- ---- a user who goes on
 
@@ -139,13 +263,10 @@ go_on_tokens call =
 abbrev go_on_members : Data → Members
 go_on_members call = put (codes "call") call (of_kind (codes "continue"))
 
-abbrev go_on_from : Option Num → Option Data
-go_on_from call = option_map object (option_and_then (λ d. Some (go_on_members d)) (option_map value.number call))
-
 abbrev pub go_on_data : ℕ → Data
 go_on_data call = object (go_on_members (value.number (unsigned call)))
 
-go_on_read : (call : ℕ) → read_of (go_on_tokens call) ≡ go_on_from (number_of (decimal call))
+go_on_read : (call : ℕ) → read_of (go_on_tokens call) ≡ counted (number_of (decimal call)) go_on_members
 unfolding json.value json.items json.members
 go_on_read call = refl
 
@@ -155,93 +276,114 @@ go_on_line call = refl
 
 pub go_on_is : (line : List ℕ) (call : ℕ) → call < 2 ^ 64 → line ≡ go_on_text call
     → json_of line ≡ Ok (go_on_data call)
-unfolding go_on_text ArePrintable
 go_on_is line call small is =
-    let whole : IsUtf8 line = subst IsUtf8 (sym is) (IsUtf8-append (codes "{\"do\":\"continue\",\"call\":") _ (IsUtf8-are_ascii _ refl)
-    (IsUtf8-append (decimal call) _ (decimal_utf8 call) (IsUtf8-are_ascii (codes "}") refl))) in
-    plain_data line (go_on_tokens call) (go_on_data call) whole (is ∙ go_on_line call)
-    (tt, (tt, (tt, (tt, (IsNumber-decimal call small, (tt, tt))))))
-    (go_on_read call ∙ ap go_on_from (number_of-decimal call small))
+    plain_data line (go_on_tokens call) (go_on_data call) (is ∙ go_on_line call)
+    (tt, (refl, (IsUtf8-are_ascii _ refl, (refl, (good_number call small, (tt, tt))))))
+    (go_on_read call ∙ ap (λ n. counted n go_on_members) (number_of-decimal call small))
+
+-- the numbers of a page and of a call
+abbrev counted_both : Option Num → Option Num → (Data → Data → Members) → Option Data
+counted_both page call members =
+    option_map object (option_and_then (λ p. option_and_then (λ c. Some (members p c)) (option_map value.number call))
+    (option_map value.number page))
 
 -- ---- a get
 
-abbrev get_tokens : ℕ → ℕ → List ℕ → List ℕ → List Token
-get_tokens page call config client =
+abbrev get_tail : Bool → List Token
+get_tail false = end_object ∷ []
+get_tail true = key (codes "mode") ∷ string (codes "active") ∷ key (codes "activation") ∷ boolean true ∷ end_object ∷ []
+
+abbrev get_tokens : ℕ → ℕ → List ℕ → List ℕ → Bool → List Token
+get_tokens page call config client active =
     begin_object ∷ key (codes "do") ∷ string (codes "get") ∷ key (codes "page") ∷ number (decimal page) ∷ key (codes "call")
     ∷ number (decimal call) ∷ key (codes "providers") ∷ begin_array ∷ begin_object ∷ key (codes "config") ∷ string config
-    ∷ key (codes "client") ∷ string client ∷ end_object ∷ end_array ∷ end_object ∷ []
+    ∷ key (codes "client") ∷ string client ∷ end_object ∷ end_array ∷ get_tail active
 
 abbrev providers_data : List ℕ → List ℕ → Data
 providers_data config client =
     array (item (object (put (codes "client") (value.string client) (put (codes "config") (value.string config) no_members))) no_items)
 
-abbrev get_members : Data → Data → List ℕ → List ℕ → Members
-get_members page call config client =
-    put (codes "providers") (providers_data config client) (put (codes "call") call (put (codes "page") page (of_kind (codes "get"))))
+abbrev with_mode : Bool → Members → Members
+with_mode false members = members
+with_mode true members = put (codes "activation") (value.boolean true) (put (codes "mode") (value.string (codes "active")) members)
 
-abbrev get_from : Option Num → Option Num → List ℕ → List ℕ → Option Data
-get_from page call config client =
-    option_map object (option_and_then (λ p. option_and_then (λ c. Some (get_members p c config client))
-    (option_map value.number call)) (option_map value.number page))
+abbrev get_members : List ℕ → List ℕ → Bool → Data → Data → Members
+get_members config client active page call =
+    with_mode active
+    (put (codes "providers") (providers_data config client) (put (codes "call") call (put (codes "page") page (of_kind (codes "get")))))
 
-abbrev pub get_data : ℕ → ℕ → List ℕ → List ℕ → Data
-get_data page call config client =
-    object (get_members (value.number (unsigned page)) (value.number (unsigned call)) config client)
+abbrev pub get_data : ℕ → ℕ → List ℕ → List ℕ → Bool → Data
+get_data page call config client active =
+    object (get_members config client active (value.number (unsigned page)) (value.number (unsigned call)))
 
-get_read : (page call : ℕ) (config client : List ℕ)
-    → read_of (get_tokens page call config client) ≡ get_from (number_of (decimal page)) (number_of (decimal call)) config client
+get_read : (page call : ℕ) (config client : List ℕ) (active : Bool) → read_of (get_tokens page call config client active)
+    ≡ counted_both (number_of (decimal page)) (number_of (decimal call)) (get_members config client active)
 unfolding json.value json.items json.members
-get_read page call config client = refl
+get_read page call config client false = refl
+get_read page call config client true = refl
 
-get_line : (page call : ℕ) (config client : List ℕ) → print (get_tokens page call config client)
+abbrev get_close : Bool → List ℕ
+get_close false = codes "}]}"
+get_close true = codes "}],\"mode\":\"active\",\"activation\":true}"
+
+get_line : (page call : ℕ) (config client : List ℕ) (active : Bool) → print (get_tokens page call config client active)
     ≡ codes "{\"do\":\"get\",\"page\":" ++ (decimal page ++ (codes ",\"call\":" ++ (decimal call
-    ++ (codes ",\"providers\":[{\"config\":\"" ++ ((escape config ++ codes "\"") ++ (codes ",\"client\":\""
-    ++ ((escape client ++ codes "\"") ++ codes "}]}")))))))
+    ++ (codes ",\"providers\":[{\"config\":\"" ++ ((escape config ++ 34 ∷ []) ++ (codes ",\"client\":\""
+    ++ ((escape client ++ 34 ∷ []) ++ get_close active)))))))
 unfolding print_from escape_byte
-get_line page call config client = refl
+get_line page call config client false = refl
+get_line page call config client true = refl
 
-get_written : (page call : ℕ) (config client : List ℕ) → list_all is_plain_byte config ≡ true → list_all is_plain_byte client ≡ true
-    → get_text page call config client ≡ print (get_tokens page call config client)
+ends_so : (active : Bool) → get_end active ≡ 34 ∷ get_close active
+ends_so false = refl
+ends_so true = refl
+
+get_written : (page call : ℕ) (config client : List ℕ) (active : Bool) → list_all is_plain_byte config ≡ true
+    → list_all is_plain_byte client ≡ true
+    → get_text page call config client active ≡ print (get_tokens page call config client active)
 unfolding get_text
-get_written page call config client one two =
+get_written page call config client active one two =
     let front : List ℕ → List ℕ = λ l. codes "{\"do\":\"get\",\"page\":" ++ (decimal page ++ (codes ",\"call\":" ++ (decimal call
     ++ (codes ",\"providers\":[{\"config\":\"" ++ l)))) in
     let back : List ℕ → List ℕ = λ l. codes ",\"client\":\"" ++ l in
-    let last : client ++ codes "\"}]}" ≡ (escape client ++ codes "\"") ++ codes "}]}" =
-    sym (append_assoc client (codes "\"") (codes "}]}")) ∙ ap (λ u. (u ++ codes "\"") ++ codes "}]}") (sym (plain_escape client two)) in
-    let first : config ++ (codes "\"" ++ back (client ++ codes "\"}]}")) ≡ (escape config ++ codes "\"") ++ back (client ++ codes "\"}]}") =
-    sym (append_assoc config (codes "\"") (back (client ++ codes "\"}]}")))
-    ∙ ap (λ u. (u ++ codes "\"") ++ back (client ++ codes "\"}]}")) (sym (plain_escape config one)) in
-    ap front (first ∙ ap (λ l. (escape config ++ codes "\"") ++ back l) last) ∙ sym (get_line page call config client)
+    let last : client ++ get_end active ≡ (escape client ++ 34 ∷ []) ++ get_close active =
+    ap (λ l. client ++ l) (ends_so active) ∙ closed client (get_close active) two in
+    ap front (closed config (back (client ++ get_end active)) one ∙ ap (λ l. (escape config ++ 34 ∷ []) ++ back l) last)
+    ∙ sym (get_line page call config client active)
 
-pub get_is : (line : List ℕ) (page call : ℕ) (config client : List ℕ) → IsUtf8 config → IsUtf8 client → page < 2 ^ 64 → call < 2 ^ 64
-    → list_all is_plain_byte config ≡ true → list_all is_plain_byte client ≡ true → line ≡ get_text page call config client
-    → json_of line ≡ Ok (get_data page call config client)
-unfolding get_text ArePrintable
-get_is line page call config client first second small few one two is =
-    let inner : IsUtf8 (config ++ (codes "\",\"client\":\"" ++ (client ++ codes "\"}]}"))) =
-    IsUtf8-append config _ first (IsUtf8-append (codes "\",\"client\":\"") _ (IsUtf8-are_ascii _ refl)
-    (IsUtf8-append client _ second (IsUtf8-are_ascii (codes "\"}]}") refl))) in
-    let whole : IsUtf8 line = subst IsUtf8 (sym is) (IsUtf8-append (codes "{\"do\":\"get\",\"page\":") _ (IsUtf8-are_ascii _ refl)
-    (IsUtf8-append (decimal page) _ (decimal_utf8 page) (IsUtf8-append (codes ",\"call\":") _ (IsUtf8-are_ascii _ refl)
-    (IsUtf8-append (decimal call) _ (decimal_utf8 call) (IsUtf8-append (codes ",\"providers\":[{\"config\":\"") _
-    (IsUtf8-are_ascii _ refl) inner))))) in
-    plain_data line (get_tokens page call config client) (get_data page call config client) whole
-    (is ∙ get_written page call config client one two) (
+tail_good : (active : Bool) → AreGood (get_tail active)
+tail_good false = (tt, tt)
+tail_good true = (refl, (IsUtf8-are_ascii _ refl, (refl, (tt, (tt, tt)))))
+
+pub get_is : (line : List ℕ) (page call : ℕ) (config client : List ℕ) (active : Bool) → IsUtf8 config → IsUtf8 client → page < 2 ^ 64
+    → call < 2 ^ 64 → list_all is_plain_byte config ≡ true → list_all is_plain_byte client ≡ true
+    → line ≡ get_text page call config client active → json_of line ≡ Ok (get_data page call config client active)
+get_is line page call config client active first second small few one two is =
+    plain_data line (get_tokens page call config client active) (get_data page call config client active)
+    (is ∙ get_written page call config client active one two) (
       tt,
       (
-        tt,
+        refl,
         (
-          tt,
+          IsUtf8-are_ascii _ refl,
           (
-            tt,
+            refl,
             (
-              IsNumber-decimal page small,
+              good_number page small,
               (
-                tt,
+                refl,
                 (
-                  IsNumber-decimal call few,
-                  (tt, (tt, (tt, (tt, (tt, (tt, (tt, (tt, (tt, (tt, tt)))))))))),
+                  good_number call few,
+                  (
+                    refl,
+                    (
+                      tt,
+                      (
+                        tt,
+                        (refl, (first, (refl, (second, (tt, (tt, tail_good active)))))),
+                      ),
+                    ),
+                  ),
                 ),
               ),
             ),
@@ -249,5 +391,91 @@ get_is line page call config client first second small few one two is =
         ),
       ),
     )
-    (get_read page call config client ∙ ap (λ p. get_from p (number_of (decimal call)) config client) (number_of-decimal page small)
-    ∙ ap (λ c. get_from (Some (unsigned page)) c config client) (number_of-decimal call few))
+    (get_read page call config client active
+    ∙ ap (λ p. counted_both p (number_of (decimal call)) (get_members config client active)) (number_of-decimal page small)
+    ∙ ap (λ c. counted_both (Some (unsigned page)) c (get_members config client active)) (number_of-decimal call few))
+
+-- ---- a disconnect call
+
+abbrev disconnect_tokens : ℕ → ℕ → List ℕ → List ℕ → List ℕ → List Token
+disconnect_tokens page call config client hint =
+    begin_object ∷ key (codes "do") ∷ string (codes "disconnect") ∷ key (codes "page") ∷ number (decimal page) ∷ key (codes "call")
+    ∷ number (decimal call) ∷ key (codes "config") ∷ string config ∷ key (codes "client") ∷ string client ∷ key (codes "hint")
+    ∷ string hint ∷ end_object ∷ []
+
+abbrev disconnect_members : List ℕ → List ℕ → List ℕ → Data → Data → Members
+disconnect_members config client hint page call =
+    put (codes "hint") (value.string hint) (put (codes "client") (value.string client) (put (codes "config") (value.string config)
+    (put (codes "call") call (put (codes "page") page (of_kind (codes "disconnect"))))))
+
+abbrev pub disconnect_data : ℕ → ℕ → List ℕ → List ℕ → List ℕ → Data
+disconnect_data page call config client hint =
+    object (disconnect_members config client hint (value.number (unsigned page)) (value.number (unsigned call)))
+
+disconnect_read : (page call : ℕ) (config client hint : List ℕ) → read_of (disconnect_tokens page call config client hint)
+    ≡ counted_both (number_of (decimal page)) (number_of (decimal call)) (disconnect_members config client hint)
+unfolding json.value json.items json.members
+disconnect_read page call config client hint = refl
+
+disconnect_line : (page call : ℕ) (config client hint : List ℕ) → print (disconnect_tokens page call config client hint)
+    ≡ codes "{\"do\":\"disconnect\",\"page\":" ++ (decimal page ++ (codes ",\"call\":" ++ (decimal call
+    ++ (codes ",\"config\":\"" ++ ((escape config ++ 34 ∷ []) ++ (codes ",\"client\":\"" ++ ((escape client ++ 34 ∷ [])
+    ++ (codes ",\"hint\":\"" ++ ((escape hint ++ 34 ∷ []) ++ codes "}")))))))))
+unfolding print_from escape_byte
+disconnect_line page call config client hint = refl
+
+disconnect_written : (page call : ℕ) (config client hint : List ℕ) → list_all is_plain_byte config ≡ true
+    → list_all is_plain_byte client ≡ true → list_all is_plain_byte hint ≡ true
+    → disconnect_text page call config client hint ≡ print (disconnect_tokens page call config client hint)
+unfolding disconnect_text
+disconnect_written page call config client hint one two three =
+    let front : List ℕ → List ℕ = λ l. codes "{\"do\":\"disconnect\",\"page\":" ++ (decimal page ++ (codes ",\"call\":" ++ (decimal call
+    ++ (codes ",\"config\":\"" ++ l)))) in
+    let middle : List ℕ → List ℕ = λ l. codes ",\"client\":\"" ++ l in
+    let back : List ℕ → List ℕ = λ l. codes ",\"hint\":\"" ++ l in
+    let texts = back (hint ++ codes "\"}") in
+    ap front (closed config (middle (client ++ 34 ∷ texts)) one
+    ∙ ap (λ l. (escape config ++ 34 ∷ []) ++ middle l) (closed client texts two
+    ∙ ap (λ l. (escape client ++ 34 ∷ []) ++ back l) (closed hint (codes "}") three)))
+    ∙ sym (disconnect_line page call config client hint)
+
+pub disconnect_is : (line : List ℕ) (page call : ℕ) (config client hint : List ℕ) → IsUtf8 config → IsUtf8 client → IsUtf8 hint
+    → page < 2 ^ 64 → call < 2 ^ 64 → list_all is_plain_byte config ≡ true → list_all is_plain_byte client ≡ true
+    → list_all is_plain_byte hint ≡ true → line ≡ disconnect_text page call config client hint
+    → json_of line ≡ Ok (disconnect_data page call config client hint)
+disconnect_is line page call config client hint first second third small few one two three is =
+    plain_data line (disconnect_tokens page call config client hint) (disconnect_data page call config client hint)
+    (is ∙ disconnect_written page call config client hint one two three) (
+      tt,
+      (
+        refl,
+        (
+          IsUtf8-are_ascii _ refl,
+          (
+            refl,
+            (
+              good_number page small,
+              (
+                refl,
+                (
+                  good_number call few,
+                  (
+                    refl,
+                    (
+                      first,
+                      (
+                        refl,
+                        (second, (refl, (third, (tt, tt)))),
+                      ),
+                    ),
+                  ),
+                ),
+              ),
+            ),
+          ),
+        ),
+      ),
+    )
+    (disconnect_read page call config client hint
+    ∙ ap (λ p. counted_both p (number_of (decimal call)) (disconnect_members config client hint)) (number_of-decimal page small)
+    ∙ ap (λ c. counted_both (Some (unsigned page)) c (disconnect_members config client hint)) (number_of-decimal call few))

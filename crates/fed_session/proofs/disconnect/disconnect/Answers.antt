@@ -4,8 +4,8 @@ use Rattle.fed_origin.specs.Origin.{is_trustworthy}
 use Rattle.fed_disconnect.specs.Facts.{disconnect_options}
 use Rattle.fed_trace.specs.Begun.{ToDisconnect}
 use Rattle.fed_trace.specs.Call.{first_row}
-use Rattle.fed_session.specs.StepParts.{cookies_of, call_records, world_in}
-use Rattle.fed_session.proofs.events.Begin.{begin_records}
+use Rattle.fed_session.specs.StepParts.{cookies_of, call_records, world_in, awaited_in}
+use Rattle.fed_session.proofs.events.Begin.{begin_records, begun_idle}
 use Rattle.fed_session.proofs.disconnect.disconnect.Goals as goal
 
 pub returns-clause-outs : goal.returns-clause-outs
@@ -17,3 +17,15 @@ returns-clause-outs g c =
     ∙ begin_records c.args.line (world_in c.args.sight.now) (cookies_of c.args.sight.now)
     (lookup (nat_eq c.args.page) c.args.tabs.now.pages) c.in-Some.origin.now (is_some (lookup (nat_eq c.args.page) c.args.tabs.now.gets))
     c.args.page c.args.call (ToDisconnect (disconnect_options c.args.config.now c.args.client.now c.args.hint.now)) found trusted
+
+pub begin-requires-2-clause-idle : goal.begin-requires-2-clause-idle
+begin-requires-2-clause-idle g c =
+    ap awaited_in c.in_ok-kept.ensures.kept
+    ∙ begun_idle (world_in c.args.sight.now) false
+    (record {
+      call = c.args.call;
+      page = c.args.page;
+      origin = c.in-Some.origin.now;
+      options = ToDisconnect (disconnect_options c.args.config.now c.args.client.now c.args.hint.now);
+    })
+    tt

@@ -3,8 +3,8 @@ use Rattle.std.specs.Map.{lookup}
 use Rattle.fed_origin.specs.Origin.{is_trustworthy}
 use Rattle.fed_trace.specs.Begun.{ToGet}
 use Rattle.fed_trace.specs.Call.{first_row}
-use Rattle.fed_session.specs.StepParts.{cookies_of, call_records, world_in}
-use Rattle.fed_session.proofs.events.Begin.{begin_records}
+use Rattle.fed_session.specs.StepParts.{cookies_of, call_records, world_in, awaited_in}
+use Rattle.fed_session.proofs.events.Begin.{begin_records, begun_idle}
 use Rattle.fed_session.proofs.get.get.Goals as goal
 
 pub returns-clause-outs : goal.returns-clause-outs
@@ -18,3 +18,9 @@ returns-clause-outs g c =
     ∙ begin_records c.args.line (world_in c.args.sight.now) (cookies_of c.args.sight.now)
     (lookup (nat_eq c.args.page) c.args.tabs.now.pages) c.in-Some.origin.now (is_some (lookup (nat_eq c.args.page) c.args.tabs.now.gets))
     c.args.page c.args.call (ToGet c.args.options.now) found trusted
+
+pub begin-requires-2-clause-idle : goal.begin-requires-2-clause-idle
+begin-requires-2-clause-idle g c =
+    ap awaited_in c.in_ok-kept.ensures.kept
+    ∙ begun_idle (world_in c.args.sight.now) c.is_busy.result
+    (record { call = c.args.call; page = c.args.page; origin = c.in-Some.origin.now; options = ToGet c.args.options.now }) c.requires.one

@@ -1,8 +1,6 @@
 use Rattle.std.proofs.Common.{sym, ap, ◌∙◌, true}
 use Rattle.std.specs.Prelude.{option_map}
 use Rattle.fed_status.specs.Shared.{world_of}
-use Rattle.fed_call.specs.Facts.{next_facts}
-use Rattle.fed_call.specs.Row.{call_row}
 use Rattle.fed_call.specs.State.{facts_of}
 use Rattle.fed_trace.specs.Call.{OfGet}
 use Rattle.fed_session.specs.StepParts.{known_of, kept_next, outcome_at}
@@ -12,15 +10,12 @@ use Rattle.fed_session.proofs.calls.Pending.advance.Goals as goal
 pub returns-in_ok-state-in-Get-clause-effects : goal.returns-in_ok-state-in-Get-clause-effects
 returns-in_ok-state-in-Get-clause-effects c =
     let world = world_of c.args.shared.now in
-    c.in_ok-state-in-Get.ensures.effects ∙ ap (λ s. (call_row world (facts_of s) c.args.input.now).effects) (c.replace-state.ensures.value ∙ c.deref_mut.ensures.value)
-    ∙ get_does world (facts_of c.in-Get.place.value) c.args.input.now
+    c.in_ok-state-in-Get.ensures.effects ∙ get_does world (facts_of c.in-Get.state) c.args.input.now
     ∙ ap (λ p. (outcome_at world true (known_of p) c.args.input.now).effects) (sym c.in-Get.is)
 
 pub returns-in_ok-state-in-Get-clause-kept : goal.returns-in_ok-state-in-Get-clause-kept
 returns-in_ok-state-in-Get-clause-kept c =
     let world = world_of c.args.shared.now in
-    c.get_in.ensures ∙ ap (option_map OfGet) c.in_ok-state-in-Get.ensures.state
-    ∙ ap (λ s. option_map OfGet (next_facts world (facts_of s) c.args.input.now (call_row world (facts_of s) c.args.input.now)))
-    (c.replace-state.ensures.value ∙ c.deref_mut.ensures.value)
-    ∙ get_becomes world (facts_of c.in-Get.place.value) c.args.input.now
+    c.of_get.ensures ∙ ap (option_map OfGet) c.in_ok-state-in-Get.ensures.state
+    ∙ get_becomes world (facts_of c.in-Get.state) c.args.input.now
     ∙ ap (λ p. kept_next world (known_of p) c.args.input.now) (sym c.in-Get.is)

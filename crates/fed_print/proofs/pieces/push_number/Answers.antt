@@ -1,5 +1,5 @@
 use Rattle.std.specs.Fmt.{digits}
-use Rattle.fed_print.proofs.lines.push_number.Goals as goal
+use Rattle.fed_print.proofs.pieces.push_number.Goals as goal
 
 pub returns-then-number-eq0 : goal.returns-then-number-eq0
 unfolding digits

@@ -1,0 +1,7 @@
+use Rattle.std.proofs.Common.{◌++◌, sym, ap, ◌∙◌}
+use Rattle.fed_script.proofs.plainly.Tokens.{plain_byte}
+use Rattle.fed_script.proofs.escaped.first_byte.Goals as goal
+
+pub returns-then-is_plain-clause-text : goal.returns-then-is_plain-clause-text
+returns-then-is_plain-clause-text c =
+    c.in_ok-b.ensures.cases.0 ∙ ap (λ l. l ++ c.in_ok-b.after.now) (sym (plain_byte _ (sym c.is_plain.ensures ∙ c.if-is_plain.true)))

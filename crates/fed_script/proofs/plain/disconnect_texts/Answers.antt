@@ -1,0 +1,12 @@
+use Rattle.fed_script.proofs.plain.disconnect_texts.Goals as goal
+
+pub returns-clause-text : goal.returns-clause-text
+returns-clause-text c =
+    rw (
+      c.in_ok-config.ensures.0,
+      c.in_ok-rest-2.ensures,
+      c.in_ok-client.ensures.0,
+      c.in_ok-rest-3.ensures,
+      c.in_ok-hint.ensures.0,
+      c.in_ok-end.ensures,
+    ) at c.in_ok-rest.ensures
