@@ -19,7 +19,7 @@ use fed_accounts::Account;
 use fed_consent::{Ask, Consent, Detail, Effect, FailStep, Failure, Finish, Input, Why};
 use fed_io::{Fault, Items, NoRoom, Text};
 use fed_origin::{ReplyKind, Stage, Triple};
-use fed_provider::Config;
+use fed_provider::SharedConfig;
 use fed_status::Shared;
 use fed_token::{TokenStep, read_assertion};
 use std::alloc::Global;
@@ -27,7 +27,7 @@ use std::alloc::Global;
 /// A call whose token is awaited.
 pub struct Asserting {
     pub(crate) begun: Call,
-    pub(crate) config: Config,
+    pub(crate) config: SharedConfig,
     /// The account that the token is for.
     pub(crate) account: PlacedAccount,
     pub(crate) connected: bool,
@@ -194,14 +194,19 @@ fn token_refused(step: TokenStep) -> Finish
 pub fn assertion_request(
     alloc: Global,
     begun: &Call,
-    config: &Config,
+    config: &SharedConfig,
     place: u32,
     consent: Consent,
 ) -> Result<Effect, NoRoom>
     ensures { IfOk result (λ effect. effect ≡ Effect.Send place (Ask.Assertion
         (assertion_fields consent config.now.assertion begun.now.origin begun.now.provider))) }
 {
-    match consent.spend(alloc, &config.assertion, begun.origin(), begun.provider()) {
+    match consent.spend(
+        alloc,
+        &config.as_config().assertion,
+        begun.origin(),
+        begun.provider(),
+    ) {
         Ok(ask) => Ok(Effect::Send(place, ask)),
         Err((NoRoom, consent)) => {
             consent.void();
@@ -214,7 +219,7 @@ pub fn assertion_request(
 pub fn asserts(
     alloc: Global,
     begun: Call,
-    config: Config,
+    config: SharedConfig,
     place: u32,
     account: Account,
     connected: bool,

@@ -11,8 +11,7 @@ use fed_io::{Items, NoRoom};
 use fed_origin::{
     Context, GetOptions, Mediation, Mode, Origin, ProviderOptions, ReplyKind, Scheme,
 };
-use fed_provider::{FirstReplies, Heard};
-use fed_suffix::Suffixes;
+use fed_provider::{FirstReplies, Heard, Rules};
 use std::alloc::Global;
 use std::marker::Model;
 
@@ -199,7 +198,7 @@ impl Call {
     pub fn hear(
         &self,
         alloc: Global,
-        rules: &Suffixes,
+        rules: &Rules,
         replies: FirstReplies,
         kind: ReplyKind,
         raw: &[u8],

@@ -14,20 +14,20 @@ use crate::asserting::asserts;
 use crate::begun::Call;
 use crate::dialogs::prompt_effect;
 use crate::effects::fails;
-use crate::placed::PlacedPrompt;
+use crate::placed::{PlacedChooser, PlacedPrompt};
 use crate::{CallState, Prompting};
-use fed_consent::{Chooser, Effect, FailStep, Failure, Input, Picked, Prompt, Why};
+use fed_consent::{Effect, FailStep, Failure, Input, Picked, Prompt, Why};
 use fed_io::{Items, NoRoom, Text};
 use fed_origin::Stage;
-use fed_provider::Config;
+use fed_provider::SharedConfig;
 use fed_status::Shared;
 use std::alloc::Global;
 
 /// A call whose user is to choose an account.
 pub struct Choosing {
     pub(crate) begun: Call,
-    pub(crate) config: Config,
-    pub(crate) chooser: Chooser,
+    pub(crate) config: SharedConfig,
+    pub(crate) chooser: PlacedChooser,
 }
 
 impl Drop for Choosing {
@@ -104,13 +104,13 @@ impl Choosing {
             config,
             chooser,
         } = self;
-        match chooser.choose(id) {
+        match chooser.open().choose(id) {
             Ok(picked) => settles(alloc, shared, begun, config, place, picked),
             Err(chooser) => {
                 let state = Choosing {
                     begun,
                     config,
-                    chooser,
+                    chooser: PlacedChooser::new(alloc, chooser)?,
                 };
                 CallState::Choosing(state).ignores(alloc, Why::NoAccount)
             }
@@ -123,7 +123,7 @@ fn settles(
     alloc: Global,
     shared: &Shared<'_>,
     begun: Call,
-    config: Config,
+    config: SharedConfig,
     place: u32,
     picked: Picked,
 ) -> Result<(CallState, Items<Effect>), NoRoom>
@@ -147,7 +147,7 @@ fn asks_about(
     alloc: Global,
     shared: &Shared<'_>,
     begun: Call,
-    config: Config,
+    config: SharedConfig,
     place: u32,
     picked: Picked,
 ) -> Result<(CallState, Items<Effect>), NoRoom>
@@ -157,7 +157,7 @@ fn asks_about(
     ensures state { IfOk result (λ r. facts_of r.0
         ≡ at_stage Stage.Prompting (with_candidate picked.candidate (configured begun config Stage.Choosing))) }
 {
-    let prompt = picked.prompt(config.metadata.is_some());
+    let prompt = picked.prompt(config.as_config().metadata.is_some());
     let effects = prompt_shown(alloc, shared, &begun, place, &prompt, &config)?;
     let state = Prompting {
         begun,
@@ -174,11 +174,18 @@ fn prompt_shown(
     begun: &Call,
     place: u32,
     prompt: &Prompt,
-    config: &Config,
+    config: &SharedConfig,
 ) -> Result<Items<Effect>, NoRoom>
     ensures { IfOk result (λ effects. effects ≡ prompt_effect (world_of shared.now) (begun_facts
         begun.now) place begun.now.provider prompt.now.pick.candidate prompt.now.pick.candidate.connected config.now.metadata ∷ []) }
 {
-    let effect = prompt_effect(alloc, shared, begun, place, prompt, &config.metadata)?;
+    let effect = prompt_effect(
+        alloc,
+        shared,
+        begun,
+        place,
+        prompt,
+        &config.as_config().metadata,
+    )?;
     effect.alone(alloc)
 }

@@ -84,7 +84,7 @@ pub fn choice_dialog(
     ensures { IfOk result (λ effect. effect ≡ spec.choice_dialog (world_of shared.now) (begun_facts begun.now) place chooser.now.listed) }
 {
     let accounts = all_shown(alloc, place, chooser.accounts().list(), chooser.connected())?;
-    let site = site(alloc, shared.rules, &begun.origin().host)?;
+    let site = site(alloc, shared.rules.suffixes(), &begun.origin().host)?;
     let dialog = Dialog::Choose {
         accounts,
         context: begun.context(),
@@ -117,7 +117,7 @@ pub fn prompt_dialog(
         links.now) }
 {
     let account = shown(alloc, place, prompt.account(), prompt.connected())?;
-    let site = site(alloc, shared.rules, &begun.origin().host)?;
+    let site = site(alloc, shared.rules.suffixes(), &begun.origin().host)?;
     let privacy = link(alloc, &links.privacy)?;
     let terms = link(alloc, &links.terms)?;
     let dialog = Dialog::Prompt {

@@ -17,7 +17,7 @@ use crate::accounts::{connections, hinted_accounts, kept_each};
 use crate::asserting::assertion_request;
 use crate::begun::Call;
 use crate::dialogs::{choice_dialog, prompt_effect, site};
-use crate::placed::{PlacedAccount, PlacedPrompt};
+use crate::placed::{PlacedAccount, PlacedChooser, PlacedPrompt};
 use crate::window::{may_sign_in, window_effect};
 use crate::{Asserting, CallState, Choosing, Ended, Mismatch, Prompting, Window};
 use fed_accounts::{Accounts, reselect};
@@ -26,14 +26,14 @@ use fed_consent::{
 };
 use fed_io::{Items, NoRoom};
 use fed_origin::{LoginStatus, Mediation, Mode, ReplyKind, Stage};
-use fed_provider::Config;
+use fed_provider::SharedConfig;
 use fed_status::Shared;
 use std::alloc::Global;
 
 /// A call whose accounts are awaited.
 pub struct Listing {
     pub(crate) begun: Call,
-    pub(crate) config: Config,
+    pub(crate) config: SharedConfig,
 }
 
 impl Drop for Listing {
@@ -318,7 +318,7 @@ impl Listing {
             self.begun.provider accounts).stage Stage.Listing)
             (with_offer (world_of shared.now) self.begun.provider accounts (listing_facts self))) }
     {
-        let waits = !connected && self.config.metadata.is_some();
+        let waits = !connected && self.config.as_config().metadata.is_some();
         let prompt = Prompt::single(self.begun.call(), place, accounts, connected, waits);
         let effects = prompt_shown(alloc, shared, &self, place, &prompt)?;
         let Listing { begun, config } = self;
@@ -354,7 +354,7 @@ impl Listing {
         let state = Choosing {
             begun,
             config,
-            chooser,
+            chooser: PlacedChooser::new(alloc, chooser)?,
         };
         Ok((CallState::Choosing(state), effects))
     }
@@ -399,7 +399,7 @@ fn mismatch_shown(
     let provider = begun.provider_origin().copy(alloc)?;
     let dialog = Dialog::Mismatch {
         provider: place,
-        site: site(alloc, shared.rules, &begun.origin().host)?,
+        site: site(alloc, shared.rules.suffixes(), &begun.origin().host)?,
         failure,
     };
     let dialog = Effect::shows(alloc, dialog)?;
@@ -426,7 +426,7 @@ fn prompt_shown(
         begun,
         place,
         prompt,
-        &listing.config.metadata,
+        &listing.config.as_config().metadata,
     )?;
     Effect::SetLogin(provider, LoginStatus::LoggedIn).then(alloc, effect)
 }

@@ -11,14 +11,14 @@ use crate::window::window_effect;
 use crate::{CallState, Window};
 use fed_consent::{Effect, FailStep, Failure, Input, ONLY_PLACE};
 use fed_io::{Items, NoRoom};
-use fed_provider::Config;
+use fed_provider::SharedConfig;
 use fed_status::Shared;
 use std::alloc::Global;
 
 /// A call whose user is shown that the provider gave no account, though it had said that the user is logged in.
 pub struct Mismatch {
     pub(crate) begun: Call,
-    pub(crate) config: Config,
+    pub(crate) config: SharedConfig,
 }
 
 impl Drop for Mismatch {

@@ -2,7 +2,7 @@
 ghost use Rattle.std.specs.Prelude.{◌≡◌, IfOk};
 
 use fed_accounts::Account;
-use fed_consent::Prompt;
+use fed_consent::{Chooser, Prompt};
 use fed_io::NoRoom;
 use std::alloc::Global;
 use std::marker::Model;
@@ -41,6 +41,44 @@ impl PlacedAccount {
         ensures { result.now ≡ self.now }
     {
         &self.inner
+    }
+}
+
+/// A choice in a place of its own, since each event moves the call's state several times. Contracts see the choice.
+pub struct PlacedChooser {
+    inner: Box<Chooser>,
+}
+
+impl Model for PlacedChooser {
+    ghost use Rattle.fed_consent.specs.Consent.{Offer};
+
+    ghost Value = { Offer };
+
+    ghost view = { λ c. c.inner.value };
+}
+
+impl Drop for PlacedChooser {
+    fn drop(self) {
+        let PlacedChooser { inner: _ } = self;
+    }
+}
+
+impl PlacedChooser {
+    /// The choice in a place of its own.
+    pub fn new(alloc: Global, chooser: Chooser) -> Result<PlacedChooser, NoRoom>
+        ensures { IfOk result (λ placed. placed ≡ chooser) }
+    {
+        Ok(PlacedChooser {
+            inner: Box::new(alloc, chooser)?,
+        })
+    }
+
+    /// The choice, out of its place.
+    pub fn open(self) -> Chooser
+        ensures { result ≡ self }
+    {
+        let PlacedChooser { inner } = self;
+        Box::into_inner(inner)
     }
 }
 

@@ -19,14 +19,14 @@ use crate::placed::PlacedPrompt;
 use fed_consent::{Effect, FailStep, Failure, Input, ONLY_PLACE, Why};
 use fed_io::{Items, NoRoom};
 use fed_origin::{ReplyKind, Stage};
-use fed_provider::{Config, read_metadata};
+use fed_provider::{SharedConfig, read_metadata};
 use fed_status::Shared;
 use std::alloc::Global;
 
 /// A call whose user is to go on with an account. The prompt waits for the metadata of the client, or is shown.
 pub struct Prompting {
     pub(crate) begun: Call,
-    pub(crate) config: Config,
+    pub(crate) config: SharedConfig,
     pub(crate) prompt: PlacedPrompt,
 }
 

@@ -12,7 +12,7 @@ use crate::{CallState, Listing};
 use fed_consent::{Ask, Effect, Failure, Input, Why};
 use fed_io::{Items, NoRoom};
 use fed_origin::{ReplyKind, Stage, WebUrl};
-use fed_provider::{Config, FirstReplies, Heard};
+use fed_provider::{FirstReplies, Heard, SharedConfig};
 use fed_status::Shared;
 use std::alloc::Global;
 
@@ -111,12 +111,12 @@ pub fn asks_accounts(
     alloc: Global,
     begun: Call,
     place: u32,
-    config: Config,
+    config: SharedConfig,
 ) -> Result<(CallState, Items<Effect>), NoRoom>
     ensures effects { IfOk result (λ r. r.1 ≡ (spec.asks_accounts place config).effects) }
     ensures state { IfOk result (λ r. r.0 ≡ CallState.Listing (record { begun = begun; config = config })) }
 {
-    let effects = accounts_request(alloc, place, &config.accounts)?;
+    let effects = accounts_request(alloc, place, &config.as_config().accounts)?;
     Ok((CallState::Listing(Listing { begun, config }), effects))
 }
 

@@ -75,7 +75,7 @@ impl CallState {
         if !is_secure(&options) {
             return fails(alloc, Failure::plain(FailStep::ConfigScheme));
         }
-        let wellknown = only_wellknown(alloc, shared.rules, &options)?;
+        let wellknown = only_wellknown(alloc, shared.rules.suffixes(), &options)?;
         CallState::start_with(alloc, call, page, origin, options, wellknown, shared)
     }
 
@@ -184,6 +184,24 @@ impl CallState {
             CallState::Prompting(_) => Stage::Prompting,
             CallState::Asserting(_) => Stage::Asserting,
             CallState::Ended(_) => Stage::Ended,
+        }
+    }
+
+    /// The configuration URL of the provider of a call whose well-known file and configuration are awaited; none of another call. It takes
+    /// no memory.
+    pub fn reads(&self) -> Option<&WebUrl>
+        ensures { IfSome result (λ url. IfSome (facts_of self.now) (λ facts. IfSome (provider_at only_place facts.options)
+            (λ p. url.now ≡ p.config))) }
+    {
+        match self {
+            CallState::Reading(state) => Some(&state.begun.provider().config),
+            CallState::Listing(_)
+            | CallState::Mismatch(_)
+            | CallState::Window(_)
+            | CallState::Choosing(_)
+            | CallState::Prompting(_)
+            | CallState::Asserting(_)
+            | CallState::Ended(_) => None,
         }
     }
 

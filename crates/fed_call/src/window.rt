@@ -12,7 +12,7 @@ use crate::reading::asks_accounts;
 use fed_consent::{Effect, FailStep, Failure, Input, ONLY_PLACE};
 use fed_io::{Items, NoRoom};
 use fed_origin::{Mediation, Mode, Stage};
-use fed_provider::Config;
+use fed_provider::SharedConfig;
 use fed_status::Shared;
 use std::alloc::Global;
 
@@ -20,7 +20,7 @@ use std::alloc::Global;
 /// "IdentityProvider.close").
 pub struct Window {
     pub(crate) begun: Call,
-    pub(crate) config: Config,
+    pub(crate) config: SharedConfig,
 }
 
 impl Drop for Window {
@@ -74,8 +74,8 @@ pub fn may_sign_in(begun: &Call) -> bool
 }
 
 /// The login window of the provider at this place opens.
-pub fn window_effect(alloc: Global, place: u32, config: &Config) -> Result<Effect, NoRoom>
+pub fn window_effect(alloc: Global, place: u32, config: &SharedConfig) -> Result<Effect, NoRoom>
     ensures { IfOk result (λ effect. effect ≡ Effect.Window place config.now.login) }
 {
-    Ok(Effect::Window(place, config.login.copy(alloc)?))
+    Ok(Effect::Window(place, config.as_config().login.copy(alloc)?))
 }

@@ -15,20 +15,41 @@ use fed_status::Shared;
 use std::alloc::Global;
 use std::marker::Model;
 
-/// What a call began with. Its configuration URL is https. Contracts see it as what is known of the call at its beginning.
-pub struct Begun {
+// The parts of what a call began with.
+pub struct BegunParts {
     pub call: u32,
     pub page: u32,
-    /// The page's origin.
+    // The page's origin.
     pub origin: Origin,
-    /// The configuration URL.
+    // The configuration URL.
     pub config: WebUrl,
-    /// The relying party's id at the provider.
+    // The relying party's id at the provider.
     pub client: Text,
-    /// Which account is meant.
+    // Which account is meant.
     pub hint: Text,
-    /// The provider's origin: that of the configuration URL.
+    // The provider's origin: that of the configuration URL.
     pub provider: Origin,
+}
+
+// Written out, so that one function lets it go wherever it ends.
+impl Drop for BegunParts {
+    fn drop(self) {
+        let BegunParts {
+            call: _,
+            page: _,
+            origin: _,
+            config: _,
+            client: _,
+            hint: _,
+            provider: _,
+        } = self;
+    }
+}
+
+/// What a call began with. Its configuration URL is https. Contracts see it as what is known of the call at its beginning.
+pub struct Begun {
+    // In a place of their own, since each event moves the call's state several times.
+    pub place: Box<BegunParts>,
 }
 
 impl Model for Begun {
@@ -40,23 +61,16 @@ impl Model for Begun {
     ghost use Rattle.fed_origin.specs.declared.scheme.Scheme.TheVariants.{Https};
     ghost use Rattle.fed_origin.specs.WebUrl.{scheme_of, origin_of};
 
-    ghost view = { λ b. fresh b.call b.page b.origin (disconnect_options b.config b.client b.hint) };
+    ghost view = { λ b. fresh b.place.value.call b.place.value.page b.place.value.origin
+        (disconnect_options b.place.value.config b.place.value.client b.place.value.hint) };
 
-    ghost invariant = { λ b. (scheme_of b.config ≡ Https) × (b.provider ≡ origin_of b.config) };
+    ghost invariant = { λ b. (scheme_of b.place.value.config ≡ Https) × (b.place.value.provider ≡ origin_of b.place.value.config) };
 }
 
 // Written out, so that one function lets it go wherever it ends.
 impl Drop for Begun {
     fn drop(self) {
-        let Begun {
-            call: _,
-            page: _,
-            origin: _,
-            config: _,
-            client: _,
-            hint: _,
-            provider: _,
-        } = self;
+        let Begun { place: _ } = self;
     }
 }
 
@@ -75,7 +89,7 @@ impl Begun {
         ensures { IfOk result (λ begun. begun ≡ fresh call page origin (disconnect_options config client hint)) }
     {
         let provider = Origin::of_url(alloc, &config)?;
-        Ok(Begun {
+        let parts = BegunParts {
             call,
             page,
             origin,
@@ -83,7 +97,18 @@ impl Begun {
             client,
             hint,
             provider,
+        };
+        Ok(Begun {
+            place: Box::new(alloc, parts)?,
         })
+    }
+
+    /// The configuration URL, which is https. It takes no memory.
+    pub fn config(&self) -> &WebUrl
+        ensures value { result.now ≡ self.now.options.config }
+        ensures secure { scheme_of result.now ≡ Scheme.Https }
+    {
+        &self.place.config
     }
 
     /// The first requests of the call, whose well-known URL is this one, or the step at which it fails.
@@ -98,15 +123,15 @@ impl Begun {
             ≡ spec.disconnect_start_row (world_of shared.now) self.now.origin self.now.options) }
     {
         // Looked at first, so that the URL is known to be https in each arm.
-        let provider = &self.provider;
+        let provider = &self.place.provider;
         let wellknown = match wellknown {
             Ok(url) => url,
             Err(_) => return Ok(Err(FailStep::NoSite)),
         };
-        if !shared.kept.has_pair(&self.origin, provider) {
+        if !shared.kept.has_pair(&self.place.origin, provider) {
             return Ok(Err(FailStep::NotConnected));
         }
-        Ok(Ok(requests(alloc, wellknown, &self.config)?))
+        Ok(Ok(requests(alloc, wellknown, &self.place.config)?))
     }
 }
 

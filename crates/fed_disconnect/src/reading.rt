@@ -13,7 +13,7 @@ use crate::{DSending, DState};
 use fed_consent::{Ask, Effect, FailStep, Failure, Input, ONLY_PLACE, Why};
 use fed_io::{Items, NoRoom};
 use fed_origin::{ReplyKind, Stage, WebUrl};
-use fed_provider::{Config, FirstReplies, Heard};
+use fed_provider::{FirstReplies, Heard, SharedConfig};
 use fed_status::Shared;
 use std::alloc::Global;
 
@@ -104,7 +104,7 @@ impl DReading {
             ≡ spec.input_facts (world_of shared.now) (reading_facts self) (inputs.Reply only_place kind raw.now)) }
     {
         let DReading { begun, replies } = self;
-        let heard = replies.hear(alloc, shared.rules, &begun.config, kind, raw)?;
+        let heard = replies.hear(alloc, shared.rules, begun.config(), kind, raw)?;
         goes_on(alloc, begun, heard)
     }
 }
@@ -134,14 +134,14 @@ fn goes_on(alloc: Global, begun: Begun, heard: Heard) -> Result<(DState, Items<E
 fn asks_disconnect(
     alloc: Global,
     begun: Begun,
-    config: Config,
+    config: SharedConfig,
 ) -> Result<(DState, Items<Effect>), NoRoom>
     ensures effects { IfOk result (λ r. r.1 ≡ (spec.asks_disconnect begun.origin begun.options config.disconnect).effects) }
     ensures state { IfOk result (λ r. disconnect_facts_of r.0
         ≡ at_stage (unwrap_or (spec.asks_disconnect begun.origin begun.options config.disconnect).stage Stage.Reading)
         (record begun { replies = both_taken config })) }
 {
-    match &config.disconnect {
+    match &config.as_config().disconnect {
         Some(to) => {
             let effects = begun.disconnect_request(alloc, to)?;
             Ok((DState::DSending(DSending { begun, config }), effects))
@@ -159,9 +159,9 @@ impl Begun {
     {
         let ask = Ask::Disconnect {
             to: to.copy(alloc)?,
-            client: self.client.copy(alloc)?,
-            hint: self.hint.copy(alloc)?,
-            origin: self.origin.copy(alloc)?,
+            client: self.place.client.copy(alloc)?,
+            hint: self.place.hint.copy(alloc)?,
+            origin: self.place.origin.copy(alloc)?,
         };
         Effect::Send(ONLY_PLACE, ask).alone(alloc)
     }

@@ -16,7 +16,7 @@ use crate::{DEnded, DState};
 use fed_consent::{Detail, Effect, FailStep, Failure, Finish, Input, ONLY_PLACE, Why};
 use fed_io::{Fault, Items, NoRoom, Text};
 use fed_origin::{ReplyKind, Stage, Triple};
-use fed_provider::Config;
+use fed_provider::SharedConfig;
 use fed_status::{KeptSet, Shared};
 use fed_token::{TokenStep, read_disconnect};
 use std::alloc::Global;
@@ -24,7 +24,7 @@ use std::alloc::Global;
 /// A disconnect call whose disconnect reply is awaited.
 pub struct DSending {
     pub(crate) begun: Begun,
-    pub(crate) config: Config,
+    pub(crate) config: SharedConfig,
 }
 
 impl Drop for DSending {
@@ -130,7 +130,7 @@ fn answered(
     ensures { IfOk result (λ effects. effects ≡ (spec.answered kept.now begun.now.origin (provider_origin begun.now.options)
         (DisconnectOf raw.now (origin_text begun.now.origin))).effects) }
 {
-    match read_disconnect(alloc, raw, &begun.origin) {
+    match read_disconnect(alloc, raw, &begun.place.origin) {
         Ok(account) => {
             let forgets = begun.forgotten(alloc, kept, account)?;
             forgets.then(alloc, Effect::Finish(Finish::Disconnected))
@@ -163,9 +163,9 @@ impl Begun {
         ensures { IfOk result (λ effect. effect ≡ spec.forgotten self.now.origin (provider_origin self.now.options) account
             (has_triple kept.now (triple_of self.now.origin (provider_origin self.now.options) account))) }
     {
-        if kept.has(&self.origin, &self.provider, &account) {
-            let page = self.origin.copy(alloc)?;
-            let provider = self.provider.copy(alloc)?;
+        if kept.has(&self.place.origin, &self.place.provider, &account) {
+            let page = self.place.origin.copy(alloc)?;
+            let provider = self.place.provider.copy(alloc)?;
             return Ok(Effect::Forget(Triple {
                 page,
                 provider,
@@ -179,8 +179,8 @@ impl Begun {
     fn all_forgotten(&self, alloc: Global) -> Result<Effect, NoRoom>
         ensures { IfOk result (λ effect. effect ≡ Effect.ForgetPair self.now.origin (provider_origin self.now.options)) }
     {
-        let page = self.origin.copy(alloc)?;
-        let provider = self.provider.copy(alloc)?;
+        let page = self.place.origin.copy(alloc)?;
+        let provider = self.place.provider.copy(alloc)?;
         Ok(Effect::ForgetPair(page, provider))
     }
 }

@@ -1,5 +1,5 @@
 //! The states of a disconnect call.
-ghost use Rattle.std.specs.Prelude.{◌≡◌, IfOk, Some, option_map};
+ghost use Rattle.std.specs.Prelude.{◌≡◌, IfOk, IfSome, Some, option_map};
 ghost use Rattle.fed_origin.specs.WebUrl.{scheme_of};
 ghost use Rattle.fed_provider.specs.WellKnown.{WellKnownUrlOf};
 ghost use Rattle.fed_status.specs.Shared.{world_of};
@@ -65,7 +65,7 @@ impl DState {
         if config.scheme() == Scheme::Http {
             return fails(alloc, Failure::plain(FailStep::ConfigScheme));
         }
-        let wellknown = site_url(alloc, shared.rules, &config)?;
+        let wellknown = site_url(alloc, shared.rules.suffixes(), &config)?;
         DState::start_with(
             alloc, call, page, origin, config, client, hint, wellknown, shared,
         )
@@ -137,13 +137,23 @@ impl DState {
         }
     }
 
+    /// The configuration URL of a call whose well-known file and configuration are awaited; none of another call. It takes no memory.
+    pub fn reads(&self) -> Option<&WebUrl>
+        ensures { IfSome result (λ url. IfSome (disconnect_facts_of self.now) (λ facts. url.now ≡ facts.options.config)) }
+    {
+        match self {
+            DState::DReading(state) => Some(state.begun.config()),
+            DState::DSending(_) | DState::DEnded(_) => None,
+        }
+    }
+
     /// The page of the call; none where it is over. It takes no memory.
     pub fn page(&self) -> Option<u32>
         ensures { result ≡ option_map (λ facts. facts.page) (disconnect_facts_of self.now) }
     {
         match self {
-            DState::DReading(state) => Some(state.begun.page),
-            DState::DSending(state) => Some(state.begun.page),
+            DState::DReading(state) => Some(state.begun.place.page),
+            DState::DSending(state) => Some(state.begun.place.page),
             DState::DEnded(_) => None,
         }
     }

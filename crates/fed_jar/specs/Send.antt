@@ -1,7 +1,8 @@
 -- Which cookies a request sends, and in which order (RFC 6265, 5.4).
-use Rattle.std.specs.Prelude.{ℕ, Bool, true, ◌&&◌, List, [], ◌∷◌, ◌++◌, length, codes, filter, nat_lt, nat_le, bytes_eq, Option, None, Some}
+use Rattle.std.specs.Prelude.{ℕ, Bool, true, ◌&&◌, List, [], ◌∷◌, ◌++◌, length, codes, filter, nat_lt, nat_le, bytes_eq, Option, None, Some, ◌≡◌, IfSome}
 use Rattle.std.specs.Prelude.{if◌then◌else◌}
 use Rattle.std.specs.List.{flat_map}
+use Rattle.std.specs.Borrow.{Bor}
 use Rattle.url.specs.Parts.{Parts}
 use Rattle.fed_origin.specs.WebUrl.{host_of}
 use Rattle.fed_suffix.specs.Rule.{RuleSet}
@@ -61,3 +62,9 @@ pairs_text (cookie ∷ cookies) = pair_text cookie ++ flat_map next_text cookies
 -- the Cookie field of a request to the URL at the time, of a jar with these cookies
 unfoldable pub jar_text : RuleSet → Parts → ℕ → List StoredCookie → List ℕ
 jar_text rules url now cookies = pairs_text (cookies_sent rules url now cookies)
+
+-- ---- for private clauses
+
+-- the domain that was looked at last has its answer
+abbrev pub IsKnown : RuleSet → List ℕ → Option (Bor (List ℕ) × Bool) → Type 0
+IsKnown rules host last = IfSome last (λ l. l.1 ≡ is_within rules host l.0.now)

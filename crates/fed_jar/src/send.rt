@@ -7,6 +7,7 @@ ghost use Rattle.fed_cookie.specs.SetCookie.{HasNoLineEnd};
 ghost use Rattle.fed_origin.specs.WebUrl.{host_of};
 ghost use Rattle.fed_jar.specs.Parts.{lent_cookie, lent_cookies, numbered_cookies};
 ghost use Rattle.fed_jar.specs.Send as spec;
+ghost use Rattle.fed_jar.specs.Store as within;
 
 use crate::Cookie;
 use crate::numbered::{Lent, Numbered};
@@ -45,9 +46,10 @@ fn cookies_sent<'a>(
     ensures { IfOk result (λ sent. lent_cookies sent.items ≡ filter (spec.is_sent rules.now url.now now) (numbered_cookies cookies.now)) }
 {
     let site = rules.registrable(url.host());
+    let mut last = None;
     let mut sent = Vec::new(alloc);
     for one in cookies {
-        if is_sent(rules, url, site, now, &one.cookie) {
+        if is_sent(rules, url, site, now, &mut last, &one.cookie) {
             sent.push(Lent { one })?;
         }
     }
@@ -114,23 +116,27 @@ fn push_pair(text: &mut Vec<u8>, lent: &Lent<'_>) -> Result<(), NoRoom>
 }
 
 /// Whether the cookie goes with a request to the URL at the time. The registrable domain of the
-/// URL's host is given.
+/// URL's host is given, and `last` is the domain that was looked at last, with its answer: the domains of a party's cookies are mostly
+/// the same, and a look takes some 900 instructions.
 #[tactic(auto, unfolding(crate::specs::Send::is_sent))]
-pub fn is_sent(
+fn is_sent<'a>(
     rules: &Suffixes,
     url: &WebUrl,
     site: Option<&[u8]>,
     now: u64,
-    cookie: &Cookie,
+    last: &mut Option<(&'a [u8], bool)>,
+    cookie: &'a Cookie,
 ) -> bool
-    requires { option_copied site ≡ registrable rules.now (host_of url.now) }
-    ensures { result ≡ spec.is_sent rules.now url.now now cookie.now }
+    requires site { option_copied site ≡ registrable rules.now (host_of url.now) }
+    requires known { spec.IsKnown rules.now (host_of url.now) last.old }
+    ensures value { result ≡ spec.is_sent rules.now url.now now cookie.now }
+    ensures known { spec.IsKnown rules.now (host_of url.now) last.new }
 {
     cookie.secure
         && cookie.same_site == SameSite::NoLimit
         && is_fresh(now, cookie.expiry)
         && path_matches(url.path().as_bytes(), cookie.path.as_slice())
-        && goes_to(rules, url.host(), site, cookie)
+        && goes_to(rules, url.host(), site, last, cookie)
 }
 
 fn is_fresh(now: u64, expiry: Option<u64>) -> bool
@@ -142,12 +148,43 @@ fn is_fresh(now: u64, expiry: Option<u64>) -> bool
     }
 }
 
-fn goes_to(rules: &Suffixes, host: &Host, site: Option<&[u8]>, cookie: &Cookie) -> bool
-    requires { option_copied site ≡ registrable rules.now host.now }
-    ensures { result ≡ spec.goes_to rules.now host.now cookie.now }
+fn goes_to<'a>(
+    rules: &Suffixes,
+    host: &Host,
+    site: Option<&[u8]>,
+    last: &mut Option<(&'a [u8], bool)>,
+    cookie: &'a Cookie,
+) -> bool
+    requires site { option_copied site ≡ registrable rules.now host.now }
+    requires known { spec.IsKnown rules.now host.now last.old }
+    ensures value { result ≡ spec.goes_to rules.now host.now cookie.now }
+    ensures known { spec.IsKnown rules.now host.now last.new }
 {
     if cookie.host_only {
         return cookie.domain.as_slice() == host.text.as_str().as_bytes();
     }
-    is_within(rules, host, site, cookie.domain.as_slice())
+    is_within_last(rules, host, site, last, cookie.domain.as_slice())
+}
+
+// Whether the host is within the domain, which may be the one that was looked at last.
+fn is_within_last<'a>(
+    rules: &Suffixes,
+    host: &Host,
+    site: Option<&[u8]>,
+    last: &mut Option<(&'a [u8], bool)>,
+    domain: &'a [u8],
+) -> bool
+    requires site { option_copied site ≡ registrable rules.now host.now }
+    requires known { spec.IsKnown rules.now host.now last.old }
+    ensures value { result ≡ within.is_within rules.now host.now domain.now }
+    ensures known { spec.IsKnown rules.now host.now last.new }
+{
+    if let Some((seen, within)) = *last {
+        if seen == domain {
+            return within;
+        }
+    }
+    let within = is_within(rules, host, site, domain);
+    *last = Some((domain, within));
+    within
 }

@@ -163,7 +163,8 @@ pub struct GetOptions {
 fn copy_providers(alloc: Global, all: &[ProviderOptions]) -> Result<Items<ProviderOptions>, NoRoom>
     ensures { IfOk result (λ copy. copy ≡ all.now) }
 {
-    let mut copy = Items::new(alloc);
+    // Room for these alone: a list that grows takes room for four, of some 170 bytes each, for as long as the call is pending.
+    let mut copy = Items::from_vec(Vec::with_capacity(alloc, all.len())?);
     for provider in all {
         copy.push(provider.copy(alloc)?)?;
     }

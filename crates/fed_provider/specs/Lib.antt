@@ -3,3 +3,4 @@ pub mod FirstReplies
 pub mod Laws
 pub mod Metadata
 pub mod WellKnown
+pub mod Rules

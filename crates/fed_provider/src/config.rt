@@ -14,6 +14,8 @@ use fed_json::Part;
 use fed_origin::{Endpoint, WebUrl};
 use fed_reply::{JsonBuffer, Member, read_json, text_member};
 use std::alloc::Global;
+use std::marker::Model;
+use std::rc::Rc;
 
 /// The configuration of a provider (FedCM, "The config file"). Each URL is same-origin with the
 /// configuration URL.
@@ -43,28 +45,50 @@ impl Drop for Config {
     }
 }
 
-impl Config {
-    /// The same configuration.
-    pub fn copy(&self, alloc: Global) -> Result<Config, NoRoom>
-        ensures { IfOk result (λ copy. copy ≡ self.now) }
-    {
-        Ok(Config {
-            accounts: self.accounts.copy(alloc)?,
-            assertion: self.assertion.copy(alloc)?,
-            login: self.login.copy(alloc)?,
-            metadata: copy_url(alloc, &self.metadata)?,
-            disconnect: copy_url(alloc, &self.disconnect)?,
-        })
+/// A configuration that its copies share, so that one takes no memory. Contracts see the configuration.
+pub struct SharedConfig {
+    inner: Rc<Config>,
+}
+
+// Written out, so that one function lets it go wherever it ends.
+impl Drop for SharedConfig {
+    fn drop(self) {
+        let SharedConfig { inner: _ } = self;
     }
 }
 
-/// The same URL, where there is one.
-pub(crate) fn copy_url(alloc: Global, url: &Option<WebUrl>) -> Result<Option<WebUrl>, NoRoom>
-    ensures { IfOk result (λ copy. copy ≡ url.now) }
-{
-    match url {
-        Some(url) => Ok(Some(url.copy(alloc)?)),
-        None => Ok(None),
+impl Model for SharedConfig {
+    ghost use Rattle.fed_provider.specs.declared.config.Config.{Config};
+
+    ghost Value = { Config };
+
+    ghost view = { λ c. c.inner.value };
+}
+
+impl SharedConfig {
+    /// The configuration, to be shared.
+    pub fn new(alloc: Global, config: Config) -> Result<SharedConfig, NoRoom>
+        ensures { IfOk result (λ shared. shared ≡ config) }
+    {
+        Ok(SharedConfig {
+            inner: Rc::new(alloc, config)?,
+        })
+    }
+
+    /// The same configuration. It takes no memory.
+    pub fn copy(&self) -> Result<SharedConfig, NoRoom>
+        ensures { IfOk result (λ copy. copy ≡ self.now) }
+    {
+        Ok(SharedConfig {
+            inner: self.inner.clone()?,
+        })
+    }
+
+    /// The configuration.
+    pub fn as_config(&self) -> &Config
+        ensures { result.now ≡ self.now }
+    {
+        &self.inner
     }
 }
 

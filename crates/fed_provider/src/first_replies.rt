@@ -4,10 +4,9 @@ ghost use Rattle.fed_origin.specs.WebUrl.{scheme_of};
 ghost use Rattle.fed_provider.specs.Config.{ConfigOf};
 ghost use Rattle.fed_provider.specs.FirstReplies as spec;
 
-use crate::{Config, ProviderStep, read_config, read_wellknown, site_url};
+use crate::{ProviderStep, Rules, SharedConfig, read_config, read_wellknown, site_url};
 use fed_io::{Fault, NoRoom};
 use fed_origin::{ReplyKind, Scheme, WebUrl};
-use fed_suffix::Suffixes;
 use std::alloc::Global;
 
 /// What a call took of the first replies of a provider: the one with its well-known file and the one with its configuration,
@@ -16,7 +15,7 @@ pub struct FirstReplies {
     /// Whether a well-known reply was taken.
     pub wellknown: bool,
     /// The configuration in the config reply that was taken.
-    pub config: Option<Config>,
+    pub config: Option<SharedConfig>,
 }
 
 // Written out, so that one function lets it go wherever it ends.
@@ -37,7 +36,7 @@ pub enum Heard {
     /// It is good, and the other one is awaited.
     Waits(FirstReplies),
     /// Both files are good.
-    Both(Config),
+    Both(SharedConfig),
     /// It is not awaited: one of its kind was taken before, or it is of another kind.
     NotWaited(FirstReplies),
 }
@@ -58,7 +57,7 @@ impl FirstReplies {
     pub fn hear(
         self,
         alloc: Global,
-        rules: &Suffixes,
+        rules: &Rules,
         config: &WebUrl,
         kind: ReplyKind,
         raw: &[u8],
@@ -68,7 +67,7 @@ impl FirstReplies {
     {
         match kind {
             ReplyKind::WellKnown => self.hear_wellknown(alloc, rules, config, raw),
-            ReplyKind::Config => self.hear_config(alloc, config, raw),
+            ReplyKind::Config => self.hear_config(alloc, rules, config, raw),
             ReplyKind::Accounts
             | ReplyKind::Metadata
             | ReplyKind::Assertion
@@ -80,7 +79,7 @@ impl FirstReplies {
     fn hear_wellknown(
         self,
         alloc: Global,
-        rules: &Suffixes,
+        rules: &Rules,
         config: &WebUrl,
         raw: &[u8],
     ) -> Result<Heard, NoRoom>
@@ -96,13 +95,19 @@ impl FirstReplies {
     }
 
     // What a config reply comes to.
-    fn hear_config(self, alloc: Global, config: &WebUrl, raw: &[u8]) -> Result<Heard, NoRoom>
+    fn hear_config(
+        self,
+        alloc: Global,
+        rules: &Rules,
+        config: &WebUrl,
+        raw: &[u8],
+    ) -> Result<Heard, NoRoom>
         ensures { IfOk result (λ heard. heard ≡ spec.config_heard self.wellknown self.config (ConfigOf raw.now config.now)) }
     {
         if self.config.is_some() {
             return Ok(Heard::NotWaited(self));
         }
-        let read = config_file(alloc, config, raw)?;
+        let read = config_file(alloc, rules, config, raw)?;
         Ok(self.first_config(read))
     }
 
@@ -127,7 +132,7 @@ impl FirstReplies {
     }
 
     // What the first config reply comes to, of which this was read.
-    fn first_config(self, read: Result<Config, ProviderStep>) -> Heard
+    fn first_config(self, read: Result<SharedConfig, ProviderStep>) -> Heard
         ensures { result ≡ spec.first_config self.wellknown read }
     {
         let config = match read {
@@ -144,17 +149,20 @@ impl FirstReplies {
     }
 }
 
-// What a well-known reply says. Its URL is made anew, so that no call keeps what the rules say.
+// What a well-known reply says. Where that is not kept with the rules, its URL is made anew, so that no call keeps what the rules say.
 fn wellknown_file(
     alloc: Global,
-    rules: &Suffixes,
+    rules: &Rules,
     config: &WebUrl,
     raw: &[u8],
 ) -> Result<Result<(), ProviderStep>, NoRoom>
     requires { scheme_of config.now ≡ Scheme.Https }
     ensures { IfOk result (λ read. read ≡ spec.wellknown_read rules.now config.now raw.now) }
 {
-    let base = match site_url(alloc, rules, config)? {
+    if let Some(said) = rules.file_said(config, raw) {
+        return Ok(said);
+    }
+    let base = match site_url(alloc, rules.suffixes(), config)? {
         Ok(base) => base,
         Err(step) => return Ok(Err(step)),
     };
@@ -165,16 +173,32 @@ fn wellknown_file(
     }
 }
 
+// What is kept of a config reply.
+fn kept_config(
+    said: &Result<SharedConfig, ProviderStep>,
+) -> Result<Result<SharedConfig, ProviderStep>, NoRoom>
+    ensures { IfOk result (λ copy. copy ≡ said.now) }
+{
+    match said {
+        Ok(config) => Ok(Ok(config.copy()?)),
+        Err(step) => Ok(Err(*step)),
+    }
+}
+
 // What a config reply says.
 fn config_file(
     alloc: Global,
+    rules: &Rules,
     config: &WebUrl,
     raw: &[u8],
-) -> Result<Result<Config, ProviderStep>, NoRoom>
+) -> Result<Result<SharedConfig, ProviderStep>, NoRoom>
     ensures { IfOk result (λ read. read ≡ ConfigOf raw.now config.now) }
 {
+    if let Some(said) = rules.config_said(config, raw) {
+        return kept_config(said);
+    }
     match read_config(alloc, raw, config) {
-        Ok(config) => Ok(Ok(config)),
+        Ok(config) => Ok(Ok(SharedConfig::new(alloc, config)?)),
         Err(Fault::Step(step)) => Ok(Err(step)),
         Err(Fault::NoRoom) => Err(NoRoom),
     }

@@ -5,13 +5,15 @@ mod config;
 mod first_replies;
 pub mod laws;
 mod metadata;
+mod rules;
 mod step;
 mod wellknown;
 
-pub use config::{Config, read_config};
+pub use config::{Config, SharedConfig, read_config};
 pub use first_replies::{FirstReplies, Heard};
 /// The endpoint that a step names.
 pub use fed_origin::Endpoint;
 pub use metadata::{PolicyLinks, read_metadata};
+pub use rules::Rules;
 pub use step::ProviderStep;
 pub use wellknown::{read_wellknown, site_url, wellknown_url};

@@ -3,7 +3,6 @@ ghost use Rattle.std.specs.Prelude.{◌≡◌, IfOk};
 ghost use Rattle.fed_json.specs.Part.{data_at};
 ghost use Rattle.fed_provider.specs.Metadata as spec;
 
-use crate::config::copy_url;
 use fed_io::{Fault, NoRoom};
 use fed_json::Part;
 use fed_origin::WebUrl;
@@ -37,6 +36,16 @@ impl PolicyLinks {
             privacy: copy_url(alloc, &self.privacy)?,
             terms: copy_url(alloc, &self.terms)?,
         })
+    }
+}
+
+// The same URL, where there is one.
+fn copy_url(alloc: Global, url: &Option<WebUrl>) -> Result<Option<WebUrl>, NoRoom>
+    ensures { IfOk result (λ copy. copy ≡ url.now) }
+{
+    match url {
+        Some(url) => Ok(Some(url.copy(alloc)?)),
+        None => Ok(None),
     }
 }
 

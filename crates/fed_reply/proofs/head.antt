@@ -3,3 +3,4 @@ pub mod Fields
 pub mod Values
 pub mod Named
 pub mod Front
+pub mod Asked

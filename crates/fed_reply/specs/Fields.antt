@@ -1,5 +1,5 @@
 -- The fields of a reply: a multimap from names in lower case to values.
-use Rattle.std.specs.Prelude.{ℕ, Bool, ◌&&◌, List, [], map, filter, slice_get, bytes_eq, Option, Result, Ok, Err, if◌then◌else◌}
+use Rattle.std.specs.Prelude.{ℕ, Bool, false, ◌&&◌, List, [], ◌∷◌, map, filter, slice_get, bytes_eq, Option, Result, Ok, Err, if◌then◌else◌}
 use Rattle.std.specs.List.{list_all}
 use Rattle.http_header.specs.Token.{lowercase, is_value_byte}
 use Rattle.http_header.specs.FieldName.{is_field_name}
@@ -32,6 +32,12 @@ values name fields = map (λ v. v.bytes) (get_all fields name)
 -- the k-th of these values, from 0
 abbrev pub value_at : List ℕ → ℕ → Fields → Option (List ℕ)
 value_at name k fields = slice_get (values name fields) k
+
+-- there is exactly one value, and it is this one
+abbrev pub is_only : List ℕ → List (List ℕ) → Bool
+is_only value [] = false
+is_only value (v ∷ []) = bytes_eq v value
+is_only value (v ∷ w ∷ vs) = false
 
 -- the bytes are the word, in any case
 abbrev pub is_word : List ℕ → List ℕ → Bool

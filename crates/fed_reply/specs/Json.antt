@@ -2,7 +2,8 @@
 use Rattle.std.specs.Prelude.{◌≡◌, ◌≤◌, ℕ, Bool, false, not, ◌&&◌, ◌||◌, ◌==◌, ◌-◌, nat_eq, nat_le, nat_lt, List, [], ◌∷◌}
 use Rattle.std.specs.Prelude.{length, take, drop, map, codes}
 use Rattle.std.specs.Prelude.{Option, Some, None, ok_or, Result, Ok, Err, if◌then◌else◌}
-use Rattle.std.specs.List.{before_first, after_first}
+use Rattle.std.specs.Borrow.{Bor}
+use Rattle.std.specs.List.{before_first, after_first, list_all}
 use Rattle.std.specs.Cmp.Lexicographic.{pointwise}
 use Rattle.httparse.specs.Grammar.{is_token, trim_ows}
 use Rattle.serde_json.specs.Data.{Data}
@@ -11,11 +12,12 @@ use Rattle.fed_reply.specs.declared.step.ReplyStep.{ReplyStep}
 use Rattle.fed_reply.specs.declared.step.ReplyStep.TheVariants.{Status, Mime, Json}
 use Rattle.fed_reply.specs.Parts.{ReplyParts}
 use Rattle.fed_head.specs.Head.{HeadParts}
-use Rattle.fed_head.specs.Section.{name_and_trimmed}
+use Rattle.fed_head.specs.Section.{FieldPair, name_and_trimmed}
+use Rattle.http_header.specs.Token.{lowercase}
 use Rattle.fed_reply.specs.declared.json_head.JsonHead.{JsonHead}
 use Rattle.fed_reply.specs.Body.{framing_of}
-use Rattle.fed_reply.specs.Fields.{fields_of, value_at, is_word}
-use Rattle.fed_reply.specs.Steps.{and_then}
+use Rattle.fed_reply.specs.Fields.{Fields, fields_of, is_only, value_at, values, is_word}
+use Rattle.fed_reply.specs.Steps.{and_then, with_ok}
 use Rattle.fed_reply.specs.Reply.{ReplyOf}
 
 -- a status of the class 2xx
@@ -71,7 +73,23 @@ JsonOf reply =
 abbrev pub ReplyJsonOf : List ℕ → Result Data ReplyStep
 ReplyJsonOf raw = and_then JsonOf (ReplyOf raw)
 
+-- each of these fields stands exactly once, with the value beside its name
+abbrev pub has_each : List FieldPair → Fields → Bool
+has_each only fields = list_all (λ f. is_only f.1 (values (lowercase f.0) fields)) only
+
+-- the value of a reply that has each of these fields; none where it has not
+abbrev pub json_with : List FieldPair → ReplyParts → Result (Option Data) ReplyStep
+json_with only reply = if has_each only reply.fields then with_ok Some (JsonOf reply) else Ok None
+
+-- the same, by the bytes of the reply
+abbrev pub ReplyJsonWith : List FieldPair → List ℕ → Result (Option Data) ReplyStep
+ReplyJsonWith only raw = and_then (json_with only) (ReplyOf raw)
+
 -- ---- for private clauses
+
+-- the names and values that the code asks for
+abbrev pub asked : List (Bor (List ℕ) × Bor (List ℕ)) → List FieldPair
+asked only = map (λ f. (f.0.now, f.1.now)) only
 
 -- the step of a reply of that status, whose first content type is JSON or not
 abbrev pub refusal : ℕ → Bool → Option ReplyStep
@@ -81,15 +99,21 @@ refusal status is_json = if is_success status then (if is_json then None else So
 abbrev pub body_value : List ℕ → Result Data ReplyStep
 body_value body = ok_or (value_of (without_mark body)) Json
 
--- the status, the content type, the framing of the body and the end of the head are those
-pub record IsJsonHeadOf (raw : List ℕ) (head : HeadParts) (found : JsonHead) : Type 0 where
+-- the value that a body is, or the step at which its reply is refused
+abbrev pub unless_refused : Option ReplyStep → List ℕ → Result Data ReplyStep
+unless_refused None body = body_value body
+unless_refused (Some step) body = Err step
+
+-- the status, the content type, the fields that are asked for, the framing of the body and the end of the head are those
+pub record IsJsonHeadOf (only : List FieldPair) (raw : List ℕ) (head : HeadParts) (found : JsonHead) : Type 0 where
   pub status : found.status ≡ head.status
   pub is_json : found.is_json ≡ is_json_type (value_at (codes "content-type") 0 (fields_of (map name_and_trimmed head.fields)))
+  pub has_each : found.has_each ≡ has_each only (fields_of (map name_and_trimmed head.fields))
   pub framing : found.framing ≡ framing_of (fields_of (map name_and_trimmed head.fields))
   pub rest : drop found.len raw ≡ head.rest
   pub len : found.len ≤ length raw
 
 -- the head that was read is the expected one, and the step exactly where there is none
-abbrev pub FindsJsonHead : List ℕ → Result HeadParts ReplyStep → Result JsonHead ReplyStep → Type 0
-FindsJsonHead raw expected (Ok found) = (head : HeadParts) × (expected ≡ Ok head) × IsJsonHeadOf raw head found
-FindsJsonHead raw expected (Err step) = expected ≡ Err step
+abbrev pub FindsJsonHead : List FieldPair → List ℕ → Result HeadParts ReplyStep → Result JsonHead ReplyStep → Type 0
+FindsJsonHead only raw expected (Ok found) = (head : HeadParts) × (expected ≡ Ok head) × IsJsonHeadOf only raw head found
+FindsJsonHead only raw expected (Err step) = expected ≡ Err step

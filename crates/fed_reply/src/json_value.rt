@@ -1,5 +1,5 @@
 //! The JSON value of a reply.
-ghost use Rattle.std.specs.Prelude.{◌≡◌};
+ghost use Rattle.std.specs.Prelude.{◌≡◌, option_map};
 ghost use Rattle.std.specs.List.{list_all};
 ghost use Rattle.std.specs.Option.{option_copied};
 ghost use Rattle.httparse.specs.Grammar as grammar;
@@ -8,7 +8,7 @@ ghost use Rattle.fed_io.specs.Fault.{AnswersBy};
 ghost use Rattle.fed_reply.specs.Json as spec;
 
 use crate::fields::is_in_any_case;
-use crate::json_head::read_json_head;
+use crate::json_head::{JsonHead, read_json_head};
 use crate::read::read_body;
 use crate::{Reply, ReplyStep};
 use fed_io::{Bytes, Fault, NoRoom, place_of, trim};
@@ -73,7 +73,7 @@ pub fn read_json<'a>(
 ) -> Result<Tape<'a>, Fault<ReplyStep>>
     ensures { AnswersBy data_at result (spec.ReplyJsonOf raw.now) }
 {
-    let head = match read_json_head(raw) {
+    let head = match read_json_head(raw, &[]) {
         Ok(head) => head,
         Err(step) => return Err(Fault::Step(step)),
     };
@@ -81,6 +81,45 @@ pub fn read_json<'a>(
         Ok(body) => body,
         Err(fault) => return Err(fault),
     };
+    unless_refused(alloc, &head, body, buffer)
+}
+
+/// The same of a reply in which each field of these names, in any case, stands exactly once, with the value beside its name; None where
+/// one does not. That is told after the steps of `read_reply`, and before those of `json_of`.
+pub fn read_json_with<'a>(
+    alloc: Global,
+    raw: &[u8],
+    only: &[(&str, &[u8])],
+    buffer: &'a mut JsonBuffer,
+) -> Result<Option<Tape<'a>>, Fault<ReplyStep>>
+    ensures { AnswersBy (option_map data_at) result (spec.ReplyJsonWith (spec.asked only.now) raw.now) }
+{
+    let head = match read_json_head(raw, only) {
+        Ok(head) => head,
+        Err(step) => return Err(Fault::Step(step)),
+    };
+    let body = match read_body(alloc, head.framing, &raw[head.len..]) {
+        Ok(body) => body,
+        Err(fault) => return Err(fault),
+    };
+    if !head.has_each {
+        return Ok(None);
+    }
+    match unless_refused(alloc, &head, body, buffer) {
+        Ok(tape) => Ok(Some(tape)),
+        Err(fault) => Err(fault),
+    }
+}
+
+// The tape of a reply with that head and that body, unless it is refused.
+fn unless_refused<'a>(
+    alloc: Global,
+    head: &JsonHead,
+    body: Bytes,
+    buffer: &'a mut JsonBuffer,
+) -> Result<Tape<'a>, Fault<ReplyStep>>
+    ensures { AnswersBy data_at result (spec.unless_refused (spec.refusal head.now.status head.now.is_json) body) }
+{
     match refusal(head.status, head.is_json) {
         Some(step) => Err(Fault::Step(step)),
         None => body_tape(alloc, body, buffer),
@@ -125,7 +164,8 @@ pub fn is_json_type(value: Option<&[u8]>) -> bool
     ensures { result ≡ spec.is_json_type (option_copied value.entry) }
 {
     match value {
-        Some(value) => is_json_media(essence(value)),
+        // What most replies write is told by one comparison: the search for tokens takes some 500 instructions.
+        Some(value) => value == b"application/json".as_slice() || is_json_media(essence(value)),
         None => false,
     }
 }

@@ -12,7 +12,7 @@ mod read;
 mod reply;
 mod step;
 
-pub use json_value::{JsonBuffer, essence, json_of, read_json};
+pub use json_value::{JsonBuffer, essence, json_of, read_json, read_json_with};
 pub use member::{Member, list_member, object_member, text_member, value_member};
 pub use read::{read_head, read_reply};
 pub use reply::Reply;

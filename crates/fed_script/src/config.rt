@@ -1,42 +1,83 @@
 //! The configuration URLs of lines.
+ghost use Rattle.std.specs.Prelude.{◌≡◌, IfSome, Ok};
 ghost use Rattle.fed_io.specs.Fault.{Answers};
 ghost use Rattle.fed_script.specs.Member as spec;
 
 use crate::cause::LineCause;
 use crate::member::web_url;
 use fed_io::{Fault, NoRoom};
-use fed_origin::WebUrl;
+use fed_origin::{SLOTS, WebUrl, slot_of};
 use std::alloc::Global;
 
-/// The configuration URL that was read last. The next line mostly names the same one, which then shares its text: that spares some
-/// 1,200 instructions.
-pub(crate) struct LastConfig {
-    url: Option<WebUrl>,
+// The most bytes of a URL that is kept.
+const MOST_BYTES: usize = 2048;
+
+/// Configuration URLs that were read. Lines mostly name few providers, whose calls then share the text of the URL: that spares some 1,200
+/// instructions, and the memory of a text. At most 256 URLs are kept, of at most 2,048 bytes, each at the place of its text; one that comes
+/// later takes the place.
+pub(crate) struct KeptConfigs {
+    // None before the first URL is kept.
+    urls: Vec<Option<WebUrl>>,
 }
 
-// Written out, so that one function lets it go wherever it ends.
-impl Drop for LastConfig {
+// Written out, so that one function lets them go wherever they end.
+impl Drop for KeptConfigs {
     fn drop(self) {
-        let LastConfig { url: _ } = self;
+        let KeptConfigs { urls: _ } = self;
     }
 }
 
-impl LastConfig {
-    /// None was read.
-    pub(crate) fn none() -> LastConfig {
-        LastConfig { url: None }
+impl KeptConfigs {
+    /// None was read. It takes no memory.
+    pub(crate) fn none(alloc: Global) -> KeptConfigs {
+        KeptConfigs {
+            urls: Vec::new(alloc),
+        }
     }
 
     /// The URL of a text; BadUrl where there is none.
     pub(crate) fn read(&mut self, alloc: Global, text: &str) -> Result<WebUrl, Fault<LineCause>>
         ensures { Answers result (spec.url_of text.now) }
     {
-        match &self.url {
-            Some(url) if url.is_text(text) => return Ok(url.copy(alloc)?),
-            _ => {}
+        if let Some(url) = self.find(text) {
+            return Ok(url.copy(alloc)?);
         }
         let url = web_url(alloc, text)?;
-        self.url = Some(url.copy(alloc)?);
+        self.keep(alloc, text, &url)?;
         Ok(url)
     }
+
+    // The URL with this text, where it is kept.
+    fn find(&self, text: &str) -> Option<&WebUrl>
+        ensures { IfSome result (λ url. spec.url_of text.now ≡ Ok url.now) }
+    {
+        match self.urls.get(slot_of(text)) {
+            Some(Some(url)) if url.is_text(text) => Some(url),
+            _ => None,
+        }
+    }
+
+    // Keeps the URL.
+    fn keep(&mut self, alloc: Global, text: &str, url: &WebUrl) -> Result<(), NoRoom> {
+        if text.len() > MOST_BYTES {
+            return Ok(());
+        }
+        if self.urls.is_empty() {
+            self.urls = no_urls(alloc)?;
+        }
+        let place = slot_of(text);
+        if place < self.urls.len() {
+            self.urls[place] = Some(url.copy(alloc)?);
+        }
+        Ok(())
+    }
+}
+
+// No URLs, at all places.
+fn no_urls(alloc: Global) -> Result<Vec<Option<WebUrl>>, NoRoom> {
+    let mut urls = Vec::with_capacity(alloc, SLOTS)?;
+    for _ in 0..SLOTS {
+        urls.push(None)?;
+    }
+    Ok(urls)
 }

@@ -6,7 +6,7 @@ ghost use Rattle.fed_io.specs.Fault.{Answers};
 ghost use Rattle.fed_script.specs.Disconnect as spec;
 
 use crate::cause::{LineCause, MemberName};
-use crate::config::LastConfig;
+use crate::config::KeptConfigs;
 use crate::event::Event;
 use crate::member::{number, text};
 use fed_io::{Fault, Text};
@@ -35,29 +35,29 @@ fn disconnect_members<'a>(d: &Part<'_, 'a>) -> Result<DisconnectMembers<'a>, Lin
     })
 }
 
-/// The disconnect call that a line names; `last` is the configuration URL before it.
+/// The disconnect call that a line names; `kept` are configuration URLs of lines before it.
 pub(crate) fn disconnect(
     alloc: Global,
-    last: &mut LastConfig,
+    kept: &mut KeptConfigs,
     d: &Part<'_, '_>,
 ) -> Result<Event, Fault<LineCause>>
     ensures { Answers result (spec.disconnect_of (data_at d.now)) }
 {
     match disconnect_members(d) {
         Err(cause) => Err(Fault::Step(cause)),
-        Ok(members) => disconnect_by(alloc, last, &members),
+        Ok(members) => disconnect_by(alloc, kept, &members),
     }
 }
 
 /// The disconnect call with these members.
 pub(crate) fn disconnect_by(
     alloc: Global,
-    last: &mut LastConfig,
+    kept: &mut KeptConfigs,
     members: &DisconnectMembers<'_>,
 ) -> Result<Event, Fault<LineCause>>
     ensures { Answers result (spec.disconnect_by (spec.disconnect_seen members.now)) }
 {
-    let config = last.read(alloc, members.config)?;
+    let config = kept.read(alloc, members.config)?;
     Ok(Event::Disconnect {
         page: members.page,
         call: members.call,

@@ -8,7 +8,7 @@ ghost use Rattle.fed_script.specs.Member.{required};
 ghost use Rattle.fed_script.specs.declared.cause.MemberName.TheVariants as names;
 
 use crate::cause::{LineCause, MemberName};
-use crate::config::LastConfig;
+use crate::config::KeptConfigs;
 use crate::event::Event;
 use crate::member::{member, number, optional_text, text};
 use crate::options::{OptionMembers, option_members};
@@ -116,40 +116,38 @@ fn options_of(
 ) -> Result<GetOptions, NoRoom>
     ensures { IfOk result (λ options. options ≡ spec.options_of members provider) }
 {
-    let mut providers = Items::new(alloc);
-    providers.push(provider)?;
     Ok(GetOptions {
         mediation: members.mediation,
         mode: members.mode,
         activation: members.activation,
         context: members.context,
-        providers,
+        providers: Items::from_vec(Vec::from_array(alloc, [provider])?),
     })
 }
 
-/// The get that a line names; `last` is the configuration URL before it.
+/// The get that a line names; `kept` are configuration URLs of lines before it.
 pub(crate) fn get(
     alloc: Global,
-    last: &mut LastConfig,
+    kept: &mut KeptConfigs,
     d: &Part<'_, '_>,
 ) -> Result<Event, Fault<LineCause>>
     ensures { Answers result (spec.get_of (data_at d.now)) }
 {
     match get_members(d) {
         Err(cause) => Err(Fault::Step(cause)),
-        Ok(members) => get_by(alloc, last, &members),
+        Ok(members) => get_by(alloc, kept, &members),
     }
 }
 
 /// The get with these members.
 pub(crate) fn get_by(
     alloc: Global,
-    last: &mut LastConfig,
+    kept: &mut KeptConfigs,
     members: &GetMembers<'_>,
 ) -> Result<Event, Fault<LineCause>>
     ensures { Answers result (spec.get_by (spec.get_seen members.now)) }
 {
-    let config = last.read(alloc, members.provider.config)?;
+    let config = kept.read(alloc, members.provider.config)?;
     let provider = provider_of(alloc, config, &members.provider)?;
     Ok(Event::Get {
         page: members.page,

@@ -9,7 +9,7 @@ ghost use Rattle.std.specs.Result.{result_map_both};
 
 use crate::cause::{LineCause, MemberName};
 use crate::choose::choose;
-use crate::config::LastConfig;
+use crate::config::KeptConfigs;
 use crate::disconnect::{disconnect, disconnect_by};
 use crate::event::Event;
 use crate::get::{get, get_by};
@@ -45,7 +45,7 @@ fn kind_of<'a>(d: &Part<'_, 'a>) -> Result<&'a str, LineCause>
 // The event of a line of this kind.
 fn event_of_kind(
     alloc: Global,
-    last: &mut LastConfig,
+    kept: &mut KeptConfigs,
     kind: &str,
     d: &Part<'_, '_>,
 ) -> Result<Event, Fault<LineCause>>
@@ -56,7 +56,7 @@ fn event_of_kind(
         "at" => at(d).map_err(Fault::Step),
         "load" => load(alloc, d),
         "closepage" => close_page(d).map_err(Fault::Step),
-        "get" => get(alloc, last, d),
+        "get" => get(alloc, kept, d),
         "abort" => abort(d).map_err(Fault::Step),
         "continue" => go_on(d).map_err(Fault::Step),
         "cancel" => cancel(d).map_err(Fault::Step),
@@ -67,16 +67,16 @@ fn event_of_kind(
         "idpclose" => idp_close(d).map_err(Fault::Step),
         "prevent" => prevent(d).map_err(Fault::Step),
         "setstatus" => set_status(d).map_err(Fault::Step),
-        "disconnect" => disconnect(alloc, last, d),
+        "disconnect" => disconnect(alloc, kept, d),
         _ => Err(Fault::Step(LineCause::NoKind)),
     }
 }
 
-/// What is kept from one line to the next: memory for reading, and what was read last. No answer hangs on it.
+/// What is kept from one line to the next: memory for reading, and what was read before. No answer hangs on it.
 #[derive(Drop)]
 pub(crate) struct LineMemory {
     scratch: Scratch,
-    config: LastConfig,
+    config: KeptConfigs,
     texts: LastTexts,
 }
 
@@ -85,7 +85,7 @@ impl LineMemory {
     pub(crate) fn new(alloc: Global) -> LineMemory {
         LineMemory {
             scratch: Scratch::new(alloc),
-            config: LastConfig::none(),
+            config: KeptConfigs::none(alloc),
             texts: LastTexts::none(),
         }
     }

@@ -145,7 +145,7 @@ get_but call (Some get) = if nat_eq call get then None else Some get
 -- what is known of a call in this state
 abbrev pub known_of : Pending → Option Known
 known_of (Get state) = option_map OfGet (facts_of state)
-known_of (Disconnect state) = option_map OfDisconnect (disconnect_facts_of state.value)
+known_of (Disconnect state) = option_map OfDisconnect (disconnect_facts_of state)
 
 -- the origin of the provider whose login window is open
 abbrev pub awaits : Known → Option Origin

@@ -1,6 +1,5 @@
 //! What a call does: statuses, permissions and flags that it sets, and records.
-ghost use Rattle.std.specs.Prelude.{◌≡◌, [], ◌∷◌, IfOk, OnOk, Some};
-ghost use Rattle.std.specs.Option.{option_to_list};
+ghost use Rattle.std.specs.Prelude.{◌≡◌, [], ◌∷◌, ◌++◌, IfOk, OnOk, Some};
 ghost use Rattle.fed_trace.specs.Begun.{GetCall};
 ghost use Rattle.fed_trace.specs.Effect.{Sent, Ignored};
 ghost use Rattle.fed_trace.specs.Records.{records_of, record_of};
@@ -52,9 +51,7 @@ pub(crate) fn answered(
     // Room for all of them at once: a list that grows takes room for four records first, which is more than most need.
     let mut outs = Items::from_vec(Vec::with_capacity(alloc, effects.len())?);
     for effect in effects.into_vec() {
-        if let Some(out) = record(alloc, line, sight, call, page, effect)? {
-            outs.push(out)?;
-        }
+        answer(alloc, line, sight, call, page, effect, &mut outs)?;
     }
     Ok(outs)
 }
@@ -70,40 +67,41 @@ fn set_all(alloc: Global, sight: &mut Sight, effects: &[Effect]) -> Result<(), N
     Ok(())
 }
 
-// The record of what a call of the page does, if it is written.
-fn record(
+// Adds the record of what a call of the page does, if it is written. It is made where it is added, since it is large.
+fn answer(
     alloc: Global,
     line: u32,
     sight: &Sight,
     call: u32,
     page: u32,
     effect: Effect,
-) -> Result<Option<Out>, NoRoom>
-    ensures { IfOk result (λ out. option_to_list out ≡ call_records line (cookies_of sight.now) call page (effect ∷ [])) }
+    outs: &mut Items<Out>,
+) -> Result<(), NoRoom>
+    ensures { OnOk result (outs.new ≡ outs.old ++ call_records line (cookies_of sight.now) call page (effect ∷ [])) }
 {
     match effect {
         Effect::Send(provider, ask) => {
-            Ok(Some(request(alloc, line, sight, call, provider, &ask)?))
+            outs.push(request(alloc, line, sight, call, provider, &ask)?)
         }
-        Effect::Dialog(dialog) => Ok(Some(Out::Dialog { line, call, dialog })),
-        Effect::Finish(finish) => Ok(Some(Out::Answer {
+        Effect::Dialog(dialog) => outs.push(Out::Dialog { line, call, dialog }),
+        Effect::Finish(finish) => outs.push(Out::Answer {
             line,
             call,
             page,
             finish,
-        })),
-        Effect::Ignored(why) => Ok(Some(Out::Ignored { line, why })),
-        Effect::Window(provider, url) => Ok(Some(Out::Window {
+        }),
+        Effect::Ignored(why) => outs.push(Out::Ignored { line, why }),
+        Effect::Window(provider, url) => outs.push(Out::Window {
             line,
             call,
             provider,
             url,
-        })),
+        }),
         Effect::SetLogin(_, _)
         | Effect::Keep(_)
         | Effect::Forget(_)
         | Effect::ForgetPair(_, _)
-        | Effect::ClearFlag(_) => Ok(None),
+        | Effect::ClearFlag(_) => Ok(()),
     }
 }
 

@@ -9,19 +9,18 @@ ghost use Rattle.fed_session.specs.StepParts.{known_of, awaited_in, stage_in, ou
 
 use fed_call::CallState;
 use fed_consent::{Effect, Input};
-use fed_disconnect::{DEnded, DState};
+use fed_disconnect::DState;
 use fed_io::{Items, NoRoom};
-use fed_origin::{Origin, Stage};
+use fed_origin::{Origin, Stage, WebUrl};
 use fed_status::Shared;
 use std::alloc::Global;
 use std::marker::Model;
-use std::mem;
 
-/// The state of a call that is pending, by its kind. That of a get is small, and what is large of it stands in places of its own.
+/// The state of a call that is pending, by its kind. It is small: what is large of it stands in places of its own.
 #[derive(Drop)]
 pub enum Pending {
     Get(CallState),
-    Disconnect(Box<DState>),
+    Disconnect(DState),
 }
 
 /// What is kept of a call that was taken: its state where it is pending, and nothing where it is over.
@@ -56,10 +55,9 @@ impl Pending {
                 let (state, effects) = state.advance(alloc, input, shared)?;
                 Ok((Kept::of_get(state), effects))
             }
-            Pending::Disconnect(mut place) => {
-                let state = mem::replace(&mut *place, DState::DEnded(DEnded));
+            Pending::Disconnect(state) => {
                 let (state, effects) = state.advance(alloc, input, shared)?;
-                Ok((Kept::disconnect_in(place, state), effects))
+                Ok((Kept::of_disconnect(state), effects))
             }
         }
     }
@@ -71,6 +69,14 @@ impl Pending {
         match self {
             Pending::Get(state) => state.page(),
             Pending::Disconnect(state) => state.page(),
+        }
+    }
+
+    /// The configuration URL of a call whose well-known file and configuration are awaited; none of another call. It takes no memory.
+    pub(crate) fn reads(&self) -> Option<&WebUrl> {
+        match self {
+            Pending::Get(state) => state.reads(),
+            Pending::Disconnect(state) => state.reads(),
         }
     }
 
@@ -115,30 +121,15 @@ impl Kept {
         }
     }
 
-    /// What is kept of a disconnect call in this state.
-    pub(crate) fn of_disconnect(alloc: Global, state: DState) -> Result<Kept, NoRoom>
-        ensures { IfOk result (λ kept. kept ≡ option_map OfDisconnect (disconnect_facts_of state)) }
-    {
-        match state {
-            DState::DEnded(..) => Ok(Kept::over()),
-            other => Ok(Kept {
-                state: Some(Pending::Disconnect(Box::new(alloc, other)?)),
-            }),
-        }
-    }
-
-    // What is kept of a disconnect call in this state, in the place of the state before it. It takes no memory.
-    fn disconnect_in(mut place: Box<DState>, state: DState) -> Kept
+    /// What is kept of a disconnect call in this state. It takes no memory.
+    pub(crate) fn of_disconnect(state: DState) -> Kept
         ensures { result ≡ option_map OfDisconnect (disconnect_facts_of state) }
     {
         match state {
             DState::DEnded(..) => Kept::over(),
-            other => {
-                *place = other;
-                Kept {
-                    state: Some(Pending::Disconnect(place)),
-                }
-            }
+            other => Kept {
+                state: Some(Pending::Disconnect(other)),
+            },
         }
     }
 

@@ -7,12 +7,11 @@ ghost use Rattle.fed_origin.specs.WebUrl.{scheme_of};
 ghost use Rattle.fed_provider.specs.WellKnown.{WellKnownUrlOf};
 ghost use Rattle.fed_session.specs.Cookies.{with_write};
 
-use crate::rules::Rules;
 use fed_cookie::RawCookie;
 use fed_io::{Bytes, NoRoom};
 use fed_jar::{Cookie, Jar};
-use fed_origin::{Scheme, WebUrl};
-use fed_provider::ProviderStep;
+use fed_origin::{ReplyKind, Scheme, WebUrl};
+use fed_provider::{ProviderStep, Rules};
 use fed_suffix::Suffixes;
 use std::alloc::Global;
 use std::marker::Model;
@@ -54,16 +53,29 @@ impl Cookies {
         ensures { result ≡ record { rules = rules; list = []; entered = 0 } }
     {
         Cookies {
-            rules: Rules::new(rules),
+            rules: Rules::new(alloc, rules),
             jar: Jar::new(alloc),
         }
     }
 
-    /// The public suffix rules.
-    pub(crate) fn rules(&self) -> &Suffixes
+    /// The public suffix rules, with what was made by them.
+    pub(crate) fn rules(&self) -> &Rules
         ensures { result.now ≡ self.now.rules }
     {
-        self.rules.suffixes()
+        &self.rules
+    }
+
+    /// Keeps what a reply with a file of the configuration URL says, where it has one. Contracts do not see that.
+    pub(crate) fn learn(
+        &mut self,
+        alloc: Global,
+        config: &WebUrl,
+        kind: ReplyKind,
+        raw: &[u8],
+    ) -> Result<(), NoRoom>
+        ensures { self.new ≡ self.old }
+    {
+        self.rules.learn(alloc, config, kind, raw)
     }
 
     /// The well-known URL of a configuration URL that is https, or the step where it has no site.

@@ -90,7 +90,7 @@ fn begin(
         client.copy(alloc)?,
         hint.copy(alloc)?,
     )?;
-    Ok((Kept::of_disconnect(alloc, state)?, effects))
+    Ok((Kept::of_disconnect(state), effects))
 }
 
 // A call that begins. The well-known URL is looked for among those that are known.

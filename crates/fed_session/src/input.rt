@@ -10,6 +10,7 @@ ghost use Rattle.fed_session.specs.StepParts.{cookies_of, world_in, sight_after,
 ghost use Rattle.fed_session.specs.Tabs.{Takes};
 
 use crate::apply::{apply, ignored};
+use crate::calls::Pending;
 use crate::sight::Sight;
 use crate::tabs::Tabs;
 use fed_consent::{Input, Why};
@@ -45,6 +46,7 @@ pub(crate) fn take_input<L: Ledger>(
     };
     let page = state.page();
     let waited = state.waits();
+    learn(alloc, sight, &state, input)?;
     let (kept, effects) = state.advance(alloc, input, &sight.lent())?;
     let Some(page) = page else {
         return ignored(alloc, line, Why::CallEnded);
@@ -52,6 +54,18 @@ pub(crate) fn take_input<L: Ledger>(
     tabs.give_back(page, call, waited, kept, steps)?;
     let outs = apply(alloc, line, sight, call, page, effects)?;
     Ok(outs)
+}
+
+// Keeps what a reply with a file of a provider says, so that the call, and the next one to the same provider, need not read it.
+fn learn(alloc: Global, sight: &mut Sight, state: &Pending, input: &Input) -> Result<(), NoRoom>
+    ensures { sight.new ≡ sight.old }
+{
+    match (state.reads(), input) {
+        (Some(config), Input::Reply { kind, raw, .. }) => {
+            sight.cookies.learn(alloc, config, *kind, raw.as_slice())
+        }
+        _ => Ok(()),
+    }
 }
 
 // Why a call that is not pending takes no input: it is over, or never was.

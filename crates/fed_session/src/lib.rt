@@ -10,7 +10,6 @@ mod input;
 mod load;
 mod page;
 mod resume;
-mod rules;
 mod session;
 mod sight;
 mod tabs;

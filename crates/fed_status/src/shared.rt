@@ -1,13 +1,13 @@
 //! What all calls look at.
 
 use crate::{KeptSet, LoginMap, SilentFlags};
-use fed_suffix::Suffixes;
+use fed_provider::Rules;
 
 /// What all calls look at and none of them changes by itself.
 #[derive(Clone, Copy)]
 pub struct Shared<'a> {
-    /// The public suffix rules.
-    pub rules: &'a Suffixes,
+    /// The public suffix rules, with what was made by them last.
+    pub rules: &'a Rules,
     /// The login statuses of providers.
     pub login: &'a LoginMap,
     /// The kept permissions.

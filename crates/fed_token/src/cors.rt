@@ -1,10 +1,16 @@
 //! The CORS check.
 ghost use Rattle.std.specs.Prelude.{◌≡◌};
 ghost use Rattle.http_header.specs.Token.{lowercase};
-ghost use Rattle.fed_reply.specs.Fields.{values};
+ghost use Rattle.fed_reply.specs.Fields.{is_only, values};
 ghost use Rattle.fed_token.specs.Cors as spec;
 
 use fed_reply::Reply;
+
+/// The field that names the origin that may read a reply.
+pub(crate) const ALLOW_ORIGIN: &str = "access-control-allow-origin";
+
+/// The field that says that it may read it with credentials.
+pub(crate) const ALLOW_CREDENTIALS: &str = "access-control-allow-credentials";
 
 /// Whether a reply allows a page of the serialized origin to read it with credentials (Fetch, "CORS
 /// check"; that each field stands once, and that `*` allows nothing, is this profile's own): there
@@ -14,13 +20,12 @@ use fed_reply::Reply;
 pub fn cors_passes(reply: &Reply, origin: &[u8]) -> bool
     ensures { result ≡ spec.CorsPasses origin.now reply.now }
 {
-    has_only(reply, "access-control-allow-origin", origin)
-        && has_only(reply, "access-control-allow-credentials", b"true")
+    has_only(reply, ALLOW_ORIGIN, origin) && has_only(reply, ALLOW_CREDENTIALS, b"true")
 }
 
 // Whether there is exactly one field of that name, and it has the value.
 fn has_only(reply: &Reply, name: &str, value: &[u8]) -> bool
-    ensures { result ≡ spec.is_only value.now (values (lowercase name.now) reply.now.fields) }
+    ensures { result ≡ is_only value.now (values (lowercase name.now) reply.now.fields) }
 {
     match reply.field(name, 0) {
         Some(first) => first == value && reply.field(name, 1).is_none(),

@@ -7,11 +7,12 @@ ghost use Rattle.fed_reply.specs.Members.{member_map};
 ghost use Rattle.fed_reply.specs.Shape.{present};
 ghost use Rattle.fed_token.specs.Read as spec;
 
-use crate::{TokenStep, cors_passes};
+use crate::TokenStep;
+use crate::cors::{ALLOW_CREDENTIALS, ALLOW_ORIGIN};
 use fed_io::{Fault, NoRoom, Text};
 use fed_json::Part;
 use fed_origin::Origin;
-use fed_reply::{JsonBuffer, Member, json_of, object_member, read_reply, text_member};
+use fed_reply::{JsonBuffer, Member, object_member, read_json_with, text_member};
 use json::Tape;
 use std::alloc::Global;
 
@@ -47,8 +48,7 @@ pub fn read_disconnect(alloc: Global, raw: &[u8], origin: &Origin) -> Result<Tex
     }
 }
 
-// The JSON value of a reply that a page of the origin may read.
-#[tactic(auto, unfolding(crate::specs::Read::CheckedJsonOf))]
+// The JSON value of a reply that a page of the origin may read: it has the two fields that `cors_passes` asks for.
 fn checked_json<'a>(
     alloc: Global,
     raw: &[u8],
@@ -58,17 +58,14 @@ fn checked_json<'a>(
     ensures answers { AnswersBy data_at result (spec.CheckedJsonOf raw.now (origin_text origin.now)) }
     ensures never { IfErr result spec.IsDisconnectFault }
 {
-    let reply = match read_reply(alloc, raw) {
-        Ok(reply) => reply,
-        Err(Fault::Step(step)) => return Err(Fault::Step(TokenStep::Reply(step))),
-        Err(Fault::NoRoom) => return Err(Fault::NoRoom),
-    };
     let origin = origin.serialize(alloc)?;
-    if !cors_passes(&reply, origin.as_str().as_bytes()) {
-        return Err(Fault::Step(TokenStep::Cors));
-    }
-    match json_of(alloc, reply, buffer) {
-        Ok(tape) => Ok(tape),
+    let allowed = [
+        (ALLOW_ORIGIN, origin.as_str().as_bytes()),
+        (ALLOW_CREDENTIALS, b"true".as_slice()),
+    ];
+    match read_json_with(alloc, raw, &allowed, buffer) {
+        Ok(Some(tape)) => Ok(tape),
+        Ok(None) => Err(Fault::Step(TokenStep::Cors)),
         Err(Fault::Step(step)) => Err(Fault::Step(TokenStep::Reply(step))),
         Err(Fault::NoRoom) => Err(Fault::NoRoom),
     }

@@ -5,12 +5,13 @@ ghost use Rattle.fed_origin.specs.Status.{is_known};
 use crate::values::{CONFIG, PAGE, origin_of};
 use fed_io::{NoRoom, Text};
 use fed_origin::{LoginStatus, Mediation, Mode, Triple};
+use fed_provider::Rules;
 use fed_status::{KeptSet, LoginMap, Shared, SilentFlags};
 use fed_suffix::Suffixes;
 use std::alloc::Global;
 
 pub struct Browser {
-    rules: Suffixes,
+    rules: Rules,
     login: LoginMap,
     kept: KeptSet,
     flags: SilentFlags,
@@ -37,7 +38,7 @@ impl Drop for Browser {
 impl Browser {
     pub fn new(alloc: Global) -> Browser {
         Browser {
-            rules: Suffixes::new(alloc),
+            rules: Rules::new(alloc, Suffixes::new(alloc)),
             login: LoginMap::new(alloc),
             kept: KeptSet::new(alloc),
             flags: SilentFlags::new(alloc),

@@ -11,6 +11,8 @@ mod provider;
 #[cfg(test)]
 mod reply;
 #[cfg(test)]
+mod rules;
+#[cfg(test)]
 mod steps;
 #[cfg(test)]
 mod token;

@@ -2,7 +2,8 @@
 use fed_io::{Fault, NoRoom, Text};
 use fed_origin::{Endpoint, Scheme, UrlRefusal, WebUrl};
 use fed_provider::{
-    Config, PolicyLinks, ProviderStep, read_config, read_metadata, read_wellknown, wellknown_url,
+    Config, PolicyLinks, ProviderStep, SharedConfig, read_config, read_metadata, read_wellknown,
+    wellknown_url,
 };
 use fed_suffix::Suffixes;
 use std::alloc::Global;
@@ -151,16 +152,17 @@ fn configurations(rt: HostRuntime) -> Result<(), Fail> {
     Ok(())
 }
 
-// The login URL of a configuration's copy.
-fn copied_login(alloc: Global, read: &Config) -> Result<Text, NoRoom> {
-    let copy = read.copy(alloc)?;
-    Text::of(alloc, copy.login.as_str())
+// The login URL of a shared configuration's copy.
+fn copied_login(alloc: Global, read: Config) -> Result<Text, NoRoom> {
+    let shared = SharedConfig::new(alloc, read)?;
+    let copy = shared.copy()?;
+    Text::of(alloc, copy.as_config().login.as_str())
 }
 
 // The login URL of the configuration in a reply, or nothing.
 fn login_in(alloc: Global, raw: &[u8], config: &WebUrl) -> Result<Text, NoRoom> {
     match read_config(alloc, raw, config) {
-        Ok(read) => copied_login(alloc, &read),
+        Ok(read) => copied_login(alloc, read),
         Err(_) => Text::of(alloc, ""),
     }
 }

@@ -2,7 +2,7 @@
 
 use crate::script::{GET, LOAD, taken};
 use fed_io::Fault;
-use fed_origin::{Context, LoginStatus, Mediation, Mode, Scheme};
+use fed_origin::{Context, LoginStatus, Mediation, Mode, Scheme, slot_of};
 use fed_script::{Event, Have, LineCause, Used, read_event};
 use std::alloc::Global;
 use std::test::Fail;
@@ -100,6 +100,55 @@ fn gets_that_name_nothing_else(rt: HostRuntime) {
         r#"{"do":"get", "page":7,"call":89,"providers":[{"config":"https://a.example/f","client":"c 1"}]}"#;
     assert!(rt; is_get_alone(rt.alloc(), plain));
     assert!(rt; is_get_alone(rt.alloc(), spaced));
+}
+
+// Whether an event is a get of one provider with this configuration URL.
+fn has_config(event: &Event, config: &str) -> bool {
+    match event {
+        Event::Get { options, .. } => match options.providers.as_slice() {
+            [provider] => provider.config.as_str() == config,
+            _ => false,
+        },
+        _ => false,
+    }
+}
+
+// Whether the next get names this configuration URL.
+fn names_next(alloc: Global, used: &mut Used, call: u32, config: &str) -> Result<bool, Fail> {
+    let line = format!(in alloc;
+        "{{\"do\":\"get\",\"page\":1,\"call\":{call},\"providers\":[{{\"config\":\"{config}\",\"client\":\"c\"}}]}}"
+    )?;
+    match read_event(alloc, line.as_bytes(), used) {
+        Ok(event) => Ok(has_config(&event, config)),
+        Err(_) => Ok(false),
+    }
+}
+
+// The first two have one place among the configuration URLs that are kept.
+#[test]
+fn configuration_urls_in_turn(rt: HostRuntime) -> Result<(), Fail> {
+    let (first, later) = ("https://p0.example/f.json", "https://p187.example/f.json");
+    assert!(rt; slot_of(first) == slot_of(later));
+    let mut used = Used::new(rt.alloc(), 0);
+    let _load = read_event(rt.alloc(), LOAD.as_bytes(), &mut used);
+    let other = "https://p1.example/f.json";
+    let gets = [
+        (1, first),
+        (2, other),
+        (3, first),
+        (4, later),
+        (5, first),
+        (6, later),
+        (7, later),
+        (8, other),
+    ];
+    for (call, config) in gets {
+        assert!(rt;
+            names_next(rt.alloc(), &mut used, call, config)?,
+            "at {call}"
+        );
+    }
+    Ok(())
 }
 
 #[test]

@@ -3,6 +3,7 @@ use crate::lines::{assert_so, assert_word, parts};
 use crate::values::{origin_of, triple};
 use fed_io::NoRoom;
 use fed_origin::Origin;
+use fed_provider::Rules;
 use fed_status::{KeptSet, LoginMap, LoginStatus, Shared, SilentFlags, Triple, read_set_login};
 use fed_suffix::Suffixes;
 use std::alloc::Global;
@@ -70,7 +71,7 @@ no-pair | https://b.example | https://b.example | u1";
 
 // All that is known, which is let go in one place.
 struct Known {
-    rules: Suffixes,
+    rules: Rules,
     login: LoginMap,
     kept: KeptSet,
     flags: SilentFlags,
@@ -90,7 +91,7 @@ impl Drop for Known {
 impl Known {
     fn new(alloc: Global) -> Known {
         Known {
-            rules: Suffixes::new(alloc),
+            rules: Rules::new(alloc, Suffixes::new(alloc)),
             login: LoginMap::new(alloc),
             kept: KeptSet::new(alloc),
             flags: SilentFlags::new(alloc),
@@ -300,11 +301,15 @@ fn knows_none(shared: &Shared, rules: &Suffixes) -> bool {
     shared.login.len() == 0
         && shared.kept.len() == 0
         && shared.flags.len() == 0
-        && shared.rules.same(rules)
+        && shared.rules.suffixes().same(rules)
 }
 
 #[test]
 fn shared_is_lent(rt: HostRuntime) {
     let known = Known::new(rt.alloc());
-    assert_so(&rt, knows_none(&known.lent(), &known.rules), "lent");
+    assert_so(
+        &rt,
+        knows_none(&known.lent(), known.rules.suffixes()),
+        "lent",
+    );
 }

@@ -9,8 +9,14 @@ use fed_origin::{Origin, ProviderOptions, WebUrl};
 use std::alloc::Global;
 use std::marker::Model;
 
-/// A request for a token (FedCM, "The identity assertion endpoint"). Only `Consent::spend` makes one. Contracts see its fields.
+/// A request for a token (FedCM, "The identity assertion endpoint"). Only `Consent::spend` makes one. Contracts see its fields. They have a
+/// place of their own, since what a call does is moved several times.
 pub struct AssertionAsk {
+    inner: Box<Fields>,
+}
+
+// The fields of a request for a token.
+pub struct Fields {
     to: WebUrl,
     origin: Origin,
     client: Text,
@@ -24,7 +30,13 @@ pub struct AssertionAsk {
 // Written out, so that one function lets it go wherever it ends.
 impl Drop for AssertionAsk {
     fn drop(self) {
-        let AssertionAsk {
+        let AssertionAsk { inner: _ } = self;
+    }
+}
+
+impl Drop for Fields {
+    fn drop(self) {
+        let Fields {
             to: _,
             origin: _,
             client: _,
@@ -37,7 +49,7 @@ impl Drop for AssertionAsk {
     }
 }
 
-impl Model for AssertionAsk {
+impl Model for Fields {
     ghost use Rattle.fed_consent.specs.Consent.{AssertionFields, is_auto};
 
     ghost Value = { AssertionFields };
@@ -55,6 +67,14 @@ impl Model for AssertionAsk {
     } };
 }
 
+impl Model for AssertionAsk {
+    ghost use Rattle.fed_consent.specs.Consent.{AssertionFields};
+
+    ghost Value = { AssertionFields };
+
+    ghost view = { λ a. a.inner.value };
+}
+
 impl AssertionAsk {
     // The request that a consent makes.
     pub(super) fn new(
@@ -66,7 +86,7 @@ impl AssertionAsk {
     ) -> Result<AssertionAsk, NoRoom>
         ensures { IfOk result (λ ask. ask ≡ assertion_fields consent.now to.now origin.now options.now) }
     {
-        Ok(AssertionAsk {
+        let fields = Fields {
             to: to.copy(alloc)?,
             origin: origin.copy(alloc)?,
             client: options.client.copy(alloc)?,
@@ -75,6 +95,9 @@ impl AssertionAsk {
             account: consent.account.id.copy(alloc)?,
             disclosure: consent.disclosure,
             manner: consent.manner,
+        };
+        Ok(AssertionAsk {
+            inner: Box::new(alloc, fields)?,
         })
     }
 
@@ -82,55 +105,55 @@ impl AssertionAsk {
     pub fn to(&self) -> &WebUrl
         ensures { result.now ≡ self.now.to }
     {
-        &self.to
+        &self.inner.to
     }
 
     /// The origin of the page. It takes no memory.
     pub fn origin(&self) -> &Origin
         ensures { result.now ≡ self.now.origin }
     {
-        &self.origin
+        &self.inner.origin
     }
 
     /// The client's id at the provider. It takes no memory.
     pub fn client(&self) -> &Text
         ensures { result.now ≡ self.now.client }
     {
-        &self.client
+        &self.inner.client
     }
 
     /// The number used once that the call gave, if it gave one. It takes no memory.
     pub fn nonce(&self) -> Option<&Text>
         ensures { option_copied result ≡ self.now.nonce }
     {
-        self.nonce.as_ref()
+        self.inner.nonce.as_ref()
     }
 
     /// What the call gave for the provider, if it gave something. It takes no memory.
     pub fn params(&self) -> Option<&Text>
         ensures { option_copied result ≡ self.now.params }
     {
-        self.params.as_ref()
+        self.inner.params.as_ref()
     }
 
     /// The account's id. It takes no memory.
     pub fn account(&self) -> &Text
         ensures { result.now ≡ self.now.account }
     {
-        &self.account
+        &self.inner.account
     }
 
     /// Whether the user was shown what the provider tells the page. It takes no memory.
     pub fn disclosure(&self) -> bool
         ensures { result ≡ self.now.disclosure }
     {
-        self.disclosure
+        self.inner.disclosure
     }
 
     /// Whether the account was chosen without the user. It takes no memory.
     pub fn auto(&self) -> bool
         ensures { result ≡ self.now.auto }
     {
-        self.manner == Manner::Reselected
+        self.inner.manner == Manner::Reselected
     }
 }

@@ -1,5 +1,5 @@
 -- What an outcome of a call writes and sets.
-use Rattle.std.proofs.Common.{true, ◌≡◌, ℕ, List, [], ◌∷◌, ◌++◌, Some, None, refl, sym, ap, ◌∙◌, append-nil}
+use Rattle.std.proofs.Common.{true, ◌≡◌, ℕ, List, [], ◌∷◌, ◌++◌, Some, None, refl, ap, ◌∙◌, append-nil}
 use Rattle.std.proofs.lemmas.List.Elements.{filter_map-append}
 use Rattle.std.specs.Prelude.{Option, option_map}
 use Rattle.std.specs.List.{filter_map, flat_map, cons_option}
@@ -22,7 +22,7 @@ use Rattle.fed_trace.specs.Effect.{Effect, Sent, Shown, Window, Result, Ignored,
 use Rattle.fed_trace.specs.Keyed.{entries_after}
 use Rattle.fed_trace.specs.Records.{record_of, records_of}
 use Rattle.fed_trace.specs.Row.{call_effects, moves, outcome_effects}
-use Rattle.fed_session.specs.StepParts.{call_record, call_records, login_after, awaited_in, outcome_at, kept_next}
+use Rattle.fed_session.specs.StepParts.{call_records, login_after, awaited_in, outcome_at, kept_next}
 use Rattle.fed_trace.specs.declared.out.Out.{Out}
 use Rattle.fed_trace.proofs.keyed.Keyed.{entries_after-append}
 use Rattle.fed_trace.proofs.effects.Silent.{goes_silent, goes_changes_none}
@@ -58,13 +58,6 @@ does_record line world cookies kind call page effects = all effects
         goes_silent (record_of line) (λ t. refl) (triples_of_pair world.kept p q)
         (flat_map (call_effects world cookies kind call page) effects) ∙ all effects
     all (does.ClearFlag origin ∷ effects) = all effects
-
--- what has no record is not written
-pub unwritten : (line : ℕ) (cookies : Ask → List ℕ) (call page : ℕ) (effect other : CallEffect) → effect ≡ other
-    → call_record line cookies call page other ≡ None
-    → [] ≡ cons_option (call_record line cookies call page effect) []
-unwritten line cookies call page effect other is none =
-    sym (ap (λ e. cons_option (call_record line cookies call page e) []) is ∙ ap (λ o. cons_option o []) none)
 
 -- a move is no record
 pub outcome_records : (line : ℕ) (world : World) (cookies : Ask → List ℕ) (kind : CallKind) (call page : ℕ) (outcome : Outcome)

@@ -6,7 +6,9 @@ use Rattle.fed_trace.specs.Call.{page_of}
 use Rattle.fed_session.specs.Session.{item_known}
 use Rattle.fed_session.specs.StepParts.{cookies_of, call_records, known_of, kept_next, world_in, sight_after, outcome_at, CanApplyAll}
 use Rattle.fed_session.specs.StepParts.{awaited_in}
-use Rattle.fed_session.specs.Tabs.{GoesOn}
+use Rattle.fed_session.specs.Tabs.{GoesOn, Takes}
+use Rattle.fed_trace.specs.Records.{records_of}
+use Rattle.fed_trace.specs.Row.{input_effects}
 use Rattle.fed_session.proofs.events.Input.{brought_records, brought_takes, brought_applies, waits_lent}
 use Rattle.fed_session.proofs.input.take_input.Goals as goal
 
@@ -22,37 +24,43 @@ give_back-requires-clause-waits g c =
 
 pub returns-clause-outs : goal.returns-clause-outs
 returns-clause-outs g c =
+    let same : c.learn.new.sight ≡ c.args.sight.now = c.in_ok-learn.ensures in
     let known = known_of c.in-Some-into_state.state in
     let found : known ≡ item_known c.args.tabs.now.table.items c.args.call = c.in-Some-into_state.ensures ∙ c.in-Some.ensures.known in
-    c.in_ok-outs.ensures.outs ∙ ap (call_records c.args.line (cookies_of c.args.sight.now) c.args.call c.in-Some-page.page)
+    subst (λ s. c.in_ok-outs.outs ≡ records_of c.args.line (input_effects (world_in s) (cookies_of s) (list_any (nat_eq c.args.call) c.args.tabs.now.taken) c.args.call (item_known c.args.tabs.now.table.items c.args.call) c.args.input.now)) same (
+    c.in_ok-outs.ensures.outs ∙ ap (call_records c.args.line (cookies_of c.learn.new.sight) c.args.call c.in-Some-page.page)
     c.in_ok-kept.ensures.effects
-    ∙ ap (λ w. call_records c.args.line (cookies_of c.args.sight.now) c.args.call c.in-Some-page.page
+    ∙ ap (λ w. call_records c.args.line (cookies_of c.learn.new.sight) c.args.call c.in-Some-page.page
     (outcome_at w true known c.args.input.now).effects) c.lent.ensures
-    ∙ ap (λ k. call_records c.args.line (cookies_of c.args.sight.now) c.args.call c.in-Some-page.page
-    (outcome_at (world_in c.args.sight.now) true k c.args.input.now).effects) found
-    ∙ brought_records c.args.line (world_in c.args.sight.now) (cookies_of c.args.sight.now) c.args.call c.in-Some-page.page
+    ∙ ap (λ k. call_records c.args.line (cookies_of c.learn.new.sight) c.args.call c.in-Some-page.page
+    (outcome_at (world_in c.learn.new.sight) true k c.args.input.now).effects) found
+    ∙ brought_records c.args.line (world_in c.learn.new.sight) (cookies_of c.learn.new.sight) c.args.call c.in-Some-page.page
     c.args.input.now (list_any (nat_eq c.args.call) c.args.tabs.now.taken) (item_known c.args.tabs.now.table.items c.args.call)
-    c.in-Some.ensures.begun (c.in-Some-page.ensures ∙ ap (option_map page_of) found)
+    c.in-Some.ensures.begun (c.in-Some-page.ensures ∙ ap (option_map page_of) found))
 
 pub returns-clause-sight : goal.returns-clause-sight
 returns-clause-sight g c =
+    let same : c.learn.new.sight ≡ c.args.sight.now = c.in_ok-learn.ensures in
     let known = known_of c.in-Some-into_state.state in
     let found : known ≡ item_known c.args.tabs.now.table.items c.args.call = c.in-Some-into_state.ensures ∙ c.in-Some.ensures.known in
-    c.in_ok-outs.ensures.sight ∙ ap (λ effects. sight_after effects c.args.sight.now) c.in_ok-kept.ensures.effects
-    ∙ ap (λ w. sight_after (outcome_at w true known c.args.input.now).effects c.args.sight.now) c.lent.ensures
-    ∙ ap (λ k. sight_after (outcome_at (world_in c.args.sight.now) true k c.args.input.now).effects c.args.sight.now) found
-    ∙ ap (λ b. sight_after (outcome_at (world_in c.args.sight.now) b (item_known c.args.tabs.now.table.items c.args.call)
-    c.args.input.now).effects c.args.sight.now) (sym c.in-Some.ensures.begun)
+    subst (λ s. c.apply.new.sight ≡ sight_after (outcome_at (world_in s) (list_any (nat_eq c.args.call) c.args.tabs.now.taken) (item_known c.args.tabs.now.table.items c.args.call) c.args.input.now).effects s) same (
+    c.in_ok-outs.ensures.sight ∙ ap (λ effects. sight_after effects c.learn.new.sight) c.in_ok-kept.ensures.effects
+    ∙ ap (λ w. sight_after (outcome_at w true known c.args.input.now).effects c.learn.new.sight) c.lent.ensures
+    ∙ ap (λ k. sight_after (outcome_at (world_in c.learn.new.sight) true k c.args.input.now).effects c.learn.new.sight) found
+    ∙ ap (λ b. sight_after (outcome_at (world_in c.learn.new.sight) b (item_known c.args.tabs.now.table.items c.args.call)
+    c.args.input.now).effects c.learn.new.sight) (sym c.in-Some.ensures.begun))
 
 pub returns-clause-tabs : goal.returns-clause-tabs
 returns-clause-tabs g c =
+    let same : c.learn.new.sight ≡ c.args.sight.now = c.in_ok-learn.ensures in
     let known = known_of c.in-Some-into_state.state in
     let found : known ≡ item_known c.args.tabs.now.table.items c.args.call = c.in-Some-into_state.ensures ∙ c.in-Some.ensures.known in
-    let next : c.in_ok-kept.kept ≡ kept_next (world_in c.args.sight.now) (item_known c.args.tabs.now.table.items c.args.call)
+    let next : c.in_ok-kept.kept ≡ kept_next (world_in c.learn.new.sight) (item_known c.args.tabs.now.table.items c.args.call)
     c.args.input.now = c.in_ok-kept.ensures.kept ∙ ap (λ w. kept_next w known c.args.input.now) c.lent.ensures
-    ∙ ap (λ k. kept_next (world_in c.args.sight.now) k c.args.input.now) found in
+    ∙ ap (λ k. kept_next (world_in c.learn.new.sight) k c.args.input.now) found in
+    subst (λ s. Takes c.args.call (item_known c.args.tabs.now.table.items c.args.call) (kept_next (world_in s) (item_known c.args.tabs.now.table.items c.args.call) c.args.input.now) c.args.tabs.now c.give_back.new.self) same (
     brought_takes c.args.call c.in-Some-page.page c.waits-waited.result (item_known c.args.tabs.now.table.items c.args.call) _
     c.args.tabs.now c.lend.new.self c.give_back.new.self (c.in-Some-page.ensures ∙ ap (option_map page_of) found)
     (c.waits-waited.ensures ∙ ap (λ k. is_some (awaited_in k)) found) c.lend.ensures.tabs
     (subst (λ kept. GoesOn c.in-Some-page.page c.args.call c.waits-waited.result kept c.lend.new.self c.give_back.new.self) next
-    c.in_ok-give_back.ensures.ok)
+    c.in_ok-give_back.ensures.ok))

@@ -7,7 +7,7 @@ use Rattle.fed_disconnect.proofs.reading.DReading.hears.Goals as goal
 
 pub returns-clause-state : goal.returns-clause-state
 returns-clause-state c =
-    let heard = c.in_ok-heard.ensures ∙ ap (λ begun. reply_heard (world_of c.args.shared.now).rules c.args.self.replies
-    begun.options.config c.args.kind c.args.raw.now) c.begun.view_is in
+    let heard = c.in_ok-heard.ensures ∙ ap (λ config. reply_heard (world_of c.args.shared.now).rules c.args.self.replies
+    config c.args.kind c.args.raw.now) c.config.ensures.value in
     IfOk-weaker c.goes_on.result _ _ (λ r says. says ∙ reading_hears (world_of c.args.shared.now) c.args.self.begun c.args.self.replies
     c.args.kind c.args.raw.now c.in_ok-heard.heard heard) c.goes_on.ensures.state

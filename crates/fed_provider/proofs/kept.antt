@@ -1,0 +1,2 @@
+-- Lists whose elements all are so stay such lists.
+pub mod Sites
