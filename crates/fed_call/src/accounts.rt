@@ -5,7 +5,7 @@ ghost use Rattle.fed_call.specs.Accounts as spec;
 
 use crate::begun::Call;
 use fed_accounts::{Account, Accounts, AccountsStep, connected, read_hinted};
-use fed_io::{Fault, Items, NoRoom, Text};
+use fed_io::{Fault, Items, NoRoom, Text, lent_text};
 use fed_origin::{Origin, ProviderOptions};
 use fed_status::KeptSet;
 use std::alloc::Global;
@@ -19,8 +19,8 @@ pub fn hinted_accounts(
 ) -> Result<Result<Accounts, AccountsStep>, NoRoom>
     ensures { IfOk result (λ read. read ≡ spec.accounts_of raw.now provider.now) }
 {
-    let login = provider.login_hint.as_ref();
-    let domain = provider.domain_hint.as_ref();
+    let login = lent_text(&provider.login_hint);
+    let domain = lent_text(&provider.domain_hint);
     match read_hinted(alloc, raw, login, domain) {
         Ok(accounts) => Ok(Ok(accounts)),
         Err(Fault::Step(step)) => Ok(Err(step)),

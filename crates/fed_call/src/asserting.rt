@@ -13,11 +13,10 @@ ghost use Rattle.fed_status.specs.Kept.{triple_of};
 
 use crate::begun::Call;
 use crate::effects::finishes;
-use crate::placed::PlacedAccount;
 use crate::{CallState, Ended};
 use fed_accounts::Account;
 use fed_consent::{Ask, Consent, Detail, Effect, FailStep, Failure, Finish, Input, Why};
-use fed_io::{Fault, Items, NoRoom, Text};
+use fed_io::{Fault, Items, NoRoom, Placed, Text};
 use fed_origin::{ReplyKind, Stage, Triple};
 use fed_provider::SharedConfig;
 use fed_status::Shared;
@@ -29,7 +28,7 @@ pub struct Asserting {
     pub(crate) begun: Call,
     pub(crate) config: SharedConfig,
     /// The account that the token is for.
-    pub(crate) account: PlacedAccount,
+    pub(crate) account: Placed<Account>,
     pub(crate) connected: bool,
     /// Whether it was settled on without the user.
     pub(crate) auto: bool,
@@ -149,8 +148,9 @@ impl Asserting {
     {
         let begun = &self.begun;
         let auto = self.auto;
-        let account = self.account.as_account();
-        let mut effects = Effect::Keep(permission(alloc, begun, account)?).alone(alloc)?;
+        let account = self.account.get();
+        let kept = Placed::new(alloc, permission(alloc, begun, account)?)?;
+        let mut effects = Effect::Keep(kept).alone(alloc)?;
         if !auto {
             effects.push(Effect::ClearFlag(begun.origin().copy(alloc)?))?;
         }
@@ -235,7 +235,7 @@ pub fn asserts(
     let state = Asserting {
         begun,
         config,
-        account: PlacedAccount::new(alloc, account)?,
+        account: Placed::new(alloc, account)?,
         connected,
         auto: false,
     };

@@ -14,10 +14,9 @@ use crate::asserting::asserts;
 use crate::begun::Call;
 use crate::dialogs::prompt_effect;
 use crate::effects::fails;
-use crate::placed::{PlacedChooser, PlacedPrompt};
 use crate::{CallState, Prompting};
-use fed_consent::{Effect, FailStep, Failure, Input, Picked, Prompt, Why};
-use fed_io::{Items, NoRoom, Text};
+use fed_consent::{Chooser, Effect, FailStep, Failure, Input, Picked, Prompt, Why};
+use fed_io::{Items, NoRoom, Placed, Text};
 use fed_origin::Stage;
 use fed_provider::SharedConfig;
 use fed_status::Shared;
@@ -27,7 +26,7 @@ use std::alloc::Global;
 pub struct Choosing {
     pub(crate) begun: Call,
     pub(crate) config: SharedConfig,
-    pub(crate) chooser: PlacedChooser,
+    pub(crate) chooser: Placed<Chooser>,
 }
 
 impl Drop for Choosing {
@@ -110,7 +109,7 @@ impl Choosing {
                 let state = Choosing {
                     begun,
                     config,
-                    chooser: PlacedChooser::new(alloc, chooser)?,
+                    chooser: Placed::new(alloc, chooser)?,
                 };
                 CallState::Choosing(state).ignores(alloc, Why::NoAccount)
             }
@@ -162,7 +161,7 @@ fn asks_about(
     let state = Prompting {
         begun,
         config,
-        prompt: PlacedPrompt::new(alloc, prompt)?,
+        prompt: Placed::new(alloc, prompt)?,
     };
     Ok((CallState::Prompting(state), effects))
 }

@@ -10,7 +10,7 @@ ghost use Rattle.fed_call.specs.State.{begun_facts};
 use crate::begun::Call;
 use fed_accounts::Account;
 use fed_consent::{Ask, Chooser, Dialog, Effect, Prompt, Shown};
-use fed_io::{Items, NoRoom, Text, copy_text};
+use fed_io::{Items, NoRoom, Placed, Text, copy_text};
 use fed_origin::{Host, WebUrl};
 use fed_provider::PolicyLinks;
 use fed_status::Shared;
@@ -165,7 +165,7 @@ fn metadata_request(alloc: Global, begun: &Call, place: u32, to: &WebUrl) -> Res
     let ask = Ask::Metadata {
         to: to.copy(alloc)?,
         client: begun.provider().client.copy(alloc)?,
-        origin: begun.origin().copy(alloc)?,
+        origin: Placed::new(alloc, begun.origin().copy(alloc)?)?,
     };
     Ok(Effect::Send(place, ask))
 }

@@ -9,7 +9,6 @@ mod dialogs;
 mod effects;
 mod listing;
 mod mismatch;
-mod placed;
 mod prompting;
 mod reading;
 mod start;

@@ -17,14 +17,13 @@ use crate::accounts::{connections, hinted_accounts, kept_each};
 use crate::asserting::assertion_request;
 use crate::begun::Call;
 use crate::dialogs::{choice_dialog, prompt_effect, site};
-use crate::placed::{PlacedAccount, PlacedChooser, PlacedPrompt};
 use crate::window::{may_sign_in, window_effect};
 use crate::{Asserting, CallState, Choosing, Ended, Mismatch, Prompting, Window};
 use fed_accounts::{Accounts, reselect};
 use fed_consent::{
     Chooser, Dialog, Effect, FailStep, Failure, Finish, Input, Prompt, Reselection, Why,
 };
-use fed_io::{Items, NoRoom};
+use fed_io::{Items, NoRoom, Placed};
 use fed_origin::{LoginStatus, Mediation, Mode, ReplyKind, Stage};
 use fed_provider::SharedConfig;
 use fed_status::Shared;
@@ -247,7 +246,7 @@ impl Listing {
         let state = Asserting {
             begun,
             config,
-            account: PlacedAccount::new(alloc, account)?,
+            account: Placed::new(alloc, account)?,
             connected: true,
             auto: true,
         };
@@ -325,7 +324,7 @@ impl Listing {
         let state = Prompting {
             begun,
             config,
-            prompt: PlacedPrompt::new(alloc, prompt)?,
+            prompt: Placed::new(alloc, prompt)?,
         };
         Ok((CallState::Prompting(state), effects))
     }
@@ -354,7 +353,7 @@ impl Listing {
         let state = Choosing {
             begun,
             config,
-            chooser: PlacedChooser::new(alloc, chooser)?,
+            chooser: Placed::new(alloc, chooser)?,
         };
         Ok((CallState::Choosing(state), effects))
     }

@@ -15,9 +15,8 @@ use crate::asserting::asserts;
 use crate::begun::Call;
 use crate::dialogs::prompt_dialog;
 use crate::effects::fails;
-use crate::placed::PlacedPrompt;
-use fed_consent::{Effect, FailStep, Failure, Input, ONLY_PLACE, Why};
-use fed_io::{Items, NoRoom};
+use fed_consent::{Effect, FailStep, Failure, Input, ONLY_PLACE, Prompt, Why};
+use fed_io::{Items, NoRoom, Placed};
 use fed_origin::{ReplyKind, Stage};
 use fed_provider::{SharedConfig, read_metadata};
 use fed_status::Shared;
@@ -27,7 +26,7 @@ use std::alloc::Global;
 pub struct Prompting {
     pub(crate) begun: Call,
     pub(crate) config: SharedConfig,
-    pub(crate) prompt: PlacedPrompt,
+    pub(crate) prompt: Placed<Prompt>,
 }
 
 impl Drop for Prompting {
@@ -103,7 +102,7 @@ impl Prompting {
         ensures state { IfOk result (λ r. facts_of r.0
             ≡ input_facts (world_of shared.now) (prompting_facts self) (inputs.Reply place ReplyKind.Metadata raw.now)) }
     {
-        match (self.prompt.as_prompt().waits(), self.begun.has(place)) {
+        match (self.prompt.get().waits(), self.begun.has(place)) {
             (true, true) => self.shows_links(alloc, shared, place, raw),
             (true, false) => CallState::Prompting(self).ignores(alloc, Why::NotWaited),
             (false, _) => CallState::Prompting(self).ignores(alloc, Why::NotWaited),
@@ -132,7 +131,7 @@ impl Prompting {
         let state = Prompting {
             begun,
             config,
-            prompt: PlacedPrompt::new(alloc, prompt.open().ready())?,
+            prompt: Placed::new(alloc, prompt.open().ready())?,
         };
         Ok((CallState::Prompting(state), effects))
     }
@@ -143,8 +142,8 @@ impl Prompting {
         ensures state { IfOk result (λ r. facts_of r.0
             ≡ at_stage (unwrap_or (spec.went_on (prompting_facts self) Stage.Prompting).stage Stage.Prompting) (prompting_facts self)) }
     {
-        let account = self.prompt.as_prompt().account().copy(alloc)?;
-        let connected = self.prompt.as_prompt().connected();
+        let account = self.prompt.get().account().copy(alloc)?;
+        let connected = self.prompt.get().connected();
         let Prompting {
             begun,
             config,
@@ -158,7 +157,7 @@ impl Prompting {
                 let state = Prompting {
                     begun,
                     config,
-                    prompt: PlacedPrompt::new(alloc, prompt)?,
+                    prompt: Placed::new(alloc, prompt)?,
                 };
                 CallState::Prompting(state).ignores(alloc, Why::NotOffered)
             }
@@ -179,6 +178,6 @@ fn links_shown(
 {
     let links = read_metadata(alloc, raw)?;
     let Prompting { begun, prompt, .. } = prompting;
-    let dialog = prompt_dialog(alloc, shared, begun, place, prompt.as_prompt(), &links)?;
+    let dialog = prompt_dialog(alloc, shared, begun, place, prompt.get(), &links)?;
     dialog.alone(alloc)
 }

@@ -6,6 +6,5 @@ mod table;
 
 pub use consent::{AssertionAsk, Chooser, Consent, Manner, Picked, Prompt, Reselection};
 pub use table::{
-    Ask, Detail, Dialog, Effect, FailStep, Failure, Finish, Input, ONLY_PLACE, PlacedDialog, Shown,
-    Why,
+    Ask, Detail, Dialog, Effect, FailStep, Failure, Finish, Input, ONLY_PLACE, Shown, Why,
 };

@@ -9,7 +9,7 @@ mod input;
 mod why;
 
 pub use ask::Ask;
-pub use dialog::{Dialog, PlacedDialog, Shown};
+pub use dialog::{Dialog, Shown};
 pub use effect::{Effect, ONLY_PLACE};
 pub use failure::{Detail, FailStep, Failure};
 pub use finish::Finish;

@@ -71,45 +71,28 @@ impl<'a> Attributes<'a> {
         let mut found = Attributes::none();
         let mut rest = parts;
         while let Some((part, after)) = cut(b';', rest) {
-            found = found.with(part);
+            found.add(part);
             rest = after;
         }
-        found.with(rest)
+        found.add(rest);
+        found
     }
 
-    // One more attribute, which counts over an earlier one of its kind.
+    // One more attribute, which counts over an earlier one of its kind. What was said before stays
+    // in its place, so that no attribute costs a copy of all of it.
     #[tactic(auto, unfolding(crate::specs::Fields::attributes_of))]
-    fn with(self, part: &'a [u8]) -> Attributes<'a>
-        ensures { result ≡ spec.attributes_of self.entry (part.now ∷ []) }
+    fn add(&mut self, part: &'a [u8])
+        ensures { self.new ≡ spec.attributes_of self.old (part.now ∷ []) }
     {
         let (name, value) = attribute(part);
-        let kind = kind_of(name);
-        match kind {
-            AttributeKind::Expires => Attributes {
-                expires: cookie_date(value).or(self.expires),
-                ..self
-            },
-            AttributeKind::MaxAge => Attributes {
-                max_age: max_age_of(value).or(self.max_age),
-                ..self
-            },
-            AttributeKind::Domain => Attributes {
-                domain: domain_of(value).or(self.domain),
-                ..self
-            },
-            AttributeKind::Path => Attributes {
-                path: path_of(value),
-                ..self
-            },
-            AttributeKind::Secure => Attributes {
-                secure: true,
-                ..self
-            },
-            AttributeKind::SameSite => Attributes {
-                same_site: same_site_of(value),
-                ..self
-            },
-            AttributeKind::Other => self,
+        match kind_of(name) {
+            AttributeKind::Expires => self.expires = cookie_date(value).or(self.expires),
+            AttributeKind::MaxAge => self.max_age = max_age_of(value).or(self.max_age),
+            AttributeKind::Domain => self.domain = domain_of(value).or(self.domain),
+            AttributeKind::Path => self.path = path_of(value),
+            AttributeKind::Secure => self.secure = true,
+            AttributeKind::SameSite => self.same_site = same_site_of(value),
+            AttributeKind::Other => {}
         }
     }
 }

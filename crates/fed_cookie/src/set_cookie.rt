@@ -28,9 +28,18 @@ pub fn read_set_cookie(alloc: Global, field: &[u8]) -> Result<Option<RawCookie>,
 fn is_refused(field: &[u8]) -> bool
     ensures { result ≡ list_any spec.is_refused field.now }
 {
-    field
-        .iter()
-        .any(|b| (*b < 0x20 && *b != b'\t') || *b == 0x7f)
+    // All bytes are looked at, since a loop that ends early looks at one byte at a time.
+    let mut found = false;
+    for b in field {
+        found |= is_control(*b);
+    }
+    found
+}
+
+fn is_control(b: u8) -> bool
+    ensures { result ≡ spec.is_refused b }
+{
+    ((b < 0x20) & (b != b'\t')) | (b == 0x7f)
 }
 
 fn cookie_of(alloc: Global, pair: &[u8], said: Attributes) -> Result<Option<RawCookie>, NoRoom>

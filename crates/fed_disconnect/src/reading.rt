@@ -11,7 +11,7 @@ use crate::begun::Begun;
 use crate::effects::{fails, not_taken};
 use crate::{DSending, DState};
 use fed_consent::{Ask, Effect, FailStep, Failure, Input, ONLY_PLACE, Why};
-use fed_io::{Items, NoRoom};
+use fed_io::{Items, NoRoom, Placed};
 use fed_origin::{ReplyKind, Stage, WebUrl};
 use fed_provider::{FirstReplies, Heard, SharedConfig};
 use fed_status::Shared;
@@ -160,8 +160,8 @@ impl Begun {
         let ask = Ask::Disconnect {
             to: to.copy(alloc)?,
             client: self.place.client.copy(alloc)?,
-            hint: self.place.hint.copy(alloc)?,
-            origin: self.place.origin.copy(alloc)?,
+            hint: Placed::new(alloc, self.place.hint.copy(alloc)?)?,
+            origin: Placed::new(alloc, self.place.origin.copy(alloc)?)?,
         };
         Effect::Send(ONLY_PLACE, ask).alone(alloc)
     }

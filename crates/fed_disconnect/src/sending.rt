@@ -14,7 +14,7 @@ use crate::begun::Begun;
 use crate::effects::not_taken;
 use crate::{DEnded, DState};
 use fed_consent::{Detail, Effect, FailStep, Failure, Finish, Input, ONLY_PLACE, Why};
-use fed_io::{Fault, Items, NoRoom, Text};
+use fed_io::{Fault, Items, NoRoom, Placed, Text};
 use fed_origin::{ReplyKind, Stage, Triple};
 use fed_provider::SharedConfig;
 use fed_status::{KeptSet, Shared};
@@ -166,11 +166,12 @@ impl Begun {
         if kept.has(&self.place.origin, &self.place.provider, &account) {
             let page = self.place.origin.copy(alloc)?;
             let provider = self.place.provider.copy(alloc)?;
-            return Ok(Effect::Forget(Triple {
+            let triple = Triple {
                 page,
                 provider,
                 account,
-            }));
+            };
+            return Ok(Effect::Forget(Placed::new(alloc, triple)?));
         }
         self.all_forgotten(alloc)
     }
@@ -179,8 +180,8 @@ impl Begun {
     fn all_forgotten(&self, alloc: Global) -> Result<Effect, NoRoom>
         ensures { IfOk result (λ effect. effect ≡ Effect.ForgetPair self.now.origin (provider_origin self.now.options)) }
     {
-        let page = self.place.origin.copy(alloc)?;
-        let provider = self.place.provider.copy(alloc)?;
+        let page = Placed::new(alloc, self.place.origin.copy(alloc)?)?;
+        let provider = Placed::new(alloc, self.place.provider.copy(alloc)?)?;
         Ok(Effect::ForgetPair(page, provider))
     }
 }

@@ -1,5 +1,5 @@
 //! Entries in order of entering.
-ghost use Rattle.std.specs.Prelude.{◌≡◌, ◌<◌, ◌++◌, ◌∷◌, [], ℕ, Some, None, nat_eq, is_some, length, slice_get};
+ghost use Rattle.std.specs.Prelude.{◌≡◌, ◌<◌, ◌++◌, ◌∷◌, [], ℕ, false, Some, None, nat_eq, is_some, length, slice_get};
 ghost use Rattle.std.specs.Prelude.{option_copied, option_map, option_and_then, OnOk, OnErr};
 ghost use Rattle.std.specs.List.{IsDistinct};
 ghost use Rattle.std.specs.Map.{keys_of, values_of, lookup};
@@ -87,6 +87,16 @@ impl<K: Copy + Eq + Hash + Drop, V: Drop> Entries<K, V> {
             write(&mut self.slots, *number, value);
             return Ok(());
         }
+        self.insert_new(key, value)
+    }
+
+    /// Puts a value under a key that has none, and it enters last: the key need not be looked up. On want of memory the entries
+    /// are unchanged.
+    pub fn insert_new(&mut self, key: K, value: V) -> Result<(), NoRoom>
+        requires { is_some (lookup (K.eq key) self.old) ≡ false }
+        ensures ok { OnOk result (self.new ≡ insert_entry K.eq self.old key value) }
+        ensures err { OnErr result (self.new ≡ self.old) }
+    {
         let number = self.next;
         let Some(next) = number.checked_add(1) else {
             return Err(NoRoom);

@@ -1,8 +1,8 @@
 ghost use Rattle.std.specs.Prelude.{◌≡◌, ◌<◌};
 
 use crate::{
-    Bytes, Failed, Items, MemSink, MemSource, QuietSink, QuietSource, Sink, Source, StdSink,
-    StdSource, Steps, Text, put_all,
+    Bytes, Failed, Items, MemSink, MemSource, Placed, QuietSink, QuietSource, Sink, Source,
+    StdSink, StdSource, Steps, Text, copy_placed, lent_text, placed_text, put_all,
 };
 use std::io::{self, Cursor, Read, Write};
 use std::marker::Brand;
@@ -25,6 +25,13 @@ fn texts_bytes_and_items_are_copied(rt: HostRuntime) -> Result<(), Fail> {
     assert_eq!(rt; items.len(), 2);
     assert_eq!(rt; items.as_slice(), [7, 8].as_slice());
     assert_eq!(rt; Items::from_vec(items.into_vec()).len(), 2);
+    let placed = Placed::new(alloc, 9)?;
+    assert_eq!(rt; *placed.get(), 9);
+    assert_eq!(rt; placed.open(), 9);
+    let placed = placed_text(alloc, Some("t"))?;
+    let copy = copy_placed(alloc, &placed)?;
+    assert_eq!(rt; lent_text(&copy).map(Text::as_str), Some("t"));
+    assert!(rt; placed_text(alloc, None)?.is_none());
     Ok(())
 }
 

@@ -15,8 +15,8 @@ use std::cmp::Ordering;
 use std::hash::{Hash, Hasher};
 use std::marker::Model;
 
-// The bytes of a text that stands in the value itself: names of hosts, ids and hints are mostly no longer, and each piece of memory
-// takes some 180 instructions.
+// The bytes of a text that stands in the value itself, as short names of hosts, ids and hints do: each piece of memory takes some 180
+// instructions.
 const SHORT: usize = 24;
 
 // The text as one that stands in the value, where it is short. A longer one is told by its length, before there is an array for it.

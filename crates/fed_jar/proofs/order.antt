@@ -1,2 +1,3 @@
 -- Lists in order by a number.
 pub mod Order
+pub mod Longest

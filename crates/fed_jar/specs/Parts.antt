@@ -1,9 +1,12 @@
 -- For private clauses: the lists of cookies by parties, and the jar that they make.
-use Rattle.std.specs.Prelude.{ℕ, ◌<◌, Bool, ⊤, List, [], ◌∷◌, ◌++◌, map, bytes_eq, nat_le, if◌then◌else◌}
+use Rattle.std.specs.Prelude.{ℕ, ◌<◌, ◌≡◌, Bool, false, ⊤, List, [], ◌∷◌, ◌++◌, map, bytes_eq, nat_le, if◌then◌else◌}
+use Rattle.std.specs.Prelude.{Option, None, Some, is_some, option_map, slice_get}
 use Rattle.std.specs.List.{AllByRecursion, IsDistinct}
 use Rattle.std.specs.Map.{keys_of, lookup}
 use Rattle.std.specs.Option.{option_map_or}
 use Rattle.indexmap.specs.IndexSet.{IndexSet}
+use Rattle.fed_suffix.specs.Rule.{RuleSet}
+use Rattle.fed_suffix.specs.Registrable.{party}
 use Rattle.fed_jar.specs.declared.numbered.Numbered.{Numbered}
 use Rattle.fed_jar.specs.declared.numbered.Lent.{Lent}
 use Rattle.fed_jar.specs.Cookie.{StoredCookie, KeptCookie, JarParts, AreDistinct, same_key, cookies_of}
@@ -91,3 +94,12 @@ pub record AreLists (lists : Lists) (entered : ℕ) : Type 0 where
   pub below : AllByRecursion (λ k. k.number < entered) (all_kept lists)
   -- no two cookies have the same name, domain and path
   pub apart : AreDistinct (cookies_of (kept_of lists))
+
+-- the place of the party among the lists, or none where it has no list
+abbrev pub IsPlace : List ℕ → Option ℕ → Lists → Type 0
+IsPlace name None lists = is_some (lookup (bytes_eq name) lists) ≡ false
+IsPlace name (Some at) lists = option_map (λ (l : List ℕ × List Numbered). l.0) (slice_get lists at) ≡ Some name
+
+-- each cookie stands in the list of its party
+abbrev pub AreOwn : RuleSet → Lists → Type 0
+AreOwn rules lists = AllByRecursion (λ l. AllByRecursion (λ (n : Numbered). l.0 ≡ party rules n.cookie.domain) l.1) lists

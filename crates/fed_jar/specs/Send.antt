@@ -1,6 +1,6 @@
 -- Which cookies a request sends, and in which order (RFC 6265, 5.4).
-use Rattle.std.specs.Prelude.{ℕ, Bool, true, ◌&&◌, List, [], ◌∷◌, ◌++◌, length, codes, filter, nat_lt, nat_le, bytes_eq, Option, None, Some, ◌≡◌, IfSome}
-use Rattle.std.specs.Prelude.{if◌then◌else◌}
+use Rattle.std.specs.Prelude.{ℕ, Bool, true, ◌&&◌, List, [], ◌∷◌, ◌++◌, length, codes, filter, max, nat_lt, nat_le, bytes_eq}
+use Rattle.std.specs.Prelude.{◌≡◌, Option, None, Some, IfSome, if◌then◌else◌}
 use Rattle.std.specs.List.{flat_map}
 use Rattle.std.specs.Borrow.{Bor}
 use Rattle.url.specs.Parts.{Parts}
@@ -68,3 +68,8 @@ jar_text rules url now cookies = pairs_text (cookies_sent rules url now cookies)
 -- the domain that was looked at last has its answer
 abbrev pub IsKnown : RuleSet → List ℕ → Option (Bor (List ℕ) × Bool) → Type 0
 IsKnown rules host last = IfSome last (λ l. l.1 ≡ is_within rules host l.0.now)
+
+-- the length of the longest path
+abbrev pub longest_path : List StoredCookie → ℕ
+longest_path [] = 0
+longest_path (cookie ∷ cookies) = max (path_length cookie) (longest_path cookies)

@@ -1,21 +1,28 @@
 //! The jar.
 ghost use Rattle.std.specs.Prelude.{◌≡◌, ◌≢◌, ◌<◌, ◌+◌, ◌-◌, ◌^◌, ℕ, List, [], OnOk, OnErr, IfOk, Some, is_some, filter, map};
-ghost use Rattle.std.specs.Prelude.{if◌then◌else◌};
+ghost use Rattle.std.specs.Prelude.{bytes_eq, not, if◌then◌else◌};
+ghost use Rattle.std.specs.List.{IsDistinct, list_any};
+ghost use Rattle.std.specs.Map.{keys_of};
 ghost use Rattle.fed_origin.specs.WebUrl.{host_of};
-ghost use Rattle.fed_suffix.specs.Registrable.{party};
+ghost use Rattle.std.specs.Option.{option_copied};
+ghost use Rattle.fed_suffix.specs.Registrable.{party, registrable};
 ghost use Rattle.fed_cookie.specs.SetCookie.{HasNoLineEnd};
 ghost use Rattle.fed_jar.specs.Cookie.{AreDistinct, cookies_in, cookies_of, has_key, jar_after, kept_under, written};
+ghost use Rattle.fed_jar.specs.Parts.{AreOwn, IsPlace, list_under, put_under, same_numbered};
 ghost use Rattle.fed_jar.specs.Parts.{all_numbered, lent_cookies, lent_numbered, lists_of, numbered_cookies, numbered_of, smallest_first};
 ghost use Rattle.fed_jar.specs.Store.{IsKeptBy, cookie_of, is_of_party};
+ghost use Rattle.fed_jar.specs.Store as stored;
 ghost use Rattle.fed_jar.specs.Send as spec;
 
-use crate::lists::{Parties, all_lent, keep, listed};
+use crate::lists::{
+    Kept, Parties, Place, all_lent, keep_first, keep_more, listed, party_at, place_of,
+};
 use crate::numbered::{Lent, Numbered};
-use crate::store::{cookie_from, scope_of};
+use crate::store::{cookie_from, host_only_of, is_refused_of, site_by};
 use crate::{Cookie, send};
 use fed_cookie::RawCookie;
 use fed_io::{Bytes, NoRoom};
-use fed_origin::WebUrl;
+use fed_origin::{Host, WebUrl};
 use fed_suffix::Suffixes;
 use indexmap::IndexMap;
 use std::alloc::Global;
@@ -26,6 +33,9 @@ use std::marker::Model;
 /// how many new keys ever entered.
 pub struct Jar {
     parties: Parties,
+    // Where the last cookie for one host alone was put: the next from the same host finds its party
+    // there.
+    last: Place,
     entered: u64,
     alloc: Global,
 }
@@ -35,6 +45,7 @@ impl Drop for Jar {
     fn drop(self) {
         let Jar {
             parties: _,
+            last: _,
             entered: _,
             alloc: _,
         } = self;
@@ -60,6 +71,10 @@ impl Jar {
     {
         Jar {
             parties: IndexMap::new(alloc),
+            last: Place {
+                party: 0,
+                cookie: 0,
+            },
             entered: 0,
             alloc,
         }
@@ -110,25 +125,58 @@ impl Jar {
         ensures parts { OnOk result (self.new ≡ jar_after (party rules.now (host_of url.now)) self.old (cookie_of rules.now url.now now raw)) }
         ensures err { OnErr result (self.new ≡ self.old) }
     {
-        let Some(host_only) = scope_of(rules, url, &raw) else {
+        let Some(host_only) = self.scope_of(rules, url, &raw) else {
             return Ok(false);
         };
         let cookie = cookie_from(self.alloc, url, now, raw, host_only)?;
-        self.put(rules.party(url.host()), cookie)?;
+        self.put(rules, url.host(), cookie)?;
         Ok(true)
     }
 
-    // Puts the cookie under the party, under which each cookie with its name, domain and path is kept.
-    fn put(&mut self, party: &[u8], cookie: Cookie) -> Result<(), NoRoom>
-        requires own { has_key cookie (cookies_in self.old) ≡ has_key cookie (cookies_of (kept_under party.now self.old.kept)) }
+    // Whether the cookie is for the host alone, or `None` where it is ignored.
+    fn scope_of(&self, rules: &Suffixes, url: &WebUrl, raw: &RawCookie) -> Option<bool>
+        requires { IsKeptBy rules.now self.now }
+        ensures { result ≡ stored.scope_of rules.now url.now raw.now }
+    {
+        if is_refused_of(url, raw) {
+            return None;
+        }
+        match &raw.domain {
+            Some(domain) => {
+                let host = url.host();
+                host_only_of(rules, host, self.site_of(rules, host), domain.as_slice())
+            }
+            None => Some(true),
+        }
+    }
+
+    // The registrable domain of the host.
+    fn site_of<'a>(&'a self, rules: &Suffixes, host: &'a Host) -> Option<&'a [u8]>
+        requires { IsKeptBy rules.now self.now }
+        ensures { option_copied result ≡ registrable rules.now host.now }
+    {
+        match party_at(&self.parties, self.last, host.text.as_str().as_bytes()) {
+            Some((_, party)) => site_by(rules, host, party),
+            None => rules.registrable(host),
+        }
+    }
+
+    // Puts the cookie under the party of the host, under which each cookie with its name, domain and
+    // path is kept.
+    fn put(&mut self, rules: &Suffixes, host: &Host, cookie: Cookie) -> Result<(), NoRoom>
+        requires kept { IsKeptBy rules.now self.old }
+        requires own { has_key cookie (cookies_in self.old)
+            ≡ has_key cookie (cookies_of (kept_under (party rules.now host.now) self.old.kept)) }
         requires entered { self.old.entered < 2 ^ 64 - 1 }
-        ensures ok { OnOk result (self.new ≡ jar_after party.now self.old (Some cookie)) }
+        ensures ok { OnOk result (self.new ≡ jar_after (party rules.now host.now) self.old (Some cookie)) }
         ensures err { OnErr result (self.new ≡ self.old) }
     {
         let number = self.entered;
+        let host_only = cookie.host_only;
         let new = Numbered { cookie, number };
-        let is_new = keep(&mut self.parties, self.alloc, party, new)?;
-        self.entered = after(number, is_new);
+        let kept = keep(&mut self.parties, self.alloc, self.last, rules, host, new)?;
+        self.entered = after(number, kept.is_new);
+        self.last = if host_only { kept.place } else { self.last };
         Ok(())
     }
 
@@ -146,8 +194,10 @@ impl Jar {
         ensures value { IfOk result (λ text. text ≡ spec.jar_text rules.now url.now now (cookies_in self.now)) }
         ensures line { IfOk result (λ text. HasNoLineEnd text) }
     {
-        let cookies = self.of_party(rules.party(url.host()));
-        send::cookie_text(alloc, cookies, rules, url, now)
+        let host = url.host();
+        let party = rules.party(host);
+        let site = site_by(rules, host, party);
+        send::cookie_text(alloc, self.of_party(party), rules, url, site, now)
     }
 
     /// The cookies whose domain's party this is, in the jar's order.
@@ -177,6 +227,40 @@ impl Jar {
         ensures { result.now ≡ map numbered_of (kept_under party.now self.now.kept) }
     {
         listed(&self.parties, party)
+    }
+}
+
+// Puts the cookie into the list of the party of the host, of whose cookies one may stand at `last`.
+fn keep(
+    parties: &mut Parties,
+    alloc: Global,
+    last: Place,
+    rules: &Suffixes,
+    host: &Host,
+    new: Numbered,
+) -> Result<Kept, NoRoom>
+    requires named { IsDistinct bytes_eq (keys_of (lists_of (λ key. key.items) parties.old.entries)) }
+    requires own { AreOwn rules.now (lists_of (λ key. key.items) parties.old.entries) }
+    ensures ok { OnOk result (lists_of (λ key. key.items) parties.new.entries
+        ≡ put_under (party rules.now host.now) (lists_of (λ key. key.items) parties.old.entries) new) }
+    ensures fresh { IfOk result (λ kept. kept.is_new ≡ not (list_any (same_numbered new)
+        (list_under (party rules.now host.now) (lists_of (λ key. key.items) parties.old.entries)))) }
+    ensures err { OnErr result (lists_of (λ key. key.items) parties.new.entries ≡ lists_of (λ key. key.items) parties.old.entries) }
+{
+    match place_by(parties, last, rules, host) {
+        Some(at) => keep_more(parties, at, new),
+        None => keep_first(parties, alloc, rules.party(host), new),
+    }
+}
+
+// The place of the party of the host.
+fn place_by(parties: &Parties, last: Place, rules: &Suffixes, host: &Host) -> Option<usize>
+    requires { AreOwn rules.now (lists_of (λ key. key.items) parties.now.entries) }
+    ensures { IsPlace (party rules.now host.now) result (lists_of (λ key. key.items) parties.now.entries) }
+{
+    match party_at(parties, last, host.text.as_str().as_bytes()) {
+        Some((place, _)) => Some(place),
+        None => place_of(parties, rules.party(host)),
     }
 }
 

@@ -1,8 +1,11 @@
 //! The lists of a jar, by parties.
-ghost use Rattle.std.specs.Prelude.{◌≡◌, ◌++◌, IfOk, OnOk, OnErr, true, false, not, is_some, bytes_eq, option_map};
-ghost use Rattle.std.specs.List.{list_any};
-ghost use Rattle.std.specs.Map.{lookup};
+ghost use Rattle.std.specs.Prelude.{◌≡◌, ◌++◌, ℕ, List, IfOk, IfSome, OnOk, OnErr, None, Some, not, bytes_eq, option_map};
+ghost use Rattle.std.specs.List.{IsDistinct, list_any};
+ghost use Rattle.std.specs.Map.{keys_of};
+ghost use Rattle.fed_suffix.specs.Rule.{RuleSet};
+ghost use Rattle.fed_suffix.specs.Registrable.{party};
 ghost use Rattle.indexmap.specs.IndexSet.{get_by};
+ghost use Rattle.fed_jar.specs.Parts.{AreOwn, IsPlace};
 ghost use Rattle.fed_jar.specs.Parts.{lists_of, list_under, put_under, put_numbered, same_numbered, all_numbered, lent_numbered};
 
 use crate::numbered::{Lent, Numbered};
@@ -23,77 +26,116 @@ pub fn listed<'a>(parties: &'a Parties, party: &[u8]) -> &'a [Numbered]
     }
 }
 
-/// Puts the cookie into the list of the party, and answers whether its name, domain and path are new
-/// there; otherwise it takes the number of the one that it replaces.
-pub fn keep(
-    parties: &mut Parties,
-    alloc: Global,
-    party: &[u8],
-    new: Numbered,
-) -> Result<bool, NoRoom>
-    ensures ok { OnOk result (lists_of (λ key. key.items) parties.new.entries
-        ≡ put_under party.now (lists_of (λ key. key.items) parties.old.entries) new) }
-    ensures fresh { IfOk result (λ is_new. is_new
-        ≡ not (list_any (same_numbered new) (list_under party.now (lists_of (λ key. key.items) parties.old.entries)))) }
-    ensures err { OnErr result (lists_of (λ key. key.items) parties.new.entries ≡ lists_of (λ key. key.items) parties.old.entries) }
+/// Where a cookie stood when it was stored: the place of its party, and its own under the party.
+#[derive(Clone, Copy)]
+pub struct Place {
+    pub party: usize,
+    pub cookie: usize,
+}
+
+/// The party under which the cookie at the place is kept, where its domain is the host, and the
+/// party's place: a look at one cookie spares the walk through the suffix rules and the look-up of
+/// the party's text.
+pub fn party_at<'a>(parties: &'a Parties, place: Place, host: &[u8]) -> Option<(usize, &'a [u8])>
+    ensures place { IfSome result (λ found. IsPlace found.1.now (Some found.0) (lists_of (λ key. key.items) parties.now.entries)) }
+    ensures own { (rules : RuleSet) → AreOwn rules (lists_of (λ key. key.items) parties.now.entries)
+        → IfSome result (λ found. found.1.now ≡ party rules host.now) }
 {
-    if parties.contains_key(party) {
-        keep_more(parties, party, new)
-    } else {
-        keep_first(parties, alloc, party, new)
+    let (name, cookies) = parties.get_index(place.party)?;
+    let one = cookies.get_index(place.cookie)?;
+    if one.cookie.domain.as_slice() != host {
+        return None;
+    }
+    Some((place.party, name.as_slice()))
+}
+
+/// The place of the party.
+pub fn place_of(parties: &Parties, party: &[u8]) -> Option<usize>
+    ensures { IsPlace party.now result (lists_of (λ key. key.items) parties.now.entries) }
+{
+    match parties.get_full(party) {
+        Some((place, _, _)) => Some(place),
+        None => None,
     }
 }
 
-// The first cookie of a party: its list is made with it, so no party stands without a cookie.
-fn keep_first(
+/// Whether a cookie's name, domain and path are new under its party, and where it stands.
+#[derive(Clone, Copy)]
+pub struct Kept {
+    pub is_new: bool,
+    pub place: Place,
+}
+
+/// The first cookie of a party: its list is made with it, so no party stands without a cookie.
+pub fn keep_first(
     parties: &mut Parties,
     alloc: Global,
     party: &[u8],
     new: Numbered,
-) -> Result<bool, NoRoom>
-    requires { is_some (lookup (λ key. bytes_eq party.now key.items) parties.old.entries) ≡ false }
+) -> Result<Kept, NoRoom>
+    requires { IsPlace party.now None (lists_of (λ key. key.items) parties.old.entries) }
     ensures ok { OnOk result (lists_of (λ key. key.items) parties.new.entries
         ≡ put_under party.now (lists_of (λ key. key.items) parties.old.entries) new) }
-    ensures fresh { IfOk result (λ is_new. is_new
+    ensures fresh { IfOk result (λ kept. kept.is_new
         ≡ not (list_any (same_numbered new) (list_under party.now (lists_of (λ key. key.items) parties.old.entries)))) }
     ensures err { OnErr result (lists_of (λ key. key.items) parties.new.entries ≡ lists_of (λ key. key.items) parties.old.entries) }
 {
     let mut cookies = IndexSet::new(alloc);
     cookies.insert(new)?;
     let name = party.to_vec(alloc)?;
+    let place = Place {
+        party: parties.len(),
+        cookie: 0,
+    };
     parties.insert(name, cookies)?;
-    Ok(true)
+    Ok(Kept {
+        is_new: true,
+        place,
+    })
 }
 
-// One more cookie of a party that stands.
-fn keep_more(parties: &mut Parties, party: &[u8], new: Numbered) -> Result<bool, NoRoom>
-    requires { is_some (lookup (λ key. bytes_eq party.now key.items) parties.old.entries) ≡ true }
-    ensures ok { OnOk result (lists_of (λ key. key.items) parties.new.entries
-        ≡ put_under party.now (lists_of (λ key. key.items) parties.old.entries) new) }
-    ensures fresh { IfOk result (λ is_new. is_new
-        ≡ not (list_any (same_numbered new) (list_under party.now (lists_of (λ key. key.items) parties.old.entries)))) }
+/// One more cookie of the party at the place: a new one, or one that takes the number of that
+/// which it replaces.
+pub fn keep_more(parties: &mut Parties, at: usize, new: Numbered) -> Result<Kept, NoRoom>
+    requires named { IsDistinct bytes_eq (keys_of (lists_of (λ key. key.items) parties.old.entries)) }
+    ensures ok { OnOk result ((name : List ℕ) → IsPlace name (Some at) (lists_of (λ key. key.items) parties.old.entries)
+        → lists_of (λ key. key.items) parties.new.entries ≡ put_under name (lists_of (λ key. key.items) parties.old.entries) new) }
+    ensures fresh { IfOk result (λ kept. (name : List ℕ) → IsPlace name (Some at) (lists_of (λ key. key.items) parties.old.entries)
+        → kept.is_new ≡ not (list_any (same_numbered new) (list_under name (lists_of (λ key. key.items) parties.old.entries)))) }
     ensures err { OnErr result (lists_of (λ key. key.items) parties.new.entries ≡ lists_of (λ key. key.items) parties.old.entries) }
 {
-    match parties.get_mut(party) {
-        Some(cookies) => put(cookies, new),
-        None => Ok(false),
+    match parties.get_index_mut(at) {
+        Some(cookies) => put(cookies, at, new),
+        // There is one at the place of a party.
+        None => Err(NoRoom),
     }
 }
 
-fn put(cookies: &mut IndexSet<Numbered>, new: Numbered) -> Result<bool, NoRoom>
+fn put(cookies: &mut IndexSet<Numbered>, at: usize, new: Numbered) -> Result<Kept, NoRoom>
     ensures ok { OnOk result (cookies.new.keys ≡ put_numbered cookies.old.keys new) }
-    ensures fresh { IfOk result (λ is_new. is_new ≡ not (list_any (same_numbered new) cookies.old.keys)) }
+    ensures fresh { IfOk result (λ kept. kept.is_new ≡ not (list_any (same_numbered new) cookies.old.keys)) }
     ensures err { OnErr result (cookies.new.keys ≡ cookies.old.keys) }
 {
     match number_of(cookies, &new) {
         Some(number) => {
             let Numbered { cookie, number: _ } = new;
-            cookies.replace(Numbered { cookie, number })?;
-            Ok(false)
+            let (place, _) = cookies.replace_full(Numbered { cookie, number })?;
+            Ok(Kept::at(false, at, place))
         }
         None => {
-            cookies.insert(new)?;
-            Ok(true)
+            let (place, _) = cookies.insert_full(new)?;
+            Ok(Kept::at(true, at, place))
+        }
+    }
+}
+
+impl Kept {
+    fn at(is_new: bool, party: usize, cookie: usize) -> Kept
+        ensures { result.is_new ≡ is_new }
+    {
+        Kept {
+            is_new,
+            place: Place { party, cookie },
         }
     }
 }

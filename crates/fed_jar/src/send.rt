@@ -1,5 +1,5 @@
 //! Which cookies a request sends, and in which order (RFC 6265, 5.4).
-ghost use Rattle.std.specs.Prelude.{◌≡◌, ◌++◌, IfOk, OnOk, filter};
+ghost use Rattle.std.specs.Prelude.{◌≡◌, ◌≤◌, ◌+◌, ◌++◌, ◌==◌, IfOk, OnOk, filter, length, not, vec_len, vec_capacity};
 ghost use Rattle.std.specs.List.{flat_map};
 ghost use Rattle.std.specs.Option.{option_copied};
 ghost use Rattle.fed_suffix.specs.Registrable.{registrable};
@@ -20,20 +20,23 @@ use std::alloc::Global;
 use std::cmp::Reverse;
 
 /// The Cookie field of a request to the URL at the time, of a jar with these cookies of the party.
+/// The registrable domain of the URL's host is given.
 #[tactic(auto, unfolding(crate::specs::Send::jar_text))]
 pub fn cookie_text(
     alloc: Global,
     cookies: &[Numbered],
     rules: &Suffixes,
     url: &WebUrl,
+    site: Option<&[u8]>,
     now: u64,
 ) -> Result<Bytes, NoRoom>
+    requires { option_copied site ≡ registrable rules.now (host_of url.now) }
     ensures value { IfOk result (λ text. text ≡ spec.jar_text rules.now url.now now (numbered_cookies cookies.now)) }
     ensures line { IfOk result (λ text. HasNoLineEnd text) }
 {
-    let mut sent = cookies_sent(alloc, cookies, rules, url, now)?;
-    put_longest_first(&mut sent)?;
-    pairs_text(alloc, sent.as_slice())
+    let sent = cookies_sent(alloc, cookies, rules, url, site, now)?;
+    let ordered = longest_first(alloc, sent.as_slice())?;
+    pairs_text(alloc, ordered.as_slice())
 }
 
 fn cookies_sent<'a>(
@@ -41,32 +44,86 @@ fn cookies_sent<'a>(
     cookies: &'a [Numbered],
     rules: &Suffixes,
     url: &WebUrl,
+    site: Option<&[u8]>,
     now: u64,
 ) -> Result<Vec<Lent<'a>>, NoRoom>
+    requires { option_copied site ≡ registrable rules.now (host_of url.now) }
     ensures { IfOk result (λ sent. lent_cookies sent.items ≡ filter (spec.is_sent rules.now url.now now) (numbered_cookies cookies.now)) }
 {
-    let site = rules.registrable(url.host());
     let mut last = None;
-    let mut sent = Vec::new(alloc);
+    // Room for all at once, so that no push asks whether there is some.
+    let mut sent = Vec::with_capacity(alloc, cookies.len())?;
     for one in cookies {
         if is_sent(rules, url, site, now, &mut last, &one.cookie) {
-            sent.push(Lent { one })?;
+            sent.push_reserved(Lent { one });
         }
     }
     Ok(sent)
 }
 
-// Longer paths first, then in their order.
+// Longer paths first, then in their order. Those with the longest path are taken out before the
+// others are sorted: where there are two lengths, the sort finds the others in order.
+fn longest_first<'a>(alloc: Global, sent: &[Lent<'a>]) -> Result<Vec<Lent<'a>>, NoRoom>
+    ensures { IfOk result (λ ordered. lent_cookies ordered.items ≡ spec.largest_first spec.path_length (lent_cookies sent.now)) }
+{
+    let mut first = Vec::with_capacity(alloc, sent.len())?;
+    let mut others = Vec::with_capacity(alloc, sent.len())?;
+    divide(sent, longest_path(sent), &mut first, &mut others);
+    put_longest_first(&mut others)?;
+    first.append(&mut others)?;
+    Ok(first)
+}
+
+// The length of the longest path.
+fn longest_path(sent: &[Lent<'_>]) -> usize
+    ensures { result ≡ spec.longest_path (lent_cookies sent.now) }
+{
+    let mut longest = 0;
+    for lent in sent {
+        longest = path_length(lent).max(longest);
+    }
+    longest
+}
+
+// The cookies with a path of this length, and the others, in their order. There is room for all in
+// both.
+fn divide<'a>(
+    sent: &[Lent<'a>],
+    longest: usize,
+    first: &mut Vec<Lent<'a>>,
+    others: &mut Vec<Lent<'a>>,
+)
+    requires first { vec_len first.old + length sent.now ≤ vec_capacity first.old }
+    requires others { vec_len others.old + length sent.now ≤ vec_capacity others.old }
+    ensures first { lent_cookies first.new.items
+        ≡ lent_cookies first.old.items ++ filter (λ c. spec.path_length c == longest) (lent_cookies sent.now) }
+    ensures others { lent_cookies others.new.items
+        ≡ lent_cookies others.old.items ++ filter (λ c. not (spec.path_length c == longest)) (lent_cookies sent.now) }
+{
+    for lent in sent {
+        if path_length(lent) == longest {
+            first.push_reserved(*lent);
+        } else {
+            others.push_reserved(*lent);
+        }
+    }
+}
+
+fn path_length(lent: &Lent<'_>) -> usize
+    ensures { result ≡ spec.path_length (lent_cookie lent.now) }
+{
+    let cookie = &lent.one.cookie;
+    cookie.path.as_slice().len()
+}
+
+// The same by sorting alone.
 fn put_longest_first(sent: &mut Vec<Lent<'_>>) -> Result<(), NoRoom>
     ensures { OnOk result (lent_cookies sent.new.items ≡ spec.largest_first spec.path_length (lent_cookies sent.old.items)) }
 {
     sent.sort_by_key(
         |lent: &Lent<'_>| -> Reverse<usize>
             ensures { result.0 ≡ spec.path_length (lent_cookie lent.now) }
-        {
-            let cookie = &lent.one.cookie;
-            Reverse(cookie.path.as_slice().len())
-        },
+        { Reverse(path_length(lent)) },
     )?;
     Ok(())
 }
@@ -99,7 +156,10 @@ fn push_next(text: &mut Vec<u8>, lent: &Lent<'_>) -> Result<(), NoRoom>
     ensures value { OnOk result (text.new.items ≡ text.old.items ++ spec.next_text (lent_cookie lent.now)) }
     ensures line { HasNoLineEnd text.old.items → OnOk result (HasNoLineEnd text.new.items) }
 {
-    text.extend_from_slice(b"; ")?;
+    // Byte by byte: a slice of two costs more than the two.
+    text.reserve(2)?;
+    text.push_reserved(b';');
+    text.push_reserved(b' ');
     push_pair(text, lent)
 }
 
@@ -116,8 +176,8 @@ fn push_pair(text: &mut Vec<u8>, lent: &Lent<'_>) -> Result<(), NoRoom>
 }
 
 /// Whether the cookie goes with a request to the URL at the time. The registrable domain of the
-/// URL's host is given, and `last` is the domain that was looked at last, with its answer: the domains of a party's cookies are mostly
-/// the same, and a look takes some 900 instructions.
+/// URL's host is given, and `last` is the domain that was looked at last, with its answer: where
+/// the next cookie has the same, it spares a walk through the suffix rules.
 #[tactic(auto, unfolding(crate::specs::Send::is_sent))]
 fn is_sent<'a>(
     rules: &Suffixes,

@@ -1,7 +1,8 @@
 //! Which fields a jar stores, and as which cookie (RFC 6265, 5.3).
 ghost use Rattle.std.specs.Prelude.{◌≡◌, ◌+◌, IfOk, Some, length, nat_lt, unwrap_or};
 ghost use Rattle.std.specs.Option.{option_copied};
-ghost use Rattle.fed_suffix.specs.Registrable.{registrable};
+ghost use Rattle.fed_origin.specs.WebUrl.{scheme_of};
+ghost use Rattle.fed_suffix.specs.Registrable.{party as party_of, registrable};
 ghost use Rattle.fed_jar.specs.Store as spec;
 
 use crate::Cookie;
@@ -14,18 +15,12 @@ use std::alloc::Global;
 // The most bytes of name and value together.
 const MOST_BYTES: usize = 4096;
 
-/// Whether the cookie is for the host alone, or `None` where it is ignored.
-pub fn scope_of(rules: &Suffixes, url: &WebUrl, raw: &RawCookie) -> Option<bool>
-    ensures { result ≡ spec.scope_of rules.now url.now raw.now }
+/// Whether the cookie of a field is refused, whatever its domain.
+pub fn is_refused_of(url: &WebUrl, raw: &RawCookie) -> bool
+    ensures { result ≡ spec.is_refused (scheme_of url.now) (spec.path_from url.now.path raw.now) raw.now }
 {
     let path = path_from(url.path().as_bytes(), raw);
-    if is_refused(url.scheme(), path, raw) {
-        return None;
-    }
-    match &raw.domain {
-        Some(domain) => host_only_of(rules, url.host(), domain.as_slice()),
-        None => Some(true),
-    }
+    is_refused(url.scheme(), path, raw)
 }
 
 fn path_from<'a>(page: &'a [u8], raw: &'a RawCookie) -> &'a [u8]
@@ -65,18 +60,36 @@ fn breaks_prefix(path: &[u8], raw: &RawCookie) -> bool
     name.starts_with(b"__Host-") && (!raw.secure || raw.domain.is_some() || path != b"/".as_slice())
 }
 
-// Whether a cookie with this Domain attribute is for the host alone, or `None` where it may not
-// name that domain.
-fn host_only_of(rules: &Suffixes, host: &Host, domain: &[u8]) -> Option<bool>
+/// Whether a cookie with this Domain attribute is for the host alone, or `None` where it may not
+/// name that domain. The registrable domain of the host is given.
+pub fn host_only_of(
+    rules: &Suffixes,
+    host: &Host,
+    site: Option<&[u8]>,
+    domain: &[u8],
+) -> Option<bool>
+    requires { option_copied site ≡ registrable rules.now host.now }
     ensures { result ≡ spec.host_only_of rules.now host.now (Some domain.now) }
 {
-    if is_within(rules, host, rules.registrable(host), domain) {
+    if is_within(rules, host, site, domain) {
         return Some(false);
     }
     if domain == host.text.as_str().as_bytes() {
         return Some(true);
     }
     None
+}
+
+/// The registrable domain of the host, of which the party is given: the party, where that is not
+/// the host's text.
+pub fn site_by<'a>(rules: &Suffixes, host: &'a Host, party: &'a [u8]) -> Option<&'a [u8]>
+    requires { party.now ≡ party_of rules.now host.now }
+    ensures { option_copied result ≡ registrable rules.now host.now }
+{
+    if party == host.text.as_str().as_bytes() {
+        return rules.registrable(host);
+    }
+    Some(party)
 }
 
 /// Whether the host matches the domain and both have the same registrable domain, of which that of

@@ -2,7 +2,7 @@
 ghost use Rattle.std.specs.Prelude.{◌≡◌, IfOk};
 
 use crate::WebUrl;
-use fed_io::{Items, NoRoom, Text, copy_text};
+use fed_io::{Items, NoRoom, Placed, Text, copy_placed};
 use std::alloc::Global;
 
 /// How far the user takes part (Credential Management 2.3.2).
@@ -101,20 +101,21 @@ impl Context {
     }
 }
 
-/// What a call says of one provider (FedCM, IdentityProviderRequestOptions).
+/// What a call says of one provider (FedCM, IdentityProviderRequestOptions). What is rare has a place of its own, since each pending call
+/// keeps its options.
 pub struct ProviderOptions {
     /// The configuration URL.
     pub config: WebUrl,
     /// The relying party's id at the provider.
     pub client: Text,
     /// A number used once, which the token is to hold.
-    pub nonce: Option<Text>,
+    pub nonce: Option<Placed<Text>>,
     /// Only accounts with this login hint are meant.
-    pub login_hint: Option<Text>,
+    pub login_hint: Option<Placed<Text>>,
     /// Only accounts with this domain hint are meant.
-    pub domain_hint: Option<Text>,
+    pub domain_hint: Option<Placed<Text>>,
     /// What the provider gets with the assertion request, as plain text (this profile's own).
-    pub params: Option<Text>,
+    pub params: Option<Placed<Text>>,
 }
 
 // Written out, so that one function lets it go wherever it ends.
@@ -139,10 +140,10 @@ impl ProviderOptions {
         Ok(ProviderOptions {
             config: self.config.copy(alloc)?,
             client: self.client.copy(alloc)?,
-            nonce: copy_text(alloc, &self.nonce)?,
-            login_hint: copy_text(alloc, &self.login_hint)?,
-            domain_hint: copy_text(alloc, &self.domain_hint)?,
-            params: copy_text(alloc, &self.params)?,
+            nonce: copy_placed(alloc, &self.nonce)?,
+            login_hint: copy_placed(alloc, &self.login_hint)?,
+            domain_hint: copy_placed(alloc, &self.domain_hint)?,
+            params: copy_placed(alloc, &self.params)?,
         })
     }
 }

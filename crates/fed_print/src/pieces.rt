@@ -12,7 +12,7 @@ use itoa::Buffer;
 fn push_number(text: &mut Vec<u8>, number: u32) -> Result<(), NoRoom>
     ensures { OnOk result (text.new.items ≡ text.old.items ++ decimal number) }
 {
-    // The place of a provider is mostly this one.
+    // The place of a call's only provider needs no buffer.
     if number == 0 {
         text.push(b'0')?;
         return Ok(());

@@ -62,7 +62,7 @@ pub(crate) fn push_record(alloc: Global, text: &mut Vec<u8>, out: &Out) -> Resul
     match out {
         Out::Request { .. } => print(alloc, out, text),
         Out::Dialog { line, call, dialog } => {
-            push_dialog(alloc, text, *line, *call, dialog.as_dialog())
+            push_dialog(alloc, text, *line, *call, dialog.get())
         }
         Out::Window {
             line,

@@ -98,12 +98,7 @@ fn print_record(alloc: Global, printer: &mut Printer, out: &Out) -> Result<(), N
             *kind,
             bytes.as_slice(),
         ),
-        Out::Dialog { line, call, dialog } => print_dialog(
-            printer,
-            *line,
-            *call,
-            dialog.as_dialog(),
-        ),
+        Out::Dialog { line, call, dialog } => print_dialog(printer, *line, *call, dialog.get()),
         Out::Window {
             line,
             call,

@@ -115,6 +115,21 @@ pub fn read_config(
     }
 }
 
+/// The same, where the step is an answer that can be kept, and a configuration one that copies share.
+pub fn config_answer(
+    alloc: Global,
+    raw: &[u8],
+    config: &WebUrl,
+) -> Result<Result<SharedConfig, ProviderStep>, NoRoom>
+    ensures { IfOk result (λ said. said ≡ spec.ConfigOf raw.now config.now) }
+{
+    match read_config(alloc, raw, config) {
+        Ok(config) => Ok(Ok(SharedConfig::new(alloc, config)?)),
+        Err(Fault::Step(step)) => Ok(Err(step)),
+        Err(Fault::NoRoom) => Err(NoRoom),
+    }
+}
+
 // The texts of a configuration.
 #[derive(Drop)]
 struct Texts<'a> {

@@ -4,8 +4,10 @@ ghost use Rattle.fed_origin.specs.WebUrl.{scheme_of};
 ghost use Rattle.fed_provider.specs.Config.{ConfigOf};
 ghost use Rattle.fed_provider.specs.FirstReplies as spec;
 
-use crate::{ProviderStep, Rules, SharedConfig, read_config, read_wellknown, site_url};
-use fed_io::{Fault, NoRoom};
+use crate::config::config_answer;
+use crate::wellknown::{site_url, wellknown_answer};
+use crate::{ProviderStep, Rules, SharedConfig};
+use fed_io::NoRoom;
 use fed_origin::{ReplyKind, Scheme, WebUrl};
 use std::alloc::Global;
 
@@ -166,11 +168,7 @@ fn wellknown_file(
         Ok(base) => base,
         Err(step) => return Ok(Err(step)),
     };
-    match read_wellknown(alloc, raw, &base, config) {
-        Ok(()) => Ok(Ok(())),
-        Err(Fault::Step(step)) => Ok(Err(step)),
-        Err(Fault::NoRoom) => Err(NoRoom),
-    }
+    wellknown_answer(alloc, raw, &base, config)
 }
 
 // What is kept of a config reply.
@@ -197,9 +195,5 @@ fn config_file(
     if let Some(said) = rules.config_said(config, raw) {
         return kept_config(said);
     }
-    match read_config(alloc, raw, config) {
-        Ok(config) => Ok(Ok(SharedConfig::new(alloc, config)?)),
-        Err(Fault::Step(step)) => Ok(Err(step)),
-        Err(Fault::NoRoom) => Err(NoRoom),
-    }
+    config_answer(alloc, raw, config)
 }

@@ -7,8 +7,10 @@ ghost use Rattle.fed_provider.specs.FirstReplies.{wellknown_read};
 ghost use Rattle.fed_provider.specs.WellKnown.{WellKnownUrlOf};
 ghost use Rattle.fed_provider.specs.Rules.{file_by, IsKept, IsSite};
 
-use crate::{ProviderStep, SharedConfig, read_config, read_wellknown, site_url};
-use fed_io::{Bytes, Fault, NoRoom};
+use crate::config::config_answer;
+use crate::wellknown::{site_url, wellknown_answer};
+use crate::{ProviderStep, SharedConfig};
+use fed_io::{Bytes, NoRoom};
 use fed_origin::{ReplyKind, SLOTS, Scheme, WebUrl, slot_of};
 use fed_suffix::Suffixes;
 use std::alloc::Global;
@@ -51,9 +53,9 @@ impl Drop for Site {
 // The most bytes of a URL, or of a reply, that is kept.
 const MOST_BYTES: usize = 2048;
 
-/// The public suffix rules. What was asked for is kept, since calls mostly name few providers, whose files mostly have the same bytes: the
-/// well-known URL and the files need not be made or read anew, which takes some 2,000 to 7,000 instructions each. At most 256 sites are
-/// kept, each at the place of its URL's text, with replies of at most 2,048 bytes; one that comes later takes the place.
+/// The public suffix rules. What was asked for is kept, so that a well-known URL, and a file whose bytes come again, need not be made or
+/// read anew, which takes some 2,000 to 7,000 instructions each. At most 256 sites are kept, each at the place of its URL's text, with
+/// replies of at most 2,048 bytes; one that comes later takes the place.
 pub struct Rules {
     suffixes: Suffixes,
     // None before the first site is kept.
@@ -307,11 +309,7 @@ fn file_read(alloc: Global, site: &Site, raw: &[u8]) -> Result<SaidFile, NoRoom>
     ensures said { IfOk result (λ file. file.said ≡ file_by site.now.wellknown site.now.config raw.now) }
 {
     let said = match &site.wellknown {
-        Ok(base) => match read_wellknown(alloc, raw, base, &site.config) {
-            Ok(()) => Ok(()),
-            Err(Fault::Step(step)) => Err(step),
-            Err(Fault::NoRoom) => return Err(NoRoom),
-        },
+        Ok(base) => wellknown_answer(alloc, raw, base, &site.config)?,
         Err(step) => Err(*step),
     };
     Ok(SaidFile {
@@ -325,14 +323,9 @@ fn config_read(alloc: Global, site: &Site, raw: &[u8]) -> Result<SaidConfig, NoR
     ensures raw { IfOk result (λ read. read.raw ≡ raw.now) }
     ensures said { IfOk result (λ read. read.said ≡ ConfigOf raw.now site.now.config) }
 {
-    let said = match read_config(alloc, raw, &site.config) {
-        Ok(config) => Ok(SharedConfig::new(alloc, config)?),
-        Err(Fault::Step(step)) => Err(step),
-        Err(Fault::NoRoom) => return Err(NoRoom),
-    };
     Ok(SaidConfig {
         raw: Bytes::of(alloc, raw)?,
-        said,
+        said: config_answer(alloc, raw, &site.config)?,
     })
 }
 

@@ -118,6 +118,22 @@ pub fn read_wellknown(
     }
 }
 
+/// The same, where the step is an answer that can be kept.
+pub fn wellknown_answer(
+    alloc: Global,
+    raw: &[u8],
+    base: &WebUrl,
+    config: &WebUrl,
+) -> Result<Result<(), ProviderStep>, NoRoom>
+    ensures { IfOk result (λ said. said ≡ spec.WellKnownOf raw.now base.now config.now) }
+{
+    match read_wellknown(alloc, raw, base, config) {
+        Ok(()) => Ok(Ok(())),
+        Err(Fault::Step(step)) => Ok(Err(step)),
+        Err(Fault::NoRoom) => Err(NoRoom),
+    }
+}
+
 // Whether the file lists the configuration URL alone.
 fn lists(
     alloc: Global,

@@ -9,7 +9,7 @@ ghost use Rattle.fed_reply.specs.Json as spec;
 
 use crate::fields::is_in_any_case;
 use crate::json_head::{JsonHead, read_json_head};
-use crate::read::read_body;
+use crate::read::find_body;
 use crate::{Reply, ReplyStep};
 use fed_io::{Bytes, Fault, NoRoom, place_of, trim};
 use fed_json::tape_of;
@@ -19,7 +19,8 @@ use std::alloc::Global;
 // The byte order mark of UTF-8.
 const MARK: [u8; 3] = [0xEF, 0xBB, 0xBF];
 
-/// What a value is read from: the body of its reply, and memory for the reading. Both are lent to the tape.
+/// What a value is read from: the body of its reply where that was joined from chunks, and memory for the reading. Both are lent to the
+/// tape.
 pub struct JsonBuffer {
     body: Option<Bytes>,
     scratch: Scratch,
@@ -60,7 +61,11 @@ pub fn json_of<'a>(
 {
     match refusal(reply.status(), is_json_type(reply.field("content-type", 0))) {
         Some(step) => Err(Fault::Step(step)),
-        None => body_tape(alloc, reply.into_body(), buffer),
+        None => {
+            let JsonBuffer { body, scratch } = buffer;
+            let body = body.insert(reply.into_body());
+            body_tape(alloc, body.as_slice(), scratch)
+        }
     }
 }
 
@@ -68,7 +73,7 @@ pub fn json_of<'a>(
 /// and then those of `json_of`.
 pub fn read_json<'a>(
     alloc: Global,
-    raw: &[u8],
+    raw: &'a [u8],
     buffer: &'a mut JsonBuffer,
 ) -> Result<Tape<'a>, Fault<ReplyStep>>
     ensures { AnswersBy data_at result (spec.ReplyJsonOf raw.now) }
@@ -77,18 +82,19 @@ pub fn read_json<'a>(
         Ok(head) => head,
         Err(step) => return Err(Fault::Step(step)),
     };
-    let body = match read_body(alloc, head.framing, &raw[head.len..]) {
+    let JsonBuffer { body, scratch } = buffer;
+    let body = match find_body(alloc, head.framing, &raw[head.len..], body) {
         Ok(body) => body,
         Err(fault) => return Err(fault),
     };
-    unless_refused(alloc, &head, body, buffer)
+    unless_refused(alloc, &head, body, scratch)
 }
 
 /// The same of a reply in which each field of these names, in any case, stands exactly once, with the value beside its name; None where
 /// one does not. That is told after the steps of `read_reply`, and before those of `json_of`.
 pub fn read_json_with<'a>(
     alloc: Global,
-    raw: &[u8],
+    raw: &'a [u8],
     only: &[(&str, &[u8])],
     buffer: &'a mut JsonBuffer,
 ) -> Result<Option<Tape<'a>>, Fault<ReplyStep>>
@@ -98,14 +104,15 @@ pub fn read_json_with<'a>(
         Ok(head) => head,
         Err(step) => return Err(Fault::Step(step)),
     };
-    let body = match read_body(alloc, head.framing, &raw[head.len..]) {
+    let JsonBuffer { body, scratch } = buffer;
+    let body = match find_body(alloc, head.framing, &raw[head.len..], body) {
         Ok(body) => body,
         Err(fault) => return Err(fault),
     };
     if !head.has_each {
         return Ok(None);
     }
-    match unless_refused(alloc, &head, body, buffer) {
+    match unless_refused(alloc, &head, body, scratch) {
         Ok(tape) => Ok(Some(tape)),
         Err(fault) => Err(fault),
     }
@@ -115,14 +122,14 @@ pub fn read_json_with<'a>(
 fn unless_refused<'a>(
     alloc: Global,
     head: &JsonHead,
-    body: Bytes,
-    buffer: &'a mut JsonBuffer,
+    body: &'a [u8],
+    scratch: &'a mut Scratch,
 ) -> Result<Tape<'a>, Fault<ReplyStep>>
-    ensures { AnswersBy data_at result (spec.unless_refused (spec.refusal head.now.status head.now.is_json) body) }
+    ensures { AnswersBy data_at result (spec.unless_refused (spec.refusal head.now.status head.now.is_json) body.now) }
 {
     match refusal(head.status, head.is_json) {
         Some(step) => Err(Fault::Step(step)),
-        None => body_tape(alloc, body, buffer),
+        None => body_tape(alloc, body, scratch),
     }
 }
 
@@ -139,13 +146,12 @@ fn refusal(status: u16, is_json: bool) -> Option<ReplyStep>
 // The tape of the JSON value that a body is.
 fn body_tape<'a>(
     alloc: Global,
-    body: Bytes,
-    buffer: &'a mut JsonBuffer,
+    body: &'a [u8],
+    scratch: &'a mut Scratch,
 ) -> Result<Tape<'a>, Fault<ReplyStep>>
-    ensures { AnswersBy data_at result (spec.body_value body) }
+    ensures { AnswersBy data_at result (spec.body_value body.now) }
 {
-    let body = buffer.body.insert(body);
-    match tape_of(alloc, &mut buffer.scratch, after_mark(body.as_slice())) {
+    match tape_of(alloc, scratch, after_mark(body)) {
         Ok(Some(tape)) => Ok(tape),
         Ok(None) => Err(Fault::Step(ReplyStep::Json)),
         Err(NoRoom) => Err(Fault::NoRoom),

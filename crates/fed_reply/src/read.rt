@@ -1,6 +1,6 @@
 //! Reading a reply.
-ghost use Rattle.std.specs.Prelude.{Some};
-ghost use Rattle.fed_io.specs.Fault.{Answers};
+ghost use Rattle.std.specs.Prelude.{◌≡◌, Ok, Err, Some, IfOk, IfErr, MatchOption};
+ghost use Rattle.fed_io.specs.Fault.{Answers, AnswersBy};
 ghost use Rattle.fed_head.specs.Found.{FindsHead};
 ghost use Rattle.fed_head.specs.Head.{head_of, within};
 ghost use Rattle.fed_reply.specs.Body.{framed};
@@ -103,23 +103,55 @@ fn front_at(
     }
 }
 
-/// The body that is framed so, in the bytes after the head.
-pub fn read_body(
+// The body that is framed so, where it stands in the bytes after the head; None where it is in chunks.
+fn part_of(framing: Result<Framing, ReplyStep>, rest: &[u8]) -> Result<Option<&[u8]>, ReplyStep>
+    ensures part { IfOk result (λ part. MatchOption part (framing ≡ Ok Framing.Chunked)
+        (λ body. and_then (framed rest.now) framing ≡ Ok body.now)) }
+    ensures step { IfErr result (λ step. and_then (framed rest.now) framing ≡ Err step) }
+{
+    match framing {
+        Ok(Framing::Chunked) => Ok(None),
+        Ok(Framing::Counted(length)) => {
+            if (rest.len() as u64) < length {
+                return Err(ReplyStep::Short);
+            }
+            Ok(Some(&rest[..length as usize]))
+        }
+        Ok(Framing::ToTheEnd) => Ok(Some(rest)),
+        Err(step) => Err(step),
+    }
+}
+
+// The body that is framed so, in the bytes after the head.
+fn read_body(
     alloc: Global,
     framing: Result<Framing, ReplyStep>,
     rest: &[u8],
 ) -> Result<Bytes, Fault<ReplyStep>>
     ensures { Answers result (and_then (framed rest.now) framing) }
 {
-    match framing {
-        Ok(Framing::Chunked) => read_chunks(alloc, rest),
-        Ok(Framing::Counted(length)) => {
-            if (rest.len() as u64) < length {
-                return Err(Fault::Step(ReplyStep::Short));
-            }
-            Ok(Bytes::of(alloc, &rest[..length as usize])?)
-        }
-        Ok(Framing::ToTheEnd) => Ok(Bytes::of(alloc, rest)?),
+    match part_of(framing, rest) {
+        Ok(Some(body)) => Ok(Bytes::of(alloc, body)?),
+        Ok(None) => read_chunks(alloc, rest),
+        Err(step) => Err(Fault::Step(step)),
+    }
+}
+
+/// The same, which is no copy but where chunks are joined: then it stands in `joined`.
+pub fn find_body<'a>(
+    alloc: Global,
+    framing: Result<Framing, ReplyStep>,
+    rest: &'a [u8],
+    joined: &'a mut Option<Bytes>,
+) -> Result<&'a [u8], Fault<ReplyStep>>
+    ensures { AnswersBy (λ body. body.now) result (and_then (framed rest.now) framing) }
+{
+    match part_of(framing, rest) {
+        Ok(Some(body)) => Ok(body),
+        Ok(None) => match read_chunks(alloc, rest) {
+            Ok(body) => Ok(joined.insert(body).as_slice()),
+            Err(fault) => Err(fault),
+        },
         Err(step) => Err(Fault::Step(step)),
     }
 }

@@ -94,7 +94,7 @@ pub fn build(alloc: Global, ask: &Ask, cookies: &[u8]) -> Result<Bytes, NoRoom>
         Ask::WellKnown { to } => get_text(alloc, "/.well-known/web-identity", to, b""),
         Ask::Config { to } => get_text(alloc, to.path_query(), to, b""),
         Ask::Accounts { to } => get_text(alloc, to.path_query(), to, cookies),
-        Ask::Metadata { to, client, origin } => metadata_text(alloc, to, client, origin),
+        Ask::Metadata { to, client, origin } => metadata_text(alloc, to, client, origin.get()),
         Ask::Assertion(ask) => {
             let form = assertion_form(alloc, ask)?;
             post_text(alloc, ask.to(), ask.origin(), form.as_slice(), cookies)
@@ -105,8 +105,8 @@ pub fn build(alloc: Global, ask: &Ask, cookies: &[u8]) -> Result<Bytes, NoRoom>
             hint,
             origin,
         } => {
-            let form = disconnect_form(alloc, client, hint)?;
-            post_text(alloc, to, origin, form.as_slice(), cookies)
+            let form = disconnect_form(alloc, client, hint.get())?;
+            post_text(alloc, to, origin.get(), form.as_slice(), cookies)
         }
     }
 }

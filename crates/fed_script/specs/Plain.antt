@@ -52,7 +52,8 @@ disconnect_texts config client hint =
 
 unfoldable pub disconnect_text : ℕ → ℕ → List ℕ → List ℕ → List ℕ → List ℕ
 disconnect_text page call config client hint =
-    codes "{\"do\":\"disconnect\",\"page\":" ++ (decimal page ++ (codes ",\"call\":" ++ (decimal call ++ disconnect_texts config client hint)))
+    codes "{\"do\":\"disconnect\",\"page\":" ++ (decimal page
+    ++ (codes ",\"call\":" ++ (decimal call ++ disconnect_texts config client hint)))
 
 -- the members of such a get
 abbrev pub plain_members : ℕ → ℕ → List ℕ → List ℕ → Bool → GetMembers

@@ -12,9 +12,8 @@ use std::alloc::Global;
 // The most bytes of a URL that is kept.
 const MOST_BYTES: usize = 2048;
 
-/// Configuration URLs that were read. Lines mostly name few providers, whose calls then share the text of the URL: that spares some 1,200
-/// instructions, and the memory of a text. At most 256 URLs are kept, of at most 2,048 bytes, each at the place of its text; one that comes
-/// later takes the place.
+/// Configuration URLs that were read, so that calls which name one share its text: that spares some 1,200 instructions, and the memory
+/// of a text. At most 256 URLs are kept, of at most 2,048 bytes, each at the place of its text; one that comes later takes the place.
 pub(crate) struct KeptConfigs {
     // None before the first URL is kept.
     urls: Vec<Option<WebUrl>>,

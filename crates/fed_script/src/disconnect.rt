@@ -9,7 +9,7 @@ use crate::cause::{LineCause, MemberName};
 use crate::config::KeptConfigs;
 use crate::event::Event;
 use crate::member::{number, text};
-use fed_io::{Fault, Text};
+use fed_io::{Fault, Placed, Text};
 use fed_json::Part;
 use std::alloc::Global;
 
@@ -63,6 +63,6 @@ pub(crate) fn disconnect_by(
         call: members.call,
         config,
         client: Text::of(alloc, members.client)?,
-        hint: Text::of(alloc, members.hint)?,
+        hint: Placed::new(alloc, Text::of(alloc, members.hint)?)?,
     })
 }

@@ -3,7 +3,7 @@ ghost use Rattle.std.specs.Prelude.{◌≡◌, IfOk};
 ghost use Rattle.fed_script.specs.Reader.{header_in};
 
 use crate::cause::LineCause;
-use fed_io::{Bytes, NoRoom, Text};
+use fed_io::{Bytes, NoRoom, Placed, Text};
 use fed_origin::{GetOptions, LoginStatus, Origin, ReplyKind, Triple, WebUrl};
 use fed_suffix::Suffixes;
 use std::alloc::Global;
@@ -43,10 +43,11 @@ pub enum Have {
     Cookie { url: WebUrl, field: Bytes },
 }
 
-/// An event of a script, one variant for each kind of line.
+/// An event of a script, one variant for each kind of line. What is large or rare has a place of its own, since each event is moved
+/// several times.
 pub enum Event {
     /// Something stands from before the script.
-    Have(Have),
+    Have(Placed<Have>),
     /// It is this time from now on, in seconds since 1970.
     At {
         time: u64,
@@ -122,7 +123,7 @@ pub enum Event {
         call: u32,
         config: WebUrl,
         client: Text,
-        hint: Text,
+        hint: Placed<Text>,
     },
 }
 
@@ -185,7 +186,7 @@ pub enum Line {
     /// A line after the header that has space, tab and CR alone, or nothing.
     Blank(u32),
     /// The first line.
-    Head(u32, Header),
+    Head(u32, Placed<Header>),
     /// A line after the header that names an event.
     Event(u32, Event),
     /// The first bad line, and why it is bad. Nothing after it is read.
@@ -198,7 +199,7 @@ impl Line {
         ensures { result ≡ header_in self }
     {
         match self {
-            Line::Head(_, header) => Some(header),
+            Line::Head(_, header) => Some(header.open()),
             Line::Blank(_) | Line::Event(_, _) | Line::Bad(_, _) => None,
         }
     }

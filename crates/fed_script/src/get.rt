@@ -12,7 +12,7 @@ use crate::config::KeptConfigs;
 use crate::event::Event;
 use crate::member::{member, number, optional_text, text};
 use crate::options::{OptionMembers, option_members};
-use fed_io::{Fault, Items, NoRoom, Text, text_of};
+use fed_io::{Fault, Items, NoRoom, Text, placed_text};
 use fed_json::Part;
 use fed_origin::{GetOptions, ProviderOptions, WebUrl};
 use std::alloc::Global;
@@ -101,10 +101,10 @@ fn provider_of(
     Ok(ProviderOptions {
         config,
         client: Text::of(alloc, members.client)?,
-        nonce: text_of(alloc, members.nonce)?,
-        login_hint: text_of(alloc, members.login_hint)?,
-        domain_hint: text_of(alloc, members.domain_hint)?,
-        params: text_of(alloc, members.params)?,
+        nonce: placed_text(alloc, members.nonce)?,
+        login_hint: placed_text(alloc, members.login_hint)?,
+        domain_hint: placed_text(alloc, members.domain_hint)?,
+        params: placed_text(alloc, members.params)?,
     })
 }
 

@@ -8,7 +8,7 @@ use crate::event::{Event, Have};
 use crate::member::{self, text, web_url};
 use crate::raw::required_bytes;
 use crate::status::status;
-use fed_io::{Fault, Text};
+use fed_io::{Fault, Placed, Text};
 use fed_json::Part;
 use fed_origin::Triple;
 use std::alloc::Global;
@@ -78,5 +78,5 @@ pub(crate) fn have_named(alloc: Global, d: &Part<'_, '_>) -> Result<Event, Fault
 {
     let what = text(d, MemberName::What).map_err(Fault::Step)?;
     let have = said(alloc, what, d)?;
-    Ok(Event::Have(have))
+    Ok(Event::Have(Placed::new(alloc, have)?))
 }

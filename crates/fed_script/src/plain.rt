@@ -1,7 +1,7 @@
 //! Lines as JSON writers give them: no white space, no escape but in the bytes of replies, and their members in the order of the
 //! profile's table. They are told from others byte by byte and read without a tape, which spares some 2,500 instructions; each other
 //! line has its tape.
-ghost use Rattle.std.specs.Prelude.{◌≡◌, ◌<◌, ◌++◌, ℕ, List, None, Some, Ok, IfSome, IsTrue, IsUtf8, cond, decimal, length, true};
+ghost use Rattle.std.specs.Prelude.{◌≡◌, ◌<◌, ◌+◌, ◌++◌, ℕ, List, None, Some, Ok, IfSome, IsTrue, IsUtf8, cond, decimal, length, true};
 ghost use Rattle.std.specs.List.{list_all};
 ghost use Rattle.fed_script.specs.declared.event.Event.TheVariants as events;
 ghost use Rattle.json.specs.Print.{escape};
@@ -17,7 +17,6 @@ use crate::get::{GetMembers, ProviderMembers};
 use crate::options::OptionMembers;
 use crate::texts::last_text;
 use fed_origin::{Context, Mediation, Mode, ReplyKind};
-use itoa::Buffer;
 use memchr::memchr;
 use std::str;
 
@@ -48,27 +47,44 @@ fn end(rest: &[u8], word: &[u8]) -> Option<()>
     if rest == word { Some(()) } else { None }
 }
 
-// The digits at the front as a number, which may be another where they are too many or begin with a zero.
-fn digits(rest: &[u8]) -> u32 {
-    let mut number: u32 = 0;
+// The digit that a byte is.
+fn digit_of(byte: u8) -> Option<u32>
+    ensures { IfSome result (λ digit. (digit < 10) × (byte ≡ 48 + digit)) }
+{
+    if byte.is_ascii_digit() {
+        Some(u32::from(byte - b'0'))
+    } else {
+        None
+    }
+}
+
+// A number of which the first digits make this one, which is above 0, and what is left after it.
+fn longer(front: u32, rest: &[u8]) -> Option<(u32, &[u8])>
+    requires { 0 < front }
+    ensures { IfSome result (λ found. decimal front ++ rest.now ≡ decimal found.0 ++ found.1.now) }
+{
+    let mut number = front;
     let mut at = 0;
-    while at < 10 && at < rest.len() && rest[at].is_ascii_digit() {
-        number = number
-            .wrapping_mul(10)
-            .wrapping_add(u32::from(rest[at] - b'0'));
+    while at < rest.len() {
+        let Some(digit) = digit_of(rest[at]) else {
+            break;
+        };
+        number = number.checked_mul(10)?.checked_add(digit)?;
         at += 1;
     }
-    number
+    Some((number, &rest[at..]))
 }
 
 // A number as it is written, and what is left after it.
 fn number(rest: &[u8]) -> Option<(u32, &[u8])>
     ensures { IfSome result (λ found. rest.now ≡ decimal found.0 ++ found.1.now) }
 {
-    let number = digits(rest);
-    let mut buffer = Buffer::new();
-    let left = after(rest, buffer.format(number).as_bytes())?;
-    Some((number, left))
+    let (first, left) = rest.split_first()?;
+    let digit = digit_of(*first)?;
+    if digit == 0 {
+        return Some((0, left));
+    }
+    longer(digit, left)
 }
 
 // Where the first quote stands.

@@ -8,7 +8,7 @@ use crate::event::Line;
 use crate::header::read_header;
 use crate::line::read_event;
 use crate::used::Used;
-use fed_io::{Fault, NoRoom};
+use fed_io::{Fault, NoRoom, Placed};
 use std::alloc::Global;
 use std::marker::Model;
 
@@ -34,7 +34,7 @@ fn head_line(alloc: Global, number: u32, line: &[u8]) -> Result<Line, NoRoom>
     ensures follows { IfOk result (LineMayFollow None) }
 {
     match read_header(alloc, line) {
-        Ok(header) => Ok(Line::Head(number, header)),
+        Ok(header) => Ok(Line::Head(number, Placed::new(alloc, header)?)),
         Err(Fault::Step(cause)) => Ok(Line::Bad(number, cause)),
         Err(Fault::NoRoom) => Err(NoRoom),
     }
@@ -45,7 +45,7 @@ fn used_after_head(alloc: Global, line: &Line) -> Option<Used>
     ensures { result ≡ used_by line.now None }
 {
     match line {
-        Line::Head(_, header) => Some(Used::new(alloc, header.now)),
+        Line::Head(_, header) => Some(Used::new(alloc, header.get().now)),
         _ => None,
     }
 }

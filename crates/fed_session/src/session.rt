@@ -150,7 +150,7 @@ impl Session {
             (λ page. length (resumed_calls (waiting_for self.old.tabs.table.waits) (lookup (nat_eq page) self.old.tabs.pages))) event.now }
     {
         match event {
-            Event::Have(have) => self.have(have),
+            Event::Have(have) => self.have(have.get()),
             Event::At { time } => {
                 self.sight.time = *time;
                 Ok(Items::new(self.alloc))
@@ -182,7 +182,7 @@ impl Session {
                 config,
                 client,
                 hint,
-            } => self.disconnect(line, *page, *call, config, client, hint, steps),
+            } => self.disconnect(line, *page, *call, config, client, hint.get(), steps),
             Event::Abort { .. }
             | Event::GoOn { .. }
             | Event::Cancel { .. }

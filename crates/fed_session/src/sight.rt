@@ -113,12 +113,15 @@ impl Sight {
     {
         match effect {
             Effect::SetLogin(origin, status) => self.login.set(origin, *status)?,
-            Effect::Keep(triple) => self.kept.add(triple.copy(alloc)?)?,
+            Effect::Keep(triple) => self.kept.add(triple.get().copy(alloc)?)?,
             Effect::Forget(triple) => {
+                let triple = triple.get();
                 self.kept
                     .remove(&triple.page, &triple.provider, &triple.account)
             }
-            Effect::ForgetPair(page, provider) => self.kept.remove_pair(page, provider),
+            Effect::ForgetPair(page, provider) => {
+                self.kept.remove_pair(page.get(), provider.get())
+            }
             Effect::ClearFlag(origin) => self.flags.clear(origin),
             Effect::Send(_, _)
             | Effect::Dialog(_)

@@ -1,5 +1,6 @@
 -- The numbers under which the names in kept permissions are known.
-use Rattle.std.specs.Prelude.{◌≡◌, ℕ, Bool, ◌&&◌, ◌==◌, List, position, bytes_eq, Option, Some, option_and_then, option_map}
+use Rattle.std.specs.Prelude.{◌≡◌, ℕ, ◌^◌, Bool, ◌&&◌, ◌==◌, nat_lt, List, position, bytes_eq, if◌then◌else◌}
+use Rattle.std.specs.Prelude.{Option, Some, None, option_and_then, option_map}
 use Rattle.fed_origin.specs.declared.origin.Origin.{Origin}
 use Rattle.fed_origin.specs.declared.status.Triple.{Triple}
 use Rattle.fed_origin.specs.Origin.{same_origin}
@@ -10,11 +11,15 @@ use Rattle.fed_status.specs.declared.place.Place.{Place}
 abbrev pub same_place : Place → Place → Bool
 same_place a b = a.page == b.page && (a.provider == b.provider && a.account == b.account)
 
+-- a number that 32 bits hold
+abbrev pub small : ℕ → Option ℕ
+small number = if nat_lt number (2 ^ 32) then Some number else None
+
 abbrev pub origin_number : Names → Origin → Option ℕ
-origin_number names origin = position (same_origin origin) names.origins.keys
+origin_number names origin = option_and_then small (position (same_origin origin) names.origins.keys)
 
 abbrev pub account_number : Names → List ℕ → Option ℕ
-account_number names account = position (bytes_eq account) names.accounts.keys
+account_number names account = option_and_then small (position (bytes_eq account) names.accounts.keys)
 
 -- the numbers of a permission's parts, where each has one
 abbrev pub place_of : Names → Triple → Option Place

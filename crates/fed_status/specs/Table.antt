@@ -2,8 +2,8 @@
 use Rattle.std.specs.Prelude.{◌≡◌, ℕ, List, fold, is_some}
 use Rattle.std.specs.List.{AllByRecursion, IsDistinct}
 use Rattle.std.specs.Map.{keys_of, values_of, lookup, remove_entry}
-use Rattle.indexmap.specs.IndexSet.{IndexSet}
 use Rattle.fed_origin.specs.declared.status.Triple.{Triple}
+use Rattle.fed_status.specs.declared.accounts.PairAccounts.{PairAccounts}
 use Rattle.fed_status.specs.declared.place.Pair.{Pair}
 use Rattle.fed_status.specs.declared.place.Place.{Place}
 use Rattle.fed_status.specs.declared.table.Table.{Table}
@@ -16,7 +16,7 @@ abbrev pub triples_of : Table → List Triple
 triples_of table = values_of table.kept
 
 -- the accounts that are listed are those of the permissions
-abbrev pub ArePairsOf : {S : Type 0} → List (Place × Triple) → List (Pair × IndexSet ℕ S) → Type 0
+abbrev pub ArePairsOf : List (Place × Triple) → List (Pair × PairAccounts) → Type 0
 ArePairsOf entries pairs = (place : Place) → is_listed pairs place ≡ is_some (lookup (same_place place) entries)
 
 -- the entries without those of these accounts, which go one after the other

@@ -1,6 +1,7 @@
 //! What the browser keeps of sign-ins: login statuses, kept permissions, prevent-silent flags.
 #![tactic(auto)]
 
+mod accounts;
 mod flags;
 mod kept;
 mod login;

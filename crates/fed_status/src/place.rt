@@ -2,19 +2,20 @@
 ghost use Rattle.std.specs.Prelude.{◌≡◌, [], Some, IfOk, position, bytes_eq};
 ghost use Rattle.fed_origin.specs.Origin.{same_origin};
 ghost use Rattle.fed_status.specs.Kept.{triple_of};
-ghost use Rattle.fed_status.specs.Place.{Grows, KeepsNumbers, place_of, pair_of, pair_at, place_in};
+ghost use Rattle.fed_status.specs.Place as spec;
+ghost use Rattle.fed_status.specs.Place.{Grows, KeepsNumbers, origin_number, place_of, pair_of, pair_at, place_in};
 
 use fed_io::{NoRoom, Text};
 use fed_origin::{Origin, Triple};
 use indexmap::IndexSet;
 use std::alloc::Global;
 
-/// The numbers of a permission's parts.
+/// The numbers of a permission's parts. 32 bits hold each, since no set has room for more names.
 #[derive(Clone, Copy, Eq, Hash)]
 pub struct Place {
-    pub page: usize,
-    pub provider: usize,
-    pub account: usize,
+    pub page: u32,
+    pub provider: u32,
+    pub account: u32,
 }
 
 impl PartialEq for Place {
@@ -45,8 +46,8 @@ impl Place {
 /// The numbers of a page's origin and a provider's.
 #[derive(Clone, Copy, Eq, Hash)]
 pub struct Pair {
-    pub page: usize,
-    pub provider: usize,
+    pub page: u32,
+    pub provider: u32,
 }
 
 impl PartialEq for Pair {
@@ -65,7 +66,7 @@ impl PartialEq for Pair {
 
 impl Pair {
     /// The numbers of an account of the pair.
-    pub fn place(self, account: usize) -> Place
+    pub fn place(self, account: u32) -> Place
         ensures { result ≡ place_in self account }
     {
         Place {
@@ -94,12 +95,19 @@ impl Names {
         }
     }
 
+    // The number of an origin, where it was ever named.
+    fn origin(&self, origin: &Origin) -> Option<u32>
+        ensures { result ≡ origin_number self.now origin.now }
+    {
+        small(self.origins.get_index_of(origin)?)
+    }
+
     /// The numbers of a page's origin and a provider's, where each was ever named.
     pub fn pair(&self, page: &Origin, provider: &Origin) -> Option<Pair>
         ensures { result ≡ pair_of self.now page.now provider.now }
     {
-        let page = self.origins.get_index_of(page)?;
-        let provider = self.origins.get_index_of(provider)?;
+        let page = self.origin(page)?;
+        let provider = self.origin(provider)?;
         Some(Pair { page, provider })
     }
 
@@ -107,9 +115,9 @@ impl Names {
     pub fn place(&self, page: &Origin, provider: &Origin, account: &Text) -> Option<Place>
         ensures { result ≡ place_of self.now (triple_of page.now provider.now account.now) }
     {
-        let page = self.origins.get_index_of(page)?;
-        let provider = self.origins.get_index_of(provider)?;
-        let account = self.accounts.get_index_of(account)?;
+        let page = self.origin(page)?;
+        let provider = self.origin(provider)?;
+        let account = small(self.accounts.get_index_of(account)?)?;
         Some(Place {
             page,
             provider,
@@ -126,9 +134,9 @@ impl Names {
         let provider = enter_origin(&mut self.origins, alloc, &triple.provider)?;
         let account = enter_account(&mut self.accounts, alloc, &triple.account)?;
         Ok(Place {
-            page,
-            provider,
-            account,
+            page: small(page).ok_or(NoRoom)?,
+            provider: small(provider).ok_or(NoRoom)?,
+            account: small(account).ok_or(NoRoom)?,
         })
     }
 }
@@ -163,4 +171,11 @@ fn enter_account(
     }
     let (number, _) = accounts.insert_full(account.copy(alloc)?)?;
     Ok(number)
+}
+
+// A number in 32 bits, where they hold it.
+fn small(number: usize) -> Option<u32>
+    ensures { result ≡ spec.small number }
+{
+    u32::try_from(number).ok()
 }

@@ -6,9 +6,11 @@ ghost use Rattle.std.specs.Option.{option_copied};
 ghost use Rattle.fed_entries.specs.Entries.{entries_in};
 ghost use Rattle.fed_status.specs.Kept as spec;
 ghost use Rattle.fed_status.specs.Kept.{triple_of, with_triple, without_triple, without_pair};
+ghost use Rattle.fed_status.specs.Pairs.{accounts_held};
 ghost use Rattle.fed_status.specs.Place.{place_of, same_place, is_at_pair};
 ghost use Rattle.fed_status.specs.Table.{IsTable, ArePairsOf, triples_of, without_accounts};
 
+use crate::accounts::PairAccounts;
 use crate::pairs::{Pairs, has_some, list, take, unlist};
 use crate::place::{Names, Pair, Place};
 use fed_entries::{Entries, Slots};
@@ -66,11 +68,10 @@ impl Table {
         ensures err { OnErr result (triples_of self.new ≡ triples_of self.old) }
         ensures table { IsTable self.new }
     {
-        if self.kept.has(place) {
+        if !list(&mut self.pairs, alloc, place)? {
             return Ok(());
         }
-        list(&mut self.pairs, alloc, place)?;
-        match self.kept.insert(place, triple) {
+        match self.kept.insert_new(place, triple) {
             Ok(()) => Ok(()),
             Err(NoRoom) => {
                 unlist(&mut self.pairs, place);
@@ -147,12 +148,23 @@ fn forget(kept: &mut Entries<Place, Triple>, pairs: &mut Pairs, pair: Pair)
     ensures pairs { ArePairsOf kept.new pairs.new.entries }
 {
     if let Some(accounts) = take(pairs, pair) {
-        remove_each(kept, pair, &accounts);
+        remove_held(kept, pair, &accounts);
+    }
+}
+
+// Removes the permissions of a pair for the accounts that it holds.
+fn remove_held(kept: &mut Entries<Place, Triple>, pair: Pair, accounts: &PairAccounts)
+    ensures { kept.new ≡ without_accounts pair (accounts_held accounts.now) kept.old }
+{
+    match accounts {
+        PairAccounts::Empty => {}
+        PairAccounts::One(account) => kept.remove(pair.place(*account)),
+        PairAccounts::Many(accounts) => remove_each(kept, pair, accounts),
     }
 }
 
 // Removes the permissions of a pair for these accounts.
-fn remove_each(kept: &mut Entries<Place, Triple>, pair: Pair, accounts: &IndexSet<usize>)
+fn remove_each(kept: &mut Entries<Place, Triple>, pair: Pair, accounts: &IndexSet<u32>)
     ensures { kept.new ≡ without_accounts pair accounts.now.keys kept.old }
 {
     for account in accounts.iter() {

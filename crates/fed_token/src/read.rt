@@ -51,7 +51,7 @@ pub fn read_disconnect(alloc: Global, raw: &[u8], origin: &Origin) -> Result<Tex
 // The JSON value of a reply that a page of the origin may read: it has the two fields that `cors_passes` asks for.
 fn checked_json<'a>(
     alloc: Global,
-    raw: &[u8],
+    raw: &'a [u8],
     origin: &Origin,
     buffer: &'a mut JsonBuffer,
 ) -> Result<Tape<'a>, Fault<TokenStep>>

@@ -1,7 +1,7 @@
 //! Records of a step.
 
-use fed_consent::{Finish, PlacedDialog, Why};
-use fed_io::Bytes;
+use fed_consent::{Dialog, Finish, Why};
+use fed_io::{Bytes, Placed};
 use fed_origin::{ReplyKind, WebUrl};
 
 /// A record, with the number of the line whose event it comes from.
@@ -19,7 +19,7 @@ pub enum Out {
     Dialog {
         line: u32,
         call: u32,
-        dialog: PlacedDialog,
+        dialog: Placed<Dialog>,
     },
     /// The login window of the provider at this place in the call's list opens at this URL.
     Window {

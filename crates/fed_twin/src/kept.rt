@@ -12,7 +12,7 @@ pub fn is_kept(event: &Event) -> bool
 {
     match event {
         Event::Reply { kind, .. } => *kind != ReplyKind::Metadata,
-        Event::Have(Have::Kept(_)) => false,
+        Event::Have(have) => !matches!(have.get(), Have::Kept(_)),
         _ => true,
     }
 }

@@ -1,6 +1,7 @@
 //! The clause of the twin test on loads, and the origins that events name.
 ghost use Rattle.std.specs.Prelude.{◌≡◌, ◌↔◌, Some, IsTrue, IfOk};
 ghost use Rattle.fed_twin.specs.Clauses.{known_by, AreFarOrigins};
+ghost use Rattle.fed_script.specs.declared.event.Event.TheVariants as events;
 ghost use Rattle.fed_twin.specs.Twin as spec;
 ghost use Rattle.fed_twin.specs.Twin.{SharesLoad, both_named};
 
@@ -20,7 +21,17 @@ fn origin_named(alloc: Global, event: &Event) -> Result<Option<Origin>, NoRoom>
             let origin = Origin::of_url(alloc, url)?;
             Ok(Some(origin))
         }
-        Event::Have(Have::Silent { origin }) => {
+        Event::Have(have) => silent_origin(alloc, have.get()),
+        _ => Ok(None),
+    }
+}
+
+// The origin of a flag from before.
+fn silent_origin(alloc: Global, have: &Have) -> Result<Option<Origin>, NoRoom>
+    ensures { IfOk result (λ origin. origin ≡ spec.origin_named (events.Have have.now)) }
+{
+    match have {
+        Have::Silent { origin } => {
             let origin = origin.copy(alloc)?;
             Ok(Some(origin))
         }

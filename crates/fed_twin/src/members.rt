@@ -3,16 +3,16 @@ ghost use Rattle.std.specs.Prelude.{◌≡◌, ◌↔◌, IsTrue};
 ghost use Rattle.std.specs.List.{AllZip};
 ghost use Rattle.fed_twin.specs.Twin.{SharesProvider, SharesOptions, SharesBytes, SharesHave, SharesMembers};
 
-use fed_io::{Bytes, Text};
+use fed_io::{Bytes, Placed, Text};
 use fed_origin::{GetOptions, ProviderOptions, ReplyKind};
 use fed_script::{Event, Have};
 
 // Two optional texts are equal.
-fn same_text(a: &Option<Text>, b: &Option<Text>) -> bool
+fn same_text(a: &Option<Placed<Text>>, b: &Option<Placed<Text>>) -> bool
     ensures { IsTrue result ↔ (a.now ≡ b.now) }
 {
     match (a, b) {
-        (Some(a), Some(b)) => *a == *b,
+        (Some(a), Some(b)) => *a.get() == *b.get(),
         (None, None) => true,
         (Some(_), None) | (None, Some(_)) => false,
     }
@@ -92,7 +92,7 @@ pub fn same_members(a: &Event, b: &Event) -> bool
     ensures { IsTrue result ↔ SharesMembers a.now b.now }
 {
     match (a, b) {
-        (Event::Have(a), Event::Have(b)) => same_have(a, b),
+        (Event::Have(a), Event::Have(b)) => same_have(a.get(), b.get()),
         (Event::At { time }, Event::At { time: other }) => *time == *other,
         (Event::ClosePage { page }, Event::ClosePage { page: other }) => *page == *other,
         (
@@ -165,7 +165,10 @@ pub fn same_members(a: &Event, b: &Event) -> bool
                 client: _,
                 hint: said,
             },
-        ) => *page == *other && *call == *number && config.is_same(url) && *hint == *said,
+        ) => *page == *other
+            && *call == *number
+            && config.is_same(url)
+            && *hint.get() == *said.get(),
         _ => true,
     }
 }

@@ -79,7 +79,7 @@ fn pair_word(first: &Effect, second: &Effect) -> &'static str {
 fn logged_out_word(effect: &Effect) -> &'static str {
     match effect {
         Effect::Finish(finish) => finish_word(finish),
-        Effect::Dialog(dialog) => mismatch_word(dialog.as_dialog()),
+        Effect::Dialog(dialog) => mismatch_word(dialog.get()),
         Effect::Window(0, url) => window_word(url.as_str()),
         _ => "else",
     }
@@ -87,7 +87,7 @@ fn logged_out_word(effect: &Effect) -> &'static str {
 
 fn logged_in_word(effect: &Effect) -> &'static str {
     match effect {
-        Effect::Dialog(dialog) => dialog_word(dialog.as_dialog()),
+        Effect::Dialog(dialog) => dialog_word(dialog.get()),
         Effect::Send(0, ask) => ask_word(ask),
         Effect::Finish(finish) => finish_word(finish),
         _ => "else",
@@ -113,7 +113,7 @@ fn effect_word(effect: &Effect) -> &'static str {
     match effect {
         Effect::Send(0, ask) => ask_word(ask),
         Effect::Finish(finish) => finish_word(finish),
-        Effect::Dialog(dialog) => dialog_word(dialog.as_dialog()),
+        Effect::Dialog(dialog) => dialog_word(dialog.get()),
         Effect::Window(0, url) => window_word(url.as_str()),
         Effect::Ignored(why) => why.as_str(),
         _ => "else",

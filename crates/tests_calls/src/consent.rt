@@ -7,7 +7,7 @@ use fed_accounts::{Accounts, read_accounts, reselect};
 use fed_consent::{
     Ask, Chooser, Consent, Detail, FailStep, Failure, Finish, Picked, Prompt, Reselection, Why,
 };
-use fed_io::{Items, NoRoom, Text};
+use fed_io::{Items, NoRoom, Placed, Text};
 use fed_origin::{Endpoint, Mediation, Origin, ProviderOptions, ReplyKind};
 use fed_reply::ReplyStep;
 use std::alloc::Global;
@@ -17,7 +17,7 @@ fn metadata(alloc: Global) -> Result<Ask, NoRoom> {
     let to = url(alloc, "https://accounts.idp.example/client")?;
     Ok(Ask::Metadata {
         client: Text::of(alloc, "c1")?,
-        origin: Origin::of_url(alloc, &to)?,
+        origin: Placed::new(alloc, Origin::of_url(alloc, &to)?)?,
         to,
     })
 }

@@ -40,7 +40,7 @@ fn pair_done(first: &Effect, second: &Effect) -> Done {
     match first {
         Effect::Send(0, Ask::WellKnown { .. }) => only(after_wellknown_word(second)),
         Effect::Forget(triple) => Done {
-            gone: account_word(triple.account.as_str()),
+            gone: account_word(triple.get().account.as_str()),
             ..effect_done(second)
         },
         Effect::ForgetPair(_, _) => Done {
@@ -79,7 +79,7 @@ fn ask_word(ask: &Ask) -> &'static str {
             client,
             hint,
             ..
-        } => asked_word(to.as_str(), client.as_str(), hint.as_str()),
+        } => asked_word(to.as_str(), client.as_str(), hint.get().as_str()),
         _ => "else",
     }
 }

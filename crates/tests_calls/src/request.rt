@@ -7,7 +7,7 @@ use crate::lines::assert_so;
 use crate::values::{PAGE, origin_of, provider_with_nonce, url};
 use fed_accounts::{Accounts, read_accounts};
 use fed_consent::{Ask, Consent, Prompt};
-use fed_io::{NoRoom, Text};
+use fed_io::{NoRoom, Placed, Text};
 use fed_origin::{Origin, ProviderOptions, WebUrl};
 use fed_request::build;
 use std::alloc::Global;
@@ -81,7 +81,7 @@ fn metadata_is(
 ) -> Result<bool, NoRoom> {
     let to = url(alloc, endpoint)?;
     let client = Text::of(alloc, client)?;
-    let origin = origin_of(alloc, PAGE)?;
+    let origin = Placed::new(alloc, origin_of(alloc, PAGE)?)?;
     has_bytes(alloc, &Ask::Metadata { to, client, origin }, b"", expected)
 }
 
@@ -91,8 +91,8 @@ fn disconnect(alloc: Global) -> Result<Ask, NoRoom>
     Ok(Ask::Disconnect {
         to: url(alloc, "https://accounts.idp.example/bye")?,
         client: Text::of(alloc, "c1")?,
-        hint: Text::of(alloc, "u1")?,
-        origin: origin_of(alloc, PAGE)?,
+        hint: Placed::new(alloc, Text::of(alloc, "u1")?)?,
+        origin: Placed::new(alloc, origin_of(alloc, PAGE)?)?,
     })
 }
 

@@ -1,5 +1,5 @@
 //! What tests of consents, requests and calls share: URLs, origins, and what a page asks of a provider.
-use fed_io::{NoRoom, Text};
+use fed_io::{NoRoom, Text, placed_text};
 use fed_origin::{Origin, ProviderOptions, WebUrl};
 use std::alloc::Global;
 
@@ -52,6 +52,6 @@ pub fn provider(alloc: Global, config: &str) -> Result<ProviderOptions, NoRoom> 
 // The same, with a nonce.
 pub fn provider_with_nonce(alloc: Global) -> Result<ProviderOptions, NoRoom> {
     let mut provider = provider(alloc, CONFIG)?;
-    provider.nonce = Some(Text::of(alloc, "n1")?);
+    provider.nonce = placed_text(alloc, Some("n1"))?;
     Ok(provider)
 }

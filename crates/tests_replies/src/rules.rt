@@ -83,18 +83,18 @@ fn files_are_kept_by_url_and_bytes(rt: HostRuntime) -> Result<(), Fail> {
 fn a_later_site_takes_the_place(rt: HostRuntime) -> Result<(), Fail> {
     let mut rules = Rules::new(rt.alloc(), Suffixes::new(rt.alloc()));
     let members = ok(rt.alloc(), MEMBERS)?;
-    let first = WebUrl::read(rt.alloc(), "https://p0.example/f.json")?;
-    let later = WebUrl::read(rt.alloc(), "https://p187.example/f.json")?;
+    let first = WebUrl::read(rt.alloc(), "https://p4.example/f.json")?;
+    let later = WebUrl::read(rt.alloc(), "https://p76.example/f.json")?;
     assert!(rt; slot_of(first.as_str()) == slot_of(later.as_str()));
     ask(rt.alloc(), &mut rules, &first)?;
     learn(rt.alloc(), &mut rules, &first, members.as_str())?;
-    assert!(rt; configuration(&rules, &first, members.as_str()) == "https://p0.example/l");
+    assert!(rt; configuration(&rules, &first, members.as_str()) == "https://p4.example/l");
     ask(rt.alloc(), &mut rules, &later)?;
     assert!(rt; configuration(&rules, &first, members.as_str()) == "nothing");
     learn(rt.alloc(), &mut rules, &first, members.as_str())?;
     assert!(rt; configuration(&rules, &first, members.as_str()) == "nothing");
     learn(rt.alloc(), &mut rules, &later, members.as_str())?;
-    assert!(rt; configuration(&rules, &later, members.as_str()) == "https://p187.example/l");
+    assert!(rt; configuration(&rules, &later, members.as_str()) == "https://p76.example/l");
     Ok(())
 }
 

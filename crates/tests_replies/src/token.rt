@@ -15,8 +15,8 @@ use std::test::Fail;
 const FIELDS: &str =
     r#""T1" | Access-Control-Allow-Origin: https://rp.example~Access-Control-Allow-Credentials: true~
 "T1" | access-control-allow-credentials:true~ACCESS-CONTROL-ALLOW-ORIGIN:  https://rp.example ~
-"T1" | a:1~b:1~c:1~d:1~e:1~f:1~g:1~h:1~i:1~j:1~k:1~l:1~m:1~n:1~o:1~p:1~Access-Control-Allow-Origin: https://rp.example~Access-Control-Allow-Credentials: true~
-cors | a:1~b:1~c:1~d:1~e:1~f:1~g:1~h:1~i:1~j:1~k:1~l:1~m:1~n:1~o:1~p:1~Access-Control-Allow-Origin: https://rp.example~Access-Control-Allow-Credentials: false~
+"T1" | a:~b:~c:~d:~e:~f:~g:~h:~i:~j:~k:~l:~m:~n:~o:~p:~Access-Control-Allow-Origin: https://rp.example~Access-Control-Allow-Credentials: true~
+cors | a:~b:~c:~d:~e:~f:~g:~h:~i:~j:~k:~l:~m:~n:~o:~p:~Access-Control-Allow-Origin: https://rp.example~Access-Control-Allow-Credentials: false~
 cors | Access-Control-Allow-Origin: *~Access-Control-Allow-Credentials: true~
 cors | Access-Control-Allow-Origin: https://rp.example~Access-Control-Allow-Origin: *~Access-Control-Allow-Credentials: true~
 cors | Access-Control-Allow-Origin: https://rp.example~

@@ -1,6 +1,6 @@
 //! The lines of records, most of them those of the worked scripts.
-use fed_consent::{Detail, Dialog, FailStep, Failure, Finish, PlacedDialog, Shown, Why};
-use fed_io::{Bytes, Items, NoRoom, Text};
+use fed_consent::{Detail, Dialog, FailStep, Failure, Finish, Shown, Why};
+use fed_io::{Bytes, Items, NoRoom, Placed, Text};
 use fed_origin::{Context, ReplyKind, WebUrl};
 use fed_print::{RecordLines, print};
 use fed_reply::ReplyStep;
@@ -125,7 +125,7 @@ fn choose(alloc: Global, ann: Shown, bob: Shown, context: Context) -> Result<Out
     Ok(Out::Dialog {
         line: 6,
         call: 1,
-        dialog: PlacedDialog::new(alloc, dialog)?,
+        dialog: Placed::new(alloc, dialog)?,
     })
 }
 
@@ -173,7 +173,7 @@ fn prompt(
     Ok(Out::Dialog {
         line: 8,
         call: 1,
-        dialog: PlacedDialog::new(alloc, dialog)?,
+        dialog: Placed::new(alloc, dialog)?,
     })
 }
 
@@ -220,7 +220,7 @@ fn mismatches(rt: HostRuntime) -> Result<(), Fail> {
     let out = Out::Dialog {
         line: 7,
         call: 1,
-        dialog: PlacedDialog::new(rt.alloc(), dialog)?,
+        dialog: Placed::new(rt.alloc(), dialog)?,
     };
     let line =
         "{\"call\":1,\"detail\":\"status\",\"dialog\":\"mismatch\",\"line\":7,\"out\":\"dialog\",\"provider\":0,\"site\":\"rp.example\",\"step\":\"accounts-reply\"}\n";

@@ -127,7 +127,7 @@ fn names_next(alloc: Global, used: &mut Used, call: u32, config: &str) -> Result
 // The first two have one place among the configuration URLs that are kept.
 #[test]
 fn configuration_urls_in_turn(rt: HostRuntime) -> Result<(), Fail> {
-    let (first, later) = ("https://p0.example/f.json", "https://p187.example/f.json");
+    let (first, later) = ("https://p4.example/f.json", "https://p76.example/f.json");
     assert!(rt; slot_of(first) == slot_of(later));
     let mut used = Used::new(rt.alloc(), 0);
     let _load = read_event(rt.alloc(), LOAD.as_bytes(), &mut used);
@@ -160,9 +160,13 @@ fn loads_and_gets(rt: HostRuntime) {
 // Whether an event is what the line COOKIE says.
 fn has_cookie(event: &Event) -> bool {
     match event {
-        Event::Have(Have::Cookie { url, field }) => {
-            url.as_str() == "https://rp.example/a" && field.as_slice() == b"x=1; Secure".as_slice()
-        }
+        Event::Have(have) => match have.get() {
+            Have::Cookie { url, field } => {
+                url.as_str() == "https://rp.example/a"
+                    && field.as_slice() == b"x=1; Secure".as_slice()
+            }
+            _ => false,
+        },
         _ => false,
     }
 }
@@ -177,12 +181,15 @@ fn is_cookie(alloc: Global) -> bool {
 // Whether an event is what the line LOGIN says.
 fn has_login(event: &Event) -> bool {
     match event {
-        Event::Have(Have::Login { origin, status }) => {
-            origin.scheme == Scheme::Https
-                && origin.host.text.as_str() == "idp.example"
-                && origin.port == 8443
-                && *status == LoginStatus::LoggedOut
-        }
+        Event::Have(have) => match have.get() {
+            Have::Login { origin, status } => {
+                origin.scheme == Scheme::Https
+                    && origin.host.text.as_str() == "idp.example"
+                    && origin.port == 8443
+                    && *status == LoginStatus::LoggedOut
+            }
+            _ => false,
+        },
         _ => false,
     }
 }

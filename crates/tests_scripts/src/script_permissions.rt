@@ -18,13 +18,16 @@ const DISCONNECT: &str =
 // Whether an event is what the line KEPT says.
 fn keeps(event: Option<&Event>) -> bool {
     match event {
-        Some(Event::Have(Have::Kept(triple))) => {
-            triple.page.host.text.as_str() == "rp.example"
-                && triple.page.port == 443
-                && triple.provider.host.text.as_str() == "idp.example"
-                && triple.provider.port == 8443
-                && triple.account.as_str() == "u1"
-        }
+        Some(Event::Have(have)) => match have.get() {
+            Have::Kept(triple) => {
+                triple.page.host.text.as_str() == "rp.example"
+                    && triple.page.port == 443
+                    && triple.provider.host.text.as_str() == "idp.example"
+                    && triple.provider.port == 8443
+                    && triple.account.as_str() == "u1"
+            }
+            _ => false,
+        },
         _ => false,
     }
 }
@@ -32,9 +35,12 @@ fn keeps(event: Option<&Event>) -> bool {
 // Whether an event is what the line SILENT says.
 fn is_silent(event: Option<&Event>) -> bool {
     match event {
-        Some(Event::Have(Have::Silent { origin })) => {
-            origin.host.text.as_str() == "localhost" && origin.port == 80
-        }
+        Some(Event::Have(have)) => match have.get() {
+            Have::Silent { origin } => {
+                origin.host.text.as_str() == "localhost" && origin.port == 80
+            }
+            _ => false,
+        },
         _ => false,
     }
 }
@@ -54,7 +60,7 @@ fn disconnects(event: Option<&Event>) -> bool {
             (*page, *call) == (1, 2)
                 && config.as_str() == "https://idp.example/f?g"
                 && client.as_str() == "c1"
-                && hint.as_str() == "u1"
+                && hint.get().as_str() == "u1"
         }
         _ => false,
     }

@@ -1,7 +1,7 @@
 //! URLs that are read or refused, their parts, joins, origins and hosts, one case a line.
 use crate::lines::{assert_so, parts};
 use crate::values::{origin_of, triple, url};
-use fed_io::{Fault, Items, NoRoom, Text};
+use fed_io::{Fault, Items, NoRoom, Text, placed_text};
 use fed_origin::{
     Context, GetOptions, HostKind, Mediation, Mode, Origin, ProviderOptions, UrlRefusal, WebUrl,
 };
@@ -253,11 +253,10 @@ fn origins_are_written_and_trusted(rt: HostRuntime) -> Result<(), Fail> {
 fn provider(alloc: Global) -> Result<ProviderOptions, NoRoom> {
     let config = url(alloc, "https://idp.example/f.json")?;
     let client = Text::of(alloc, "c1")?;
-    let nonce = Text::of(alloc, "n1")?;
     Ok(ProviderOptions {
         config,
         client,
-        nonce: Some(nonce),
+        nonce: placed_text(alloc, Some("n1"))?,
         login_hint: None,
         domain_hint: None,
         params: None,

@@ -4,7 +4,7 @@ ghost use Rattle.std.specs.Option.{option_copied};
 ghost use Rattle.fed_consent.specs.Consent.{assertion_fields, is_auto};
 
 use super::{Consent, Manner};
-use fed_io::{NoRoom, Text, copy_text};
+use fed_io::{NoRoom, Placed, Text, copy_placed, lent_text};
 use fed_origin::{Origin, ProviderOptions, WebUrl};
 use std::alloc::Global;
 use std::marker::Model;
@@ -20,8 +20,8 @@ pub struct Fields {
     to: WebUrl,
     origin: Origin,
     client: Text,
-    nonce: Option<Text>,
-    params: Option<Text>,
+    nonce: Option<Placed<Text>>,
+    params: Option<Placed<Text>>,
     account: Text,
     disclosure: bool,
     manner: Manner,
@@ -90,8 +90,8 @@ impl AssertionAsk {
             to: to.copy(alloc)?,
             origin: origin.copy(alloc)?,
             client: options.client.copy(alloc)?,
-            nonce: copy_text(alloc, &options.nonce)?,
-            params: copy_text(alloc, &options.params)?,
+            nonce: copy_placed(alloc, &options.nonce)?,
+            params: copy_placed(alloc, &options.params)?,
             account: consent.account.id.copy(alloc)?,
             disclosure: consent.disclosure,
             manner: consent.manner,
@@ -126,14 +126,14 @@ impl AssertionAsk {
     pub fn nonce(&self) -> Option<&Text>
         ensures { option_copied result ≡ self.now.nonce }
     {
-        self.inner.nonce.as_ref()
+        lent_text(&self.inner.nonce)
     }
 
     /// What the call gave for the provider, if it gave something. It takes no memory.
     pub fn params(&self) -> Option<&Text>
         ensures { option_copied result ≡ self.now.params }
     {
-        self.inner.params.as_ref()
+        lent_text(&self.inner.params)
     }
 
     /// The account's id. It takes no memory.

@@ -4,10 +4,11 @@ ghost use Rattle.std.specs.Option.{option_copied};
 ghost use Rattle.fed_consent.specs.Ask.{kind_of, url_of, named_origin};
 
 use crate::AssertionAsk;
-use fed_io::Text;
+use fed_io::{Placed, Text};
 use fed_origin::{Origin, ReplyKind, WebUrl};
 
-/// A request of a call, with the URL that it goes to (FedCM, "Identity provider HTTP API").
+/// A request of a call, with the URL that it goes to (FedCM, "Identity provider HTTP API"). What is large has a place of its own, since
+/// each request is moved several times.
 pub enum Ask {
     /// For the well-known file of the configuration URL's site.
     WellKnown {
@@ -25,7 +26,7 @@ pub enum Ask {
     Metadata {
         to: WebUrl,
         client: Text,
-        origin: Origin,
+        origin: Placed<Origin>,
     },
     /// For a token. It names the page, the client and the account.
     Assertion(AssertionAsk),
@@ -33,8 +34,8 @@ pub enum Ask {
     Disconnect {
         to: WebUrl,
         client: Text,
-        hint: Text,
-        origin: Origin,
+        hint: Placed<Text>,
+        origin: Placed<Origin>,
     },
 }
 
@@ -96,9 +97,9 @@ impl Ask {
     {
         match self {
             Ask::WellKnown { .. } | Ask::Config { .. } | Ask::Accounts { .. } => None,
-            Ask::Metadata { origin, .. } => Some(origin),
+            Ask::Metadata { origin, .. } => Some(origin.get()),
             Ask::Assertion(ask) => Some(ask.origin()),
-            Ask::Disconnect { origin, .. } => Some(origin),
+            Ask::Disconnect { origin, .. } => Some(origin.get()),
         }
     }
 }

@@ -1,11 +1,7 @@
 //! What the user is shown.
-ghost use Rattle.std.specs.Prelude.{◌≡◌, IfOk};
-
 use super::Failure;
-use fed_io::{Items, NoRoom, Text};
+use fed_io::{Items, Text};
 use fed_origin::Context;
-use std::alloc::Global;
-use std::marker::Model;
 
 /// An account as a dialog shows it.
 #[derive(Drop)]
@@ -50,37 +46,4 @@ pub enum Dialog {
         site: Text,
         failure: Failure,
     },
-}
-
-/// A dialog in a place of its own, so that an effect and a record, which are moved often, have no room for a whole one.
-/// Contracts see the dialog.
-#[derive(Drop)]
-pub struct PlacedDialog {
-    inner: Box<Dialog>,
-}
-
-impl Model for PlacedDialog {
-    ghost use Rattle.fed_consent.specs.declared.table.dialog.Dialog.{Dialog};
-
-    ghost Value = { Dialog };
-
-    ghost view = { λ d. d.inner.value };
-}
-
-impl PlacedDialog {
-    /// The dialog in a place of its own.
-    pub fn new(alloc: Global, dialog: Dialog) -> Result<PlacedDialog, NoRoom>
-        ensures { IfOk result (λ placed. placed ≡ dialog) }
-    {
-        Ok(PlacedDialog {
-            inner: Box::new(alloc, dialog)?,
-        })
-    }
-
-    /// The dialog.
-    pub fn as_dialog(&self) -> &Dialog
-        ensures { result.now ≡ self.now }
-    {
-        &self.inner
-    }
 }

@@ -176,6 +176,11 @@ module _ {K V : Type 0} (same : K → K → Bool) where
       value_written (same key) (λ n v. v) value number slots found apart
       ∙ insert_found same key value (entries_in slots) (sym (found_agree (same key) slots) ∙ ap is_some found)
 
+  -- where a key has no value, it has no number
+  pub no_number : (entered : List (K × ℕ)) (slots : List (Slot K V)) (next : ℕ) (key : K) → AreEntries same entered slots next
+      → is_some (lookup (same key) (entries_in slots)) ≡ false → lookup (same key) entered ≡ None
+  no_number entered slots next key h absent = h.found key ∙ none_of _ (found_agree (same key) slots ∙ absent)
+
   -- what is put last
   pub put_now : (entered : List (K × ℕ)) (old closed new : List (Slot K V)) (next : ℕ) (key : K) (value : V)
       → AreEntries same entered old next → lookup (same key) entered ≡ None → entries_in closed ≡ entries_in old

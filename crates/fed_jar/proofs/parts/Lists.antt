@@ -1,8 +1,8 @@
 -- Entries of the jar's map as plain lists.
-use Rattle.std.proofs.Common.{◌≡◌, ℕ, Bool, true, false, cond, ◌||◌, List, [], ◌∷◌, ◌++◌, Option, Some, None, sym, refl, ap, ◌∙◌}
-use Rattle.std.specs.Prelude.{bytes_eq, option_map, is_some, find}
+use Rattle.std.proofs.Common.{◌≡◌, ℕ, Bool, true, false, cond, ◌||◌, List, [], ◌∷◌, ◌++◌, Some, None, sym, refl, ap, ◌∙◌}
+use Rattle.std.specs.Prelude.{bytes_eq, option_map, find}
 use Rattle.std.specs.List.{list_any}
-use Rattle.std.specs.Map.{lookup, set_value}
+use Rattle.std.specs.Map.{lookup}
 use Rattle.std.specs.Option.{option_map_or}
 use Rattle.std.specs.Set.{swap_key}
 use Rattle.indexmap.specs.IndexMap.{insert_entry}
@@ -113,44 +113,6 @@ listed_none {K} {S} text name (l ∷ es) e = pick (bytes_eq name (text l.0)) (li
     pick true h e = absurd (cc)
     pick false h e = h e
 
--- a cookie more in the list of a party that stands
-pub put_more : {K S : Type 0} (text : K → List ℕ) (name : List ℕ) (new : Numbered) (es : List (K × IndexSet Numbered S))
-    (s t : IndexSet Numbered S) → lookup (λ k. bytes_eq name (text k)) es ≡ Some s → t.keys ≡ put_numbered s.keys new
-    → lists_of text (set_value (λ k. bytes_eq name (text k)) es t) ≡ put_under name (lists_of text es) new
-put_more text name new [] s t e same = absurd (cc)
-put_more {K} {S} text name new (l ∷ es) s t e same =
-    pick (bytes_eq name (text l.0)) (λ f. put_more text name new es s t f same) e
-  where
-    pick : (b : Bool)
-        → (lookup (λ k. bytes_eq name (text k)) es ≡ Some s
-        → lists_of text (set_value (λ k. bytes_eq name (text k)) es t) ≡ put_under name (lists_of text es) new)
-        → cond b (Some l.1) (lookup (λ k. bytes_eq name (text k)) es) ≡ Some s
-        → lists_of text (cond b ((l.0, t) ∷ es) (l ∷ set_value (λ k. bytes_eq name (text k)) es t))
-        ≡ cond b ((text l.0, put_numbered l.1.keys new) ∷ lists_of text es) ((text l.0, l.1.keys) ∷ put_under name (lists_of text es) new)
-    pick true h e =
-        let keys : t.keys ≡ put_numbered l.1.keys new =
-        same ∙ ap (λ (u : IndexSet Numbered S). put_numbered u.keys new) (sym (alike l.1 s e)) in
-        λ i. (text l.0, keys i) ∷ lists_of text es
-    pick false h e = ap (λ rest. (text l.0, l.1.keys) ∷ rest) (h e)
-
--- the lists stay where the party's does
-pub put_nothing : {K S : Type 0} (text : K → List ℕ) (name : List ℕ) (es : List (K × IndexSet Numbered S)) (s t : IndexSet Numbered S)
-    → lookup (λ k. bytes_eq name (text k)) es ≡ Some s → t.keys ≡ s.keys
-    → lists_of text (set_value (λ k. bytes_eq name (text k)) es t) ≡ lists_of text es
-put_nothing text name [] s t e same = absurd (cc)
-put_nothing {K} {S} text name (l ∷ es) s t e same = pick (bytes_eq name (text l.0)) (λ f. put_nothing text name es s t f same) e
-  where
-    pick : (b : Bool)
-        → (lookup (λ k. bytes_eq name (text k)) es ≡ Some s
-        → lists_of text (set_value (λ k. bytes_eq name (text k)) es t) ≡ lists_of text es)
-        → cond b (Some l.1) (lookup (λ k. bytes_eq name (text k)) es) ≡ Some s
-        → lists_of text (cond b ((l.0, t) ∷ es) (l ∷ set_value (λ k. bytes_eq name (text k)) es t))
-        ≡ (text l.0, l.1.keys) ∷ lists_of text es
-    pick true h e =
-        let keys : t.keys ≡ l.1.keys = same ∙ ap (λ (u : IndexSet Numbered S). u.keys) (sym (alike l.1 s e)) in
-        λ i. (text l.0, keys i) ∷ lists_of text es
-    pick false h e = ap (λ rest. (text l.0, l.1.keys) ∷ rest) (h e)
-
 -- a party with its first cookie
 pub put_first : {K S : Type 0} (text : K → List ℕ) (name : List ℕ) (new : Numbered) (es : List (K × IndexSet Numbered S)) (k : K)
     (s : IndexSet Numbered S) → lookup (λ k. bytes_eq name (text k)) es ≡ None → text k ≡ name → s.keys ≡ new ∷ []
@@ -169,7 +131,3 @@ put_first {K} {S} text name new (l ∷ es) k s e named one =
         ≡ cond b ((text l.0, put_numbered l.1.keys new) ∷ lists_of text es) ((text l.0, l.1.keys) ∷ put_under name (lists_of text es) new)
     pick true h e = absurd (cc)
     pick false h e = ap (λ rest. (text l.0, l.1.keys) ∷ rest) (h e)
-
-pub no_entry : {X : Type 0} (o : Option X) → is_some o ≡ false → o ≡ None
-no_entry None e = refl
-no_entry (Some x) e = absurd (cc)

@@ -18,8 +18,8 @@ use Rattle.fed_reply.specs.Fields.{fields_of, value_at}
 use Rattle.fed_reply.specs.Body.{framed, body_of}
 use Rattle.fed_reply.specs.Steps.{and_then, with_ok}
 use Rattle.fed_reply.specs.Reply.{FrontOf, ReplyOf, reply_with}
-use Rattle.fed_reply.specs.Json.{is_success, is_json_type, JsonOf, ReplyJsonOf, json_with, ReplyJsonWith, refusal, body_value, unless_refused}
-use Rattle.fed_reply.specs.Json.{IsJsonHeadOf}
+use Rattle.fed_reply.specs.Json.{is_success, is_json_type, JsonOf, ReplyJsonOf, json_with, ReplyJsonWith, refusal, body_value}
+use Rattle.fed_reply.specs.Json.{unless_refused, IsJsonHeadOf}
 
 -- ---- of a reply
 
@@ -89,16 +89,17 @@ json_at raw h found body at =
     ∙ ap (λ n. unless_refused (refusal n found.is_json) body) (sym at.status)
 
 -- the value, by the head and the body that were read
-pub json_is : {only : List FieldPair} (raw rest : List ℕ) (h : HeadParts) (found : JsonHead) (body : List ℕ) → FrontOf raw ≡ Ok h
-    → IsJsonHeadOf only raw h found → rest ≡ drop found.len raw → and_then (framed rest) found.framing ≡ Ok body
+pub json_is : {only : List FieldPair} (raw rest : List ℕ) (h : HeadParts) (found : JsonHead) (body : List ℕ)
+    → FrontOf raw ≡ Ok h → IsJsonHeadOf only raw h found → rest ≡ drop found.len raw → and_then (framed rest) found.framing ≡ Ok body
     → ReplyJsonOf raw ≡ unless_refused (refusal found.status found.is_json) body
 json_is raw rest h found body e at same read =
     ap (and_then JsonOf) (reply_is raw rest h found (Ok body) e at same read) ∙ json_at raw h found body at
 
 -- the same, where fields are asked for
-pub json_with_is : (only : List FieldPair) (raw rest : List ℕ) (h : HeadParts) (found : JsonHead) (body : List ℕ) → FrontOf raw ≡ Ok h
-    → IsJsonHeadOf only raw h found → rest ≡ drop found.len raw → and_then (framed rest) found.framing ≡ Ok body
-    → ReplyJsonWith only raw ≡ (if found.has_each then with_ok Some (unless_refused (refusal found.status found.is_json) body) else Ok None)
+pub json_with_is : (only : List FieldPair) (raw rest : List ℕ) (h : HeadParts) (found : JsonHead) (body : List ℕ)
+    → FrontOf raw ≡ Ok h → IsJsonHeadOf only raw h found → rest ≡ drop found.len raw → and_then (framed rest) found.framing ≡ Ok body
+    → ReplyJsonWith only raw
+    ≡ (if found.has_each then with_ok Some (unless_refused (refusal found.status found.is_json) body) else Ok None)
 json_with_is only raw rest h found body e at same read =
     ap (and_then (json_with only)) (reply_is raw rest h found (Ok body) e at same read)
     ∙ (ap (λ t. if t then with_ok Some (JsonOf (reply_with h body)) else Ok None) (sym at.has_each)

@@ -1,5 +1,6 @@
 -- The events that lines as JSON writers give them name.
-use Rattle.std.proofs.Common.{◌≡◌, ◌<◌, ◌^◌, ◌++◌, ℕ, List, Bool, true, false, codes, Option, Some, None, Ok, Result, cond, ap, subst, ◌∙◌, arith}
+use Rattle.std.proofs.Common.{◌≡◌, ◌<◌, ◌^◌, ◌++◌, ℕ, List, Bool, true, false, codes, Option}
+use Rattle.std.proofs.Common.{Some, None, Ok, Result, cond, ap, subst, ◌∙◌, arith}
 use Rattle.std.proofs.lemmas.Bool.Decides.{nat_tests}
 use Rattle.std.specs.List.{list_all}
 use Rattle.std.specs.Prelude.{nat_lt, IfSome}
@@ -18,7 +19,8 @@ use Rattle.fed_script.specs.Get.{get_by}
 use Rattle.fed_script.specs.Line.{event_named, kind_of, event_of_kind}
 use Rattle.fed_script.specs.Load.{load_by}
 use Rattle.fed_script.specs.Member.{◌>>=◌, or_cause, small}
-use Rattle.fed_script.specs.Plain.{is_plain_byte, load_text, reply_text, closepage_text, go_on_text, get_text, disconnect_text, plain_members}
+use Rattle.fed_script.specs.Plain.{is_plain_byte, load_text, reply_text, closepage_text, go_on_text}
+use Rattle.fed_script.specs.Plain.{get_text, disconnect_text, plain_members}
 use Rattle.fed_script.proofs.plainly.Tokens.{load_is, load_reply_is, reply_is, closepage_is, go_on_is, get_is, disconnect_is}
 
 is_small : (n : ℕ) → n < 2 ^ 32 → small n ≡ Some n

@@ -1,5 +1,6 @@
 -- The tokens of lines as JSON writers give them, and what is read of them.
-use Rattle.std.proofs.Common.{◌≡◌, ◌<◌, ◌^◌, ◌&&◌, ℕ, List, [], ◌∷◌, ◌++◌, Bool, true, false, cond, codes, decimal, Option, Some, None, Ok, refl, sym, ap, subst, ◌∙◌}
+use Rattle.std.proofs.Common.{◌≡◌, ◌<◌, ◌^◌, ◌&&◌, ℕ, List, [], ◌∷◌, ◌++◌, Bool, true, false, cond}
+use Rattle.std.proofs.Common.{codes, decimal, Option, Some, None, Ok, refl, sym, ap, subst, ◌∙◌}
 use Rattle.std.proofs.Common.{append_assoc, arith}
 use Rattle.std.proofs.lemmas.Bool.Decides.{nat_tests}
 use Rattle.std.proofs.lemmas.Str.{is_utf8-from_IsUtf8, IsUtf8-append, IsUtf8-nil}
@@ -184,7 +185,8 @@ load_reply_is line page url text first second small plain is =
     let front : List ℕ → List ℕ = λ l. codes "{\"do\":\"load\",\"page\":" ++ (decimal page ++ (codes ",\"url\":\"" ++ l)) in
     let back : List ℕ → List ℕ = λ l. codes ",\"text\":\"" ++ l in
     plain_data line (load_reply_tokens page url text) (load_reply_data page url text)
-    (is ∙ ap front (closed url (back (escape text ++ codes "\"}")) plain ∙ ap (λ l. (escape url ++ 34 ∷ []) ++ back l) (ended text (codes "}")))
+    (is ∙ ap front (closed url (back (escape text ++ codes "\"}")) plain
+    ∙ ap (λ l. (escape url ++ 34 ∷ []) ++ back l) (ended text (codes "}")))
     ∙ sym (load_reply_line page url text))
     (tt, (refl, (IsUtf8-are_ascii _ refl, (refl, (good_number page small, (refl, (first, (refl, (second, (tt, tt))))))))))
     (load_reply_read page url text ∙ ap (λ n. counted n (load_reply_members url text)) (number_of-decimal page small))
@@ -222,7 +224,8 @@ reply_is line call word text first second small plain is =
     let front : List ℕ → List ℕ = λ l. codes "{\"do\":\"reply\",\"call\":" ++ (decimal call ++ (codes ",\"to\":\"" ++ l)) in
     let back : List ℕ → List ℕ = λ l. codes ",\"text\":\"" ++ l in
     plain_data line (reply_tokens call word text) (reply_data call word text)
-    (is ∙ ap front (closed word (back (escape text ++ codes "\"}")) plain ∙ ap (λ l. (escape word ++ 34 ∷ []) ++ back l) (ended text (codes "}")))
+    (is ∙ ap front (closed word (back (escape text ++ codes "\"}")) plain
+    ∙ ap (λ l. (escape word ++ 34 ∷ []) ++ back l) (ended text (codes "}")))
     ∙ sym (reply_line call word text))
     (tt, (refl, (IsUtf8-are_ascii _ refl, (refl, (good_number call small, (refl, (first, (refl, (second, (tt, tt))))))))))
     (reply_read call word text ∙ ap (λ n. counted n (reply_members word text)) (number_of-decimal call small))

@@ -5,8 +5,8 @@ use Rattle.std.proofs.Common.{is_some, Option, Some, None, eq-eqb, refl, sym, ap
 use Rattle.std.specs.List.{AllByRecursion, IsDistinct, list_any}
 use Rattle.std.specs.Map.{keys_of, lookup, remove_entry}
 use Rattle.std.proofs.lemmas.Map.{lookup-remove_entry}
-use Rattle.indexmap.specs.IndexSet.{IndexSet}
 use Rattle.fed_origin.specs.declared.status.Triple.{Triple}
+use Rattle.fed_status.specs.declared.accounts.PairAccounts.{PairAccounts}
 use Rattle.fed_status.specs.declared.place.Pair.{Pair}
 use Rattle.fed_status.specs.declared.place.Place.{Place}
 use Rattle.fed_status.specs.Pairs.{accounts_in, accounts_of, is_listed, ListsSame, ListsOne, ListsNone}
@@ -14,13 +14,13 @@ use Rattle.fed_status.specs.Place.{same_place, pair_at, is_at_pair, place_in}
 use Rattle.fed_status.specs.Table.{ArePairsOf}
 use Rattle.fed_status.proofs.numbers.Equal.{pair_laws, same_place_is, same_place_self, place_flips, place_laws, pair_of_same}
 
-module _ {S : Type 0} (pair : Pair) where
-  pub same_accounts : (old : List (Pair × IndexSet ℕ S)) (place : Place) → is_at_pair pair place ≡ true
+module _ (pair : Pair) where
+  pub same_accounts : (old : List (Pair × PairAccounts)) (place : Place) → is_at_pair pair place ≡ true
       → accounts_of old (pair_at place) ≡ accounts_of old pair
   same_accounts old place here = ap (λ test. accounts_in (lookup test old)) (λ i r. sym (pair_laws.congr pair (pair_at place) r here) i)
 
   -- where there are none, nothing goes
-  pub lists_nothing : (old new : List (Pair × IndexSet ℕ S)) → is_some (slice_get (accounts_of old pair) 0) ≡ false
+  pub lists_nothing : (old new : List (Pair × PairAccounts)) → is_some (slice_get (accounts_of old pair) 0) ≡ false
       → ListsNone pair old new → ListsSame old new
   lists_nothing old new none less = λ other. less other ∙ by other (is_at_pair pair other) refl
     where
@@ -51,14 +51,39 @@ found_last place triple other (e ∷ es) = by (same_place other e.0) (same_place
     by true false x y h = refl
     by false b x y h = h
 
-module _ {S : Type 0} (es : List (Place × Triple)) (old : List (Pair × IndexSet ℕ S)) (are : ArePairsOf es old) where
-  pub one_comes : (place : Place) (triple : Triple) (new : List (Pair × IndexSet ℕ S)) → ListsOne place true old new
+module _ (es : List (Place × Triple)) (old : List (Pair × PairAccounts)) (are : ArePairsOf es old) where
+  -- a permission stands where its account is listed
+  pub found_listed : (place : Place) → not (is_listed old place) ≡ false → is_some (lookup (same_place place) es) ≡ true
+  found_listed place listed = sym (are place) ∙ by (is_listed old place) listed
+    where
+      by : (b : Bool) → not b ≡ false → b ≡ true
+      by true e = refl
+      by false e = cc
+
+  pub absent_unlisted : (place : Place) → not (is_listed old place) ≡ true → is_some (lookup (same_place place) es) ≡ false
+  absent_unlisted place unlisted = sym (are place) ∙ by (is_listed old place) unlisted
+    where
+      by : (b : Bool) → not b ≡ true → b ≡ false
+      by false e = refl
+      by true e = cc
+
+  pub one_comes : (place : Place) (triple : Triple) (new : List (Pair × PairAccounts)) → ListsOne place true old new
       → ArePairsOf (es ++ (place, triple) ∷ []) new
   one_comes place triple new more = λ other.
       more other ∙ ap (λ b. cond (same_place place other) true b) (are other) ∙ sym (found_last place triple other es)
 
+  -- one that stands comes once more
+  pub one_there : (place : Place) (new : List (Pair × PairAccounts)) → is_some (lookup (same_place place) es) ≡ true
+      → ListsOne place true old new → ArePairsOf es new
+  one_there place new there more = λ other. more other ∙ by other (same_place place other) refl
+    where
+      by : (other : Place) (b : Bool) → same_place place other ≡ b
+          → cond b true (is_listed old other) ≡ is_some (lookup (same_place other) es)
+      by other true t = sym there ∙ ap (λ p. is_some (lookup (same_place p) es)) (same_place_is place other t)
+      by other false t = are other
+
   -- one that does not stand comes and goes
-  pub one_undone : (place : Place) (between new : List (Pair × IndexSet ℕ S)) → is_some (lookup (same_place place) es) ≡ false
+  pub one_undone : (place : Place) (between new : List (Pair × PairAccounts)) → is_some (lookup (same_place place) es) ≡ false
       → ListsOne place true old between → ListsOne place false between new → ArePairsOf es new
   one_undone place between new absent more less = λ other.
       less other ∙ ap (λ b. cond (same_place place other) false b) (more other) ∙ by other (same_place place other) refl
@@ -68,7 +93,7 @@ module _ {S : Type 0} (es : List (Place × Triple)) (old : List (Pair × IndexSe
       by other true t = sym absent ∙ ap (λ p. is_some (lookup (same_place p) es)) (same_place_is place other t)
       by other false t = are other
 
-  pub one_goes : (place : Place) (new : List (Pair × IndexSet ℕ S)) → IsDistinct same_place (keys_of es)
+  pub one_goes : (place : Place) (new : List (Pair × PairAccounts)) → IsDistinct same_place (keys_of es)
       → ListsOne place false old new
       → ArePairsOf (remove_entry (same_place place) es) new
   one_goes place new distinct less = λ other.
@@ -107,7 +132,7 @@ module _ {S : Type 0} (es : List (Place × Triple)) (old : List (Pair × IndexSe
       pick false true t u h = h
       pick false false t u h = ap (λ c. is_some (cond c (Some e.1) (lookup (same_place other) left))) t ∙ h
 
-  pub all_go : (pair : Pair) (new : List (Pair × IndexSet ℕ S)) → ListsNone pair old new
+  pub all_go : (pair : Pair) (new : List (Pair × PairAccounts)) → ListsNone pair old new
       → ArePairsOf (filter (λ e. not (is_at_pair pair e.0)) es) new
   all_go pair new less = λ other. less other ∙ ap (λ b. cond (is_at_pair pair other) false b) (are other)
       ∙ sym (found_filtered pair other es)
@@ -128,7 +153,7 @@ all_found all (e ∷ es) within = (
     later true o h = refl
     later false o h = h
 
-module _ {S : Type 0} (es : List (Place × Triple)) (old : List (Pair × IndexSet ℕ S)) (are : ArePairsOf es old) (pair : Pair) where
+module _ (es : List (Place × Triple)) (old : List (Pair × PairAccounts)) (are : ArePairsOf es old) (pair : Pair) where
   none_at_pair : accounts_of old pair ≡ [] → (ds : List (Place × Triple))
       → AllByRecursion (λ e. is_some (lookup (same_place e.0) es) ≡ true) ds
       → list_any (is_at_pair pair) (keys_of ds) ≡ false

@@ -1,6 +1,6 @@
 -- The numbers of permissions: equal numbers are those of equal permissions.
 use Rattle.std.proofs.Common.{◌≡◌, ℕ, Bool, true, false, ◌&&◌, ◌==◌, List, [], ◌∷◌, get_or, Option, Some, None}
-use Rattle.std.proofs.Common.{option_map, option_and_then}
+use Rattle.std.proofs.Common.{◌^◌, nat_lt, if◌then◌else◌, option_map, option_and_then}
 use Rattle.std.proofs.Common.{bytes_eq, eq-eqb, refl, sym, ap, ◌∙◌}
 use borrow.Author.Tests.{eqb-true}
 use Rattle.std.specs.List.{AllByRecursion, position}
@@ -16,7 +16,7 @@ use Rattle.fed_status.specs.declared.place.Names.{Names}
 use Rattle.fed_status.specs.declared.place.Pair.{Pair}
 use Rattle.fed_status.specs.declared.place.Place.{Place}
 use Rattle.fed_status.specs.Kept.{is_of_pair}
-use Rattle.fed_status.specs.Place.{same_place, origin_number, account_number, place_of, IsInPlace, Grows, pair_of, is_at_pair}
+use Rattle.fed_status.specs.Place.{small, same_place, origin_number, account_number, place_of, IsInPlace, Grows, pair_of, is_at_pair}
 use Rattle.fed_status.proofs.lists.Same.{same_origin_is, same_origin-Decides, same_triple_is}
 
 -- each part of the permission has its number
@@ -51,6 +51,26 @@ numbers_are names triple place e =
 pub are_numbers : (names : Names) (triple : Triple) (place : Place) → HasNumbers names triple place → place_of names triple ≡ Some place
 are_numbers names triple place h = rw (h.page, h.provider, h.account) refl
 
+-- a number that 32 bits hold is the number
+numbered : (o : Option ℕ) (n : ℕ) → option_and_then small o ≡ Some n → o ≡ Some n
+numbered None n e = cc
+numbered (Some m) n e = by (nat_lt m (2 ^ 32)) e
+  where
+    by : (b : Bool) → (if b then Some m else None) ≡ Some n → Some m ≡ Some n
+    by true f = f
+    by false f = cc
+
+-- what keeps its number keeps it in 32 bits
+stays : (old new : Option ℕ) (n : ℕ) → (old ≡ Some n → new ≡ Some n) → option_and_then small old ≡ Some n
+    → option_and_then small new ≡ Some n
+stays old new n keeps e =
+    let was : old ≡ Some n = numbered old n e in
+    ap (option_and_then small) (keeps was ∙ sym was) ∙ e
+
+-- the number of an item of a list
+abbrev number : {X : Type 0} → (X → X → Bool) → List X → X → Option ℕ
+number same xs a = option_and_then small (position (same a) xs)
+
 -- what passes at the first place of two tests
 position-both : {X : Type 0} (p q : X → Bool) (xs : List X) (i : ℕ) → position p xs ≡ Some i → position q xs ≡ Some i
     → (x : X) × (p x ≡ true) × (q x ≡ true)
@@ -70,8 +90,10 @@ some_one x y e = cc
 
 -- numbers are equal exactly where what has them is
 number_agrees : {X : Type 0} (same : X → X → Bool) → ((a b : X) → Decides (same a b) (a ≡ b)) → (xs : List X) (a b : X) (i j : ℕ)
-    → position (same a) xs ≡ Some i → position (same b) xs ≡ Some j → (i == j) ≡ same a b
-number_agrees same decides xs a b i j e f =
+    → number same xs a ≡ Some i → number same xs b ≡ Some j → (i == j) ≡ same a b
+number_agrees same decides xs a b i j of_a of_b =
+    let e : position (same a) xs ≡ Some i = numbered (position (same a) xs) i of_a in
+    let f : position (same b) xs ≡ Some j = numbered (position (same b) xs) j of_b in
     same_from_decides (i == j) (same a b) (
       λ t. one_numbered same (λ x y. (decides x y).0) xs a b j (e ∙ ap (λ n. Some n) (eqb-true i j t)) f,
       λ t. eq-eqb i j (some_one i j (sym e ∙ ap (λ x. position (same x) xs) t ∙ f)),
@@ -80,13 +102,13 @@ number_agrees same decides xs a b i j e f =
 
 -- what has no number is not among what has one
 number_absent : {X : Type 0} (same : X → X → Bool) → ((a b : X) → same a b ≡ true → a ≡ b) → (xs : List X) (a b : X) (j : ℕ)
-    → position (same a) xs ≡ None → position (same b) xs ≡ Some j → same a b ≡ false
+    → number same xs a ≡ None → number same xs b ≡ Some j → same a b ≡ false
 number_absent same is xs a b j e f = by (same a b) refl
   where
     by : (t : Bool) → same a b ≡ t → same a b ≡ false
     by false t = t
     by true t =
-        let none : None ≡ Some j = sym e ∙ ap (λ x. position (same x) xs) (is a b t) ∙ f in
+        let none : None ≡ Some j = sym e ∙ ap (number same xs) (is a b t) ∙ f in
         cc
 
 -- the numbers of a permission are those of an entry exactly where the permission is the entry's
@@ -178,9 +200,9 @@ stay_in_place old new grows [] all = tt
 stay_in_place old new grows (entry ∷ entries) all =
     let h = numbers_are old entry.1 entry.0 all.0 in (
       are_numbers new entry.1 entry.0 (record {
-        page = grows.origins entry.1.page entry.0.page h.page;
-        provider = grows.origins entry.1.provider entry.0.provider h.provider;
-        account = grows.accounts entry.1.account entry.0.account h.account;
+        page = stays _ _ entry.0.page (grows.origins entry.1.page entry.0.page) h.page;
+        provider = stays _ _ entry.0.provider (grows.origins entry.1.provider entry.0.provider) h.provider;
+        account = stays _ _ entry.0.account (grows.accounts entry.1.account entry.0.account) h.account;
       }),
       stay_in_place old new grows entries all.1,
     )

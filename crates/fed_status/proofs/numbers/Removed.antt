@@ -4,9 +4,9 @@ use Rattle.std.proofs.Common.{is_some, refl, sym, ap, ◌∙◌}
 use Rattle.std.specs.List.{AllByRecursion, IsDistinct, list_any}
 use Rattle.std.specs.Map.{keys_of, lookup}
 use Rattle.std.proofs.lemmas.Map.Made.{IsDistinct-keys_filter}
-use Rattle.indexmap.specs.IndexSet.{IndexSet}
 use Rattle.fed_entries.proofs.slots.Changes.{filter_all, removed_is_filter}
 use Rattle.fed_origin.specs.declared.status.Triple.{Triple}
+use Rattle.fed_status.specs.declared.accounts.PairAccounts.{PairAccounts}
 use Rattle.fed_status.specs.declared.place.Pair.{Pair}
 use Rattle.fed_status.specs.declared.place.Place.{Place}
 use Rattle.fed_status.specs.Pairs.{accounts_of}
@@ -75,7 +75,7 @@ each_goes pair (account ∷ accounts) es d =
         ∙ by (is_at_pair pair other) (nat_eq other.account account) (list_any (nat_eq other.account) accounts)
 
 -- without all accounts of the pair, the permissions are without the pair
-pub pair_goes : {S : Type 0} (pair : Pair) (es : List (Place × Triple)) (pairs : List (Pair × IndexSet ℕ S)) → ArePairsOf es pairs
+pub pair_goes : (pair : Pair) (es : List (Place × Triple)) (pairs : List (Pair × PairAccounts)) → ArePairsOf es pairs
     → IsDistinct same_place (keys_of es) → without_accounts pair (accounts_of pairs pair) es
     ≡ filter (λ e. not (is_at_pair pair e.0)) es
 pair_goes pair es pairs are d =

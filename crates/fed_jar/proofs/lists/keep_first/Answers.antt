@@ -1,7 +1,8 @@
 use Rattle.std.proofs.Common.{◌≡◌, not, sym, ap, ◌∙◌, rules}
 use Rattle.std.specs.List.{list_any}
 use Rattle.fed_jar.specs.Parts.{same_numbered, lists_of}
-use Rattle.fed_jar.proofs.parts.Lists.{put_first, listed_none, no_entry}
+use Rattle.fed_jar.proofs.parts.Lists.{put_first, listed_none}
+use Rattle.fed_jar.proofs.parts.Places.{none_placed}
 use Rattle.fed_jar.proofs.lists.keep_first.Goals as goal
 
 pub returns-clause-ok : goal.returns-clause-ok
@@ -9,9 +10,10 @@ returns-clause-ok c =
     let named : c.in_ok-name.name.items ≡ c.args.party.now = search rules in
     ap (lists_of (λ key. key.items)) c.in_ok-insert-2.ensures.entries
     ∙ put_first (λ key. key.items) c.args.party.now c.args.new c.args.parties.now.entries c.in_ok-name.name c.insert.new.self
-    (no_entry _ c.requires) named (search rules)
+    (none_placed (λ key. key.items) c.args.party.now c.args.parties.now.entries c.requires) named (search rules)
 
 pub returns-clause-fresh : goal.returns-clause-fresh
 returns-clause-fresh c =
     ap (λ list. not (list_any (same_numbered c.args.new) list))
-    (sym (listed_none (λ key. key.items) c.args.party.now c.args.parties.now.entries (no_entry _ c.requires)))
+    (sym (listed_none (λ key. key.items) c.args.party.now c.args.parties.now.entries
+    (none_placed (λ key. key.items) c.args.party.now c.args.parties.now.entries c.requires)))

@@ -13,4 +13,5 @@ plain = refl
 pub returns-then-eq : goal.returns-then-eq
 returns-then-eq c =
     let same : c.in-Some.value.now ≡ codes "application/json" = search rules in
-    c.if-eq.true ∙ (sym plain ∙ (ap (λ v. is_json_media (essence v)) (sym same) ∙ ap (λ o. is_json_type (option_copied o)) (sym c.in-Some.is)))
+    c.if-eq.true ∙ (sym plain ∙ (ap (λ v. is_json_media (essence v)) (sym same)
+    ∙ ap (λ o. is_json_type (option_copied o)) (sym c.in-Some.is)))

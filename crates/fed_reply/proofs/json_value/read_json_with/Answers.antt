@@ -8,30 +8,33 @@ use Rattle.fed_reply.proofs.json_value.read_json_with.Goals as goal
 pub returns-in-Err : goal.returns-in-Err
 returns-in-Err c = no_front_with (asked c.args.only.now) c.args.raw.now c.in-Err.step c.in-Err.ensures
 
-pub returns-in-Err-read_body : goal.returns-in-Err-read_body
-returns-in-Err-read_body c =
-    no_body_with (asked c.args.only.now) c.args.raw.now _ c.in-Ok.ensures.0 c.in-Ok.head c.in-Err-read_body.fault c.in-Ok.ensures.1
-    c.in-Ok.ensures.2 (whole c.in-Ok.head.len c.args.raw.now) c.in-Err-read_body.ensures
+pub returns-in-Err-find_body : goal.returns-in-Err-find_body
+returns-in-Err-find_body c =
+    no_body_with (asked c.args.only.now) c.args.raw.now _ c.in-Ok.ensures.0 c.in-Ok.head c.in-Err-find_body.fault c.in-Ok.ensures.1
+    c.in-Ok.ensures.2 (whole c.in-Ok.head.len c.args.raw.now) c.in-Err-find_body.ensures
 
 pub returns-then-not-head : goal.returns-then-not-head
 returns-then-not-head c =
     json_with_is (asked c.args.only.now) c.args.raw.now _ c.in-Ok.ensures.0 c.in-Ok.head _ c.in-Ok.ensures.1 c.in-Ok.ensures.2
-    (whole c.in-Ok.head.len c.args.raw.now) c.in-Ok-read_body.ensures
-    ∙ ap (λ t. if t then with_ok Some (unless_refused (refusal c.in-Ok.head.status c.in-Ok.head.is_json) c.in-Ok-read_body.body) else Ok None)
+    (whole c.in-Ok.head.len c.args.raw.now) c.in-Ok-find_body.ensures
+    ∙ ap (λ t. if t then with_ok Some (unless_refused (refusal c.in-Ok.head.status c.in-Ok.head.is_json) c.in-Ok-find_body.body.now)
+    else Ok None)
     c.if-not-head.true
 
 pub returns-in-Ok-unless_refused : goal.returns-in-Ok-unless_refused
 returns-in-Ok-unless_refused c =
     json_with_is (asked c.args.only.now) c.args.raw.now _ c.in-Ok.ensures.0 c.in-Ok.head _ c.in-Ok.ensures.1 c.in-Ok.ensures.2
-    (whole c.in-Ok.head.len c.args.raw.now) c.in-Ok-read_body.ensures
-    ∙ (ap (λ t. if t then with_ok Some (unless_refused (refusal c.in-Ok.head.status c.in-Ok.head.is_json) c.in-Ok-read_body.body) else Ok None)
+    (whole c.in-Ok.head.len c.args.raw.now) c.in-Ok-find_body.ensures
+    ∙ (ap (λ t. if t then with_ok Some (unless_refused (refusal c.in-Ok.head.status c.in-Ok.head.is_json) c.in-Ok-find_body.body.now)
+    else Ok None)
     c.if-not-head.false
     ∙ ap (with_ok Some) c.in-Ok-unless_refused.ensures)
 
 pub returns-in-Err-unless_refused : goal.returns-in-Err-unless_refused
 returns-in-Err-unless_refused c =
     let e = json_with_is (asked c.args.only.now) c.args.raw.now _ c.in-Ok.ensures.0 c.in-Ok.head _ c.in-Ok.ensures.1 c.in-Ok.ensures.2
-    (whole c.in-Ok.head.len c.args.raw.now) c.in-Ok-read_body.ensures
-    ∙ ap (λ t. if t then with_ok Some (unless_refused (refusal c.in-Ok.head.status c.in-Ok.head.is_json) c.in-Ok-read_body.body) else Ok None)
+    (whole c.in-Ok.head.len c.args.raw.now) c.in-Ok-find_body.ensures
+    ∙ ap (λ t. if t then with_ok Some (unless_refused (refusal c.in-Ok.head.status c.in-Ok.head.is_json) c.in-Ok-find_body.body.now)
+    else Ok None)
     c.if-not-head.false in
     subst (Refuses c.in-Err-unless_refused.fault) (sym e) (refused_some c.in-Err-unless_refused.fault _ c.in-Err-unless_refused.ensures)

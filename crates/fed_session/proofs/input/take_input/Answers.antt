@@ -27,7 +27,9 @@ returns-clause-outs g c =
     let same : c.learn.new.sight ≡ c.args.sight.now = c.in_ok-learn.ensures in
     let known = known_of c.in-Some-into_state.state in
     let found : known ≡ item_known c.args.tabs.now.table.items c.args.call = c.in-Some-into_state.ensures ∙ c.in-Some.ensures.known in
-    subst (λ s. c.in_ok-outs.outs ≡ records_of c.args.line (input_effects (world_in s) (cookies_of s) (list_any (nat_eq c.args.call) c.args.tabs.now.taken) c.args.call (item_known c.args.tabs.now.table.items c.args.call) c.args.input.now)) same (
+    subst (λ s. c.in_ok-outs.outs ≡ records_of c.args.line (input_effects (world_in s) (cookies_of s)
+    (list_any (nat_eq c.args.call) c.args.tabs.now.taken) c.args.call (item_known c.args.tabs.now.table.items c.args.call)
+    c.args.input.now)) same (
     c.in_ok-outs.ensures.outs ∙ ap (call_records c.args.line (cookies_of c.learn.new.sight) c.args.call c.in-Some-page.page)
     c.in_ok-kept.ensures.effects
     ∙ ap (λ w. call_records c.args.line (cookies_of c.learn.new.sight) c.args.call c.in-Some-page.page
@@ -43,7 +45,8 @@ returns-clause-sight g c =
     let same : c.learn.new.sight ≡ c.args.sight.now = c.in_ok-learn.ensures in
     let known = known_of c.in-Some-into_state.state in
     let found : known ≡ item_known c.args.tabs.now.table.items c.args.call = c.in-Some-into_state.ensures ∙ c.in-Some.ensures.known in
-    subst (λ s. c.apply.new.sight ≡ sight_after (outcome_at (world_in s) (list_any (nat_eq c.args.call) c.args.tabs.now.taken) (item_known c.args.tabs.now.table.items c.args.call) c.args.input.now).effects s) same (
+    subst (λ s. c.apply.new.sight ≡ sight_after (outcome_at (world_in s) (list_any (nat_eq c.args.call) c.args.tabs.now.taken)
+    (item_known c.args.tabs.now.table.items c.args.call) c.args.input.now).effects s) same (
     c.in_ok-outs.ensures.sight ∙ ap (λ effects. sight_after effects c.learn.new.sight) c.in_ok-kept.ensures.effects
     ∙ ap (λ w. sight_after (outcome_at w true known c.args.input.now).effects c.learn.new.sight) c.lent.ensures
     ∙ ap (λ k. sight_after (outcome_at (world_in c.learn.new.sight) true k c.args.input.now).effects c.learn.new.sight) found
@@ -58,7 +61,8 @@ returns-clause-tabs g c =
     let next : c.in_ok-kept.kept ≡ kept_next (world_in c.learn.new.sight) (item_known c.args.tabs.now.table.items c.args.call)
     c.args.input.now = c.in_ok-kept.ensures.kept ∙ ap (λ w. kept_next w known c.args.input.now) c.lent.ensures
     ∙ ap (λ k. kept_next (world_in c.learn.new.sight) k c.args.input.now) found in
-    subst (λ s. Takes c.args.call (item_known c.args.tabs.now.table.items c.args.call) (kept_next (world_in s) (item_known c.args.tabs.now.table.items c.args.call) c.args.input.now) c.args.tabs.now c.give_back.new.self) same (
+    subst (λ s. Takes c.args.call (item_known c.args.tabs.now.table.items c.args.call) (kept_next (world_in s)
+    (item_known c.args.tabs.now.table.items c.args.call) c.args.input.now) c.args.tabs.now c.give_back.new.self) same (
     brought_takes c.args.call c.in-Some-page.page c.waits-waited.result (item_known c.args.tabs.now.table.items c.args.call) _
     c.args.tabs.now c.lend.new.self c.give_back.new.self (c.in-Some-page.ensures ∙ ap (option_map page_of) found)
     (c.waits-waited.ensures ∙ ap (λ k. is_some (awaited_in k)) found) c.lend.ensures.tabs

@@ -1,7 +1,8 @@
-use Rattle.std.proofs.Common.{◌∙◌, ap, sym, subst}
+use Rattle.std.proofs.Common.{◌∙◌, ap, sym, subst, is_some}
+use Rattle.std.specs.Map.{lookup}
 use Rattle.indexmap.specs.IndexMap.{insert_entry}
-use Rattle.fed_entries.specs.Entries.{AreBelow, AreEntries, entries_in, numbers_in}
-use Rattle.fed_entries.proofs.slots.Changes.{above_all, same_slots, same_entered, one_written, value_now, put_last, put_now}
+use Rattle.fed_entries.specs.Entries.{AreEntries, entries_in}
+use Rattle.fed_entries.proofs.slots.Changes.{none_agrees, one_written, value_now}
 use Rattle.fed_entries.proofs.entries.Entries.insert.Goals as goal
 
 pub invariant_of-self : goal.invariant_of-self
@@ -17,32 +18,8 @@ returns-in-Some-clause-ok g c =
     c.args.key c.args.value c.self.invariant (sym c.in-Some.ensures.value) c.write.ensures.distinct
     ∙ ap (λ es. insert_entry g.K.PartialEq.eq es c.args.key c.args.value) c.self.view_is
 
-pub enter-requires : goal.enter-requires
-enter-requires g c =
-    above_all c.self.inside.next c.close_up.new.slots.entries (c.close_up.ensures.below c.self.inside.next c.self.invariant.below)
-
-pub invariant_of-self-in_err-enter : goal.invariant_of-self-in_err-enter
-invariant_of-self-in_err-enter g c =
-    same_entered g.K.PartialEq.eq c.self.inside.entered.entries c.enter.new.entered.entries c.enter.new.slots.entries c.self.inside.next
-    (same_slots g.K.PartialEq.eq c.self.inside.entered.entries c.self.inside.slots.entries c.enter.new.slots.entries c.self.inside.next
-    c.self.invariant
-    (ap entries_in c.in_err-enter.ensures.err_slots ∙ c.close_up.ensures.entries)
-    (ap numbers_in c.in_err-enter.ensures.err_slots ∙ c.close_up.ensures.numbers)
-    (subst (AreBelow c.self.inside.next) (sym c.in_err-enter.ensures.err_slots)
-    (c.close_up.ensures.below c.self.inside.next c.self.invariant.below)))
-    c.in_err-enter.ensures.err_entered
-
-pub invariant_of-self-2 : goal.invariant_of-self-2
-invariant_of-self-2 g c =
-    put_last g.K.PartialEq.eq g.met.K.Eq.laws c.self.inside.entered.entries c.enter.new.entered.entries c.self.inside.slots.entries
-    c.close_up.new.slots.entries c.enter.new.slots.entries c.self.inside.next c.in-Some-checked_add.next c.args.key c.args.value
-    c.self.invariant c.close_up.ensures.entries c.close_up.ensures.numbers
-    (c.close_up.ensures.below c.self.inside.next c.self.invariant.below) (sym c.in_default.ensures.value)
-    c.in_ok-enter.ensures.entered c.in_ok-enter.ensures.count c.in_ok-enter.ensures.slots c.in-Some-checked_add.ensures.1
-
-pub returns-clause-ok : goal.returns-clause-ok
-returns-clause-ok g c =
-    put_now g.K.PartialEq.eq c.self.inside.entered.entries c.self.inside.slots.entries c.close_up.new.slots.entries
-    c.enter.new.slots.entries c.self.inside.next c.args.key c.args.value c.self.invariant (sym c.in_default.ensures.value)
-    c.close_up.ensures.entries c.in_ok-enter.ensures.slots
-    ∙ ap (λ es. insert_entry g.K.PartialEq.eq es c.args.key c.args.value) c.self.view_is
+pub insert_new-requires : goal.insert_new-requires
+insert_new-requires g c =
+    ap (λ es. is_some (lookup (g.K.PartialEq.eq c.args.key) es)) (sym c.self.view_is)
+    ∙ ap is_some (none_agrees (g.K.PartialEq.eq c.args.key) c.self.inside.slots.entries
+    (sym (c.self.invariant.found c.args.key) ∙ sym c.in_default.ensures.value))

@@ -6,6 +6,7 @@ use Rattle.fed_provider.proofs.rules.Rules.keep_file.Goals as goal
 pub invariant_of-self : goal.invariant_of-self
 invariant_of-self c =
     let before : IsKept c.self.inside.suffixes c.index_mut.result.now =
-    subst (IsKept c.self.inside.suffixes) (sym c.index_mut.ensures.value) (c.self.invariant c.slot_of-place.result c.index_mut.result.now (search rules)) in
+    subst (IsKept c.self.inside.suffixes) (sym c.index_mut.ensures.value)
+    (c.self.invariant c.slot_of-place.result c.index_mut.result.now (search rules)) in
     one_changed (IsKept c.self.inside.suffixes) c.self.inside.sites.items c.slot_of-place.result c.keep_file.new.kept c.self.invariant
     (c.keep_file.ensures c.self.inside.suffixes before)

@@ -8,7 +8,7 @@ use Rattle.fed_session.proofs.stands.Stands.{stands_after}
 use Rattle.fed_session.proofs.session.Session.take.Goals as goal
 
 pub returns-in-Have-clause-row : goal.returns-in-Have-clause-row
-returns-in-Have-clause-row g c = rw c.in-Have.is (λ T h. c.have.ensures.row T c.args.line h)
+returns-in-Have-clause-row g c = rw c.in-Have.is (rw (sym c.get.ensures) (λ T h. c.have.ensures.row T c.args.line h))
 
 pub returns-in-At-clause-row : goal.returns-in-At-clause-row
 returns-in-At-clause-row g c =
