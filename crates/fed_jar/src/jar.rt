@@ -194,6 +194,10 @@ impl Jar {
         ensures value { IfOk result (λ text. text ≡ spec.jar_text rules.now url.now now (cookies_in self.now)) }
         ensures line { IfOk result (λ text. HasNoLineEnd text) }
     {
+        // A jar without cookies needs no walk through the rules.
+        if self.parties.is_empty() {
+            return Ok(Bytes::from_vec(Vec::new(alloc)));
+        }
         let host = url.host();
         let party = rules.party(host);
         let site = site_by(rules, host, party);

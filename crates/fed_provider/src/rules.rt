@@ -60,6 +60,9 @@ pub struct Rules {
     suffixes: Suffixes,
     // None before the first site is kept.
     sites: Vec<Option<Site>>,
+    // The place that a get or a disconnect call looked at last, where a look begins: a place by all bytes of a text takes longer than to
+    // compare it with one.
+    last: usize,
 }
 
 impl Model for Rules {
@@ -84,6 +87,7 @@ impl Drop for Rules {
         let Rules {
             suffixes: _,
             sites: _,
+            last: _,
         } = self;
     }
 }
@@ -96,6 +100,7 @@ impl Rules {
         Rules {
             suffixes,
             sites: Vec::new(alloc),
+            last: 0,
         }
     }
 
@@ -116,7 +121,11 @@ impl Rules {
         ensures answer { IfOk result (λ url. url ≡ WellKnownUrlOf self.old config.now) }
         ensures same { self.new ≡ self.old }
     {
-        if let Some(site) = self.site(config) {
+        if let Some(site) = self.at(self.last, config) {
+            return copied(alloc, &site.wellknown);
+        }
+        self.last = slot_of(config.as_str());
+        if let Some(site) = self.at(self.last, config) {
             return copied(alloc, &site.wellknown);
         }
         let wellknown = site_url(alloc, &self.suffixes, config)?;
@@ -163,7 +172,18 @@ impl Rules {
         ensures is { IfSome result (λ site. IsSite self.now site.now) }
         ensures config { IfSome result (λ site. site.now.config ≡ config.now) }
     {
-        match self.sites.get(slot_of(config.as_str())) {
+        match self.at(self.last, config) {
+            Some(site) => Some(site),
+            None => self.at(slot_of(config.as_str()), config),
+        }
+    }
+
+    // The same, where it is kept at this place.
+    fn at(&self, place: usize, config: &WebUrl) -> Option<&Site>
+        ensures is { IfSome result (λ site. IsSite self.now site.now) }
+        ensures config { IfSome result (λ site. site.now.config ≡ config.now) }
+    {
+        match self.sites.get(place) {
             Some(Some(site)) if site.config.is_same(config) => Some(site),
             _ => None,
         }

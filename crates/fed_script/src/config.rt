@@ -17,12 +17,14 @@ const MOST_BYTES: usize = 2048;
 pub(crate) struct KeptConfigs {
     // None before the first URL is kept.
     urls: Vec<Option<WebUrl>>,
+    // The place that was looked at last, where a look begins.
+    last: usize,
 }
 
 // Written out, so that one function lets them go wherever they end.
 impl Drop for KeptConfigs {
     fn drop(self) {
-        let KeptConfigs { urls: _ } = self;
+        let KeptConfigs { urls: _, last: _ } = self;
     }
 }
 
@@ -31,6 +33,7 @@ impl KeptConfigs {
     pub(crate) fn none(alloc: Global) -> KeptConfigs {
         KeptConfigs {
             urls: Vec::new(alloc),
+            last: 0,
         }
     }
 
@@ -38,7 +41,11 @@ impl KeptConfigs {
     pub(crate) fn read(&mut self, alloc: Global, text: &str) -> Result<WebUrl, Fault<LineCause>>
         ensures { Answers result (spec.url_of text.now) }
     {
-        if let Some(url) = self.find(text) {
+        if let Some(url) = self.at(self.last, text) {
+            return Ok(url.copy(alloc)?);
+        }
+        self.last = slot_of(text);
+        if let Some(url) = self.at(self.last, text) {
             return Ok(url.copy(alloc)?);
         }
         let url = web_url(alloc, text)?;
@@ -46,11 +53,11 @@ impl KeptConfigs {
         Ok(url)
     }
 
-    // The URL with this text, where it is kept.
-    fn find(&self, text: &str) -> Option<&WebUrl>
+    // The URL with this text, where it is kept at this place.
+    fn at(&self, place: usize, text: &str) -> Option<&WebUrl>
         ensures { IfSome result (λ url. spec.url_of text.now ≡ Ok url.now) }
     {
-        match self.urls.get(slot_of(text)) {
+        match self.urls.get(place) {
             Some(Some(url)) if url.is_text(text) => Some(url),
             _ => None,
         }
@@ -64,7 +71,7 @@ impl KeptConfigs {
         if self.urls.is_empty() {
             self.urls = no_urls(alloc)?;
         }
-        let place = slot_of(text);
+        let place = self.last;
         if place < self.urls.len() {
             self.urls[place] = Some(url.copy(alloc)?);
         }
