@@ -12,7 +12,7 @@ const POWERS: u64 = 0x0dc9_d5f1_dd59_2501;
 pub fn slot_of(text: &str) -> usize
     ensures { result < 256 }
 {
-    // Eight bytes at a time, since each event that names a configuration URL asks for a place.
+    // Eight bytes at a time, since each look that does not begin at the right place asks for it.
     let (words, rest) = text.as_bytes().as_chunks::<8>();
     let mut sum: u64 = 0;
     for word in words {

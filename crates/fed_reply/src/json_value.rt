@@ -19,8 +19,8 @@ use std::alloc::Global;
 // The byte order mark of UTF-8.
 const MARK: [u8; 3] = [0xEF, 0xBB, 0xBF];
 
-/// What a value is read from: the body of its reply where that was joined from chunks, and memory for the reading. Both are lent to the
-/// tape.
+/// What a value is read from: the body of its reply where that does not stand in the bytes, and memory for the reading. Both are lent
+/// to the tape.
 pub struct JsonBuffer {
     body: Option<Bytes>,
     scratch: Scratch,
