@@ -1,7 +1,7 @@
 //! Accounts.
 ghost use Rattle.std.specs.Prelude.{◌≡◌, IfOk};
 
-use fed_io::{Items, NoRoom, Text, copy_text, copy_texts};
+use fed_io::{Items, NoRoom, Placed, Text, copy_placed, copy_text, copy_texts};
 use std::alloc::Global;
 
 /// An account of the user at a provider (FedCM, IdentityProviderAccount).
@@ -15,7 +15,7 @@ pub struct Account {
     /// The user's given name.
     pub given_name: Option<Text>,
     /// The address of a picture of the user, as the provider wrote it.
-    pub picture: Option<Text>,
+    pub picture: Option<Placed<Text>>,
     /// The clients with which the account is connected, where the provider lists them, in the
     /// provider's order.
     pub approved: Option<Items<Text>>,
@@ -51,7 +51,7 @@ impl Account {
             name: self.name.copy(alloc)?,
             email: self.email.copy(alloc)?,
             given_name: copy_text(alloc, &self.given_name)?,
-            picture: copy_text(alloc, &self.picture)?,
+            picture: copy_placed(alloc, &self.picture)?,
             approved: copy_list(alloc, &self.approved)?,
             login_hints: copy_texts(alloc, self.login_hints.as_slice())?,
             domain_hints: copy_texts(alloc, self.domain_hints.as_slice())?,

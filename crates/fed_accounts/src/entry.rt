@@ -13,7 +13,7 @@ ghost use Rattle.fed_accounts.specs.Read as spec;
 
 use crate::members::{Found, Lists, find_members};
 use crate::{Account, AccountsStep};
-use fed_io::{Items, NoRoom, Text, text_of};
+use fed_io::{Items, NoRoom, Text, placed_text, text_of};
 use fed_json::{Entries, Part};
 use fed_reply::Member;
 use std::alloc::Global;
@@ -179,7 +179,7 @@ impl<'t, 'a> Entry<'t, 'a> {
             name: Text::of(alloc, self.name)?,
             email: Text::of(alloc, self.email)?,
             given_name: text_of(alloc, self.given_name)?,
-            picture: text_of(alloc, self.picture)?,
+            picture: placed_text(alloc, self.picture)?,
             approved: copy_approved(alloc, &self.approved)?,
             login_hints: copy_list(alloc, &self.login_hints)?,
             domain_hints: copy_list(alloc, &self.domain_hints)?,

@@ -26,8 +26,6 @@ struct CallParts {
     activation: bool,
     context: Context,
     provider: ProviderOptions,
-    // The provider's origin, which the rows of accounts look at, made once.
-    provider_origin: Origin,
 }
 
 impl Drop for CallParts {
@@ -41,7 +39,6 @@ impl Drop for CallParts {
             activation: _,
             context: _,
             provider: _,
-            provider_origin: _,
         } = self;
     }
 }
@@ -55,7 +52,7 @@ pub struct Call {
 impl Model for Call {
     ghost use Rattle.std.specs.Prelude.{◌≡◌};
     ghost use Rattle.fed_origin.specs.declared.scheme.Scheme.TheVariants.{Https};
-    ghost use Rattle.fed_origin.specs.WebUrl.{origin_of, scheme_of};
+    ghost use Rattle.fed_origin.specs.WebUrl.{scheme_of};
     ghost use Rattle.fed_call.specs.Begun.{Begun};
 
     ghost Value = { Begun };
@@ -71,8 +68,7 @@ impl Model for Call {
       provider = c.place.value.provider;
     } };
 
-    ghost invariant = { λ c. (scheme_of c.place.value.provider.config ≡ Https)
-        × (c.place.value.provider_origin ≡ origin_of c.place.value.provider.config) };
+    ghost invariant = { λ c. scheme_of c.place.value.provider.config ≡ Https };
 }
 
 impl Drop for Call {
@@ -90,19 +86,16 @@ fn only(providers: Items<ProviderOptions>) -> ProviderOptions
 }
 
 impl Call {
-    /// What a call with these options begins with. They have exactly one provider, whose configuration URL is https and of
-    /// this origin.
+    /// What a call with these options begins with. They have exactly one provider, whose configuration URL is https.
     pub fn new(
         alloc: Global,
         call: u32,
         page: u32,
         origin: Origin,
         options: GetOptions,
-        provider_origin: Origin,
     ) -> Result<Call, NoRoom>
         requires one { length options.providers ≡ 1 }
         requires secure { IfSome (provider_at only_place options) (λ provider. scheme_of provider.config ≡ Scheme.Https) }
-        requires its { IfSome (provider_at only_place options) (λ provider. provider_origin ≡ origin_of provider.config) }
         ensures options { IfOk result (λ begun. options_of begun ≡ options) }
         ensures call { IfOk result (λ begun. begun.call ≡ call) }
         ensures page { IfOk result (λ begun. begun.page ≡ page) }
@@ -124,7 +117,6 @@ impl Call {
             activation,
             context,
             provider: only(providers),
-            provider_origin,
         };
         Ok(Call {
             place: Box::new(alloc, parts)?,
@@ -191,7 +183,7 @@ impl Call {
     pub fn provider_origin(&self) -> &Origin
         ensures { result.now ≡ origin_of self.now.provider.config }
     {
-        &self.place.provider_origin
+        self.place.provider.config.origin()
     }
 
     /// What a reply of the provider comes to, after these.

@@ -51,9 +51,19 @@ fn shown(alloc: Global, place: u32, account: &Account, connected: bool) -> Resul
         name: account.name.copy(alloc)?,
         email: account.email.copy(alloc)?,
         given_name: copy_text(alloc, &account.given_name)?,
-        picture: copy_text(alloc, &account.picture)?,
+        picture: out_of_place(alloc, &account.picture)?,
         connected,
     })
+}
+
+// The same text, where there is one, out of its place.
+fn out_of_place(alloc: Global, text: &Option<Placed<Text>>) -> Result<Option<Text>, NoRoom>
+    ensures { IfOk result (λ copy. copy ≡ text.now) }
+{
+    match text {
+        Some(text) => Ok(Some(text.get().copy(alloc)?)),
+        None => Ok(None),
+    }
 }
 
 // The accounts as a dialog shows them, in their order.

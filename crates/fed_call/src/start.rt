@@ -19,14 +19,6 @@ use fed_status::{LoginMap, Shared, SilentFlags};
 use fed_suffix::Suffixes;
 use std::alloc::Global;
 
-/// The origin of the only provider.
-pub fn provider_origin(alloc: Global, options: &GetOptions) -> Result<Origin, NoRoom>
-    requires { length options.now.providers ≡ 1 }
-    ensures { IfOk result (λ origin. IfSome (provider_at only_place options.now) (λ provider. origin ≡ origin_of provider.config)) }
-{
-    Origin::of_url(alloc, &only_provider(options).config)
-}
-
 // The provider of a list of one.
 fn only_provider(options: &GetOptions) -> &ProviderOptions
     requires { length options.now.providers ≡ 1 }
@@ -57,24 +49,24 @@ pub fn only_wellknown(
     site_url(alloc, rules, &only_provider(options).config)
 }
 
-/// The first requests of a call of a page of the first origin to its only provider, which is of the second origin and has this
-/// well-known URL, or the step at which the call fails.
+/// The first requests of a call of a page of this origin to its only provider, which has this well-known URL, or the step at which
+/// the call fails.
 pub fn first_requests(
     alloc: Global,
     origin: &Origin,
     options: &GetOptions,
-    provider: &Origin,
     wellknown: Result<WebUrl, ProviderStep>,
     shared: &Shared<'_>,
 ) -> Result<Result<Items<Effect>, FailStep>, NoRoom>
     requires one { length options.now.providers ≡ 1 }
-    requires its { IfSome (provider_at only_place options.now) (λ p. provider.now ≡ origin_of p.config) }
     requires secure { IfSome (provider_at only_place options.now) (λ p. scheme_of p.config ≡ Scheme.Https) }
     requires known { IfSome (provider_at only_place options.now)
         (λ p. wellknown ≡ WellKnownUrlOf (world_of shared.now).rules p.config) }
     ensures value { IfOk result (λ first. spec.first_outcome first
         ≡ spec.start_at (world_of shared.now) origin.now options.now only_place (provider_at only_place options.now)) }
 {
+    // Looked at first, so that the provider is known in each arm.
+    let provider = only_provider(options);
     // Row C3.
     if lacks_activation(options.mode, options.activation) {
         return Ok(Err(FailStep::NoActivation));
@@ -89,11 +81,11 @@ pub fn first_requests(
         return Ok(Err(FailStep::SilentPrevented));
     }
     // Row C6.
-    if is_gated(options.mode, shared.login, provider) {
+    if is_gated(options.mode, shared.login, provider.config.origin()) {
         return Ok(Err(FailStep::LoggedOut));
     }
     // Row C7.
-    let requests = requests(alloc, wellknown, &only_provider(options).config)?;
+    let requests = requests(alloc, wellknown, &provider.config)?;
     Ok(Ok(requests))
 }
 

@@ -12,7 +12,7 @@ ghost use Rattle.fed_call.specs.WindowRows.{awaited_by};
 
 use crate::begun::Call;
 use crate::effects::fails;
-use crate::start::{first_requests, is_secure, only_wellknown, provider_origin};
+use crate::start::{first_requests, is_secure, only_wellknown};
 use crate::{Asserting, Choosing, Listing, Mismatch, Prompting, Reading, Window};
 use fed_consent::{Effect, FailStep, Failure, Input, Why};
 use fed_io::{Items, NoRoom};
@@ -99,11 +99,10 @@ impl CallState {
             ≡ started call page origin options (start_row (world_of shared.now) origin options)) }
         ensures stage { IfOk result (λ r. Some (stage_of (facts_of r.0)) ≡ (start_row (world_of shared.now) origin options).stage) }
     {
-        let provider = provider_origin(alloc, &options)?;
-        match first_requests(alloc, &origin, &options, &provider, wellknown, shared)? {
+        match first_requests(alloc, &origin, &options, wellknown, shared)? {
             Ok(effects) => {
                 let state = Reading {
-                    begun: Call::new(alloc, call, page, origin, options, provider)?,
+                    begun: Call::new(alloc, call, page, origin, options)?,
                     replies: FirstReplies::none(),
                 };
                 Ok((CallState::Reading(state), effects))

@@ -27,8 +27,6 @@ pub struct BegunParts {
     pub client: Text,
     // Which account is meant.
     pub hint: Text,
-    // The provider's origin: that of the configuration URL.
-    pub provider: Origin,
 }
 
 // Written out, so that one function lets it go wherever it ends.
@@ -41,7 +39,6 @@ impl Drop for BegunParts {
             config: _,
             client: _,
             hint: _,
-            provider: _,
         } = self;
     }
 }
@@ -59,12 +56,12 @@ impl Model for Begun {
 
     ghost use Rattle.std.specs.Prelude.{◌≡◌};
     ghost use Rattle.fed_origin.specs.declared.scheme.Scheme.TheVariants.{Https};
-    ghost use Rattle.fed_origin.specs.WebUrl.{scheme_of, origin_of};
+    ghost use Rattle.fed_origin.specs.WebUrl.{scheme_of};
 
     ghost view = { λ b. fresh b.place.value.call b.place.value.page b.place.value.origin
         (disconnect_options b.place.value.config b.place.value.client b.place.value.hint) };
 
-    ghost invariant = { λ b. (scheme_of b.place.value.config ≡ Https) × (b.place.value.provider ≡ origin_of b.place.value.config) };
+    ghost invariant = { λ b. scheme_of b.place.value.config ≡ Https };
 }
 
 // Written out, so that one function lets it go wherever it ends.
@@ -88,7 +85,6 @@ impl Begun {
         requires { scheme_of config ≡ Scheme.Https }
         ensures { IfOk result (λ begun. begun ≡ fresh call page origin (disconnect_options config client hint)) }
     {
-        let provider = Origin::of_url(alloc, &config)?;
         let parts = BegunParts {
             call,
             page,
@@ -96,7 +92,6 @@ impl Begun {
             config,
             client,
             hint,
-            provider,
         };
         Ok(Begun {
             place: Box::new(alloc, parts)?,
@@ -123,7 +118,7 @@ impl Begun {
             ≡ spec.disconnect_start_row (world_of shared.now) self.now.origin self.now.options) }
     {
         // Looked at first, so that the URL is known to be https in each arm.
-        let provider = &self.place.provider;
+        let provider = self.place.config.origin();
         let wellknown = match wellknown {
             Ok(url) => url,
             Err(_) => return Ok(Err(FailStep::NoSite)),

@@ -163,9 +163,9 @@ impl Begun {
         ensures { IfOk result (λ effect. effect ≡ spec.forgotten self.now.origin (provider_origin self.now.options) account
             (has_triple kept.now (triple_of self.now.origin (provider_origin self.now.options) account))) }
     {
-        if kept.has(&self.place.origin, &self.place.provider, &account) {
+        if kept.has(&self.place.origin, self.place.config.origin(), &account) {
             let page = self.place.origin.copy(alloc)?;
-            let provider = self.place.provider.copy(alloc)?;
+            let provider = self.place.config.origin().copy(alloc)?;
             let triple = Triple {
                 page,
                 provider,
@@ -181,7 +181,7 @@ impl Begun {
         ensures { IfOk result (λ effect. effect ≡ Effect.ForgetPair self.now.origin (provider_origin self.now.options)) }
     {
         let page = Placed::new(alloc, self.place.origin.copy(alloc)?)?;
-        let provider = Placed::new(alloc, self.place.provider.copy(alloc)?)?;
+        let provider = Placed::new(alloc, self.place.config.origin().copy(alloc)?)?;
         Ok(Effect::ForgetPair(page, provider))
     }
 }

@@ -1,5 +1,7 @@
 -- Slots, as entries come, change and go.
-pub mod Holes
+pub mod Places
+pub mod Lists
 pub mod Written
+pub mod Closed
 pub mod Changes
 pub mod Standing

@@ -1,56 +1,49 @@
 -- Entries in order of entering, and the holes that those which went have left.
-use Rattle.std.specs.Prelude.{◌≡◌, ◌<◌, ◌+◌, ℕ, Bool, cond, nat_eq, List, length, Option, None, Some, option_map}
-use Rattle.std.specs.List.{AllByRecursion, IsDistinct, filter_map}
-use Rattle.std.specs.Map.{keys_of, lookup, set_value}
+use Rattle.std.specs.Prelude.{◌≡◌, ◌≤◌, ◌+◌, ◌^◌, ℕ, suc, Bool, false, cond, List, [], ◌∷◌, length, Option, None, Some, option_map}
+use Rattle.std.specs.Prelude.{slice_get, slice_set, if◌then◌else◌}
+use Rattle.std.specs.List.{IsDistinct, filter_map}
+use Rattle.std.specs.Map.{keys_of, lookup}
 use Rattle.std.specs.Option.{option_map_or}
 
--- a number of entering, and the entry that entered under it, unless it went
-abbrev pub Slot : Type 0 → Type 0 → Type 0
-Slot K V = ℕ × Option (K × V)
-
 module _ {K V : Type 0} where
-  -- what is said of each entry that stands, by its number of entering, under its key
-  abbrev pub entries_by : {X : Type 0} → (ℕ → V → X) → List (Slot K V) → List (K × X)
-  entries_by said slots = filter_map (λ slot. option_map (λ entry. (entry.0, said slot.0 entry.1)) slot.1) slots
+  -- the entries that stand in slots
+  abbrev pub entries_in : List (Option (K × V)) → List (K × V)
+  entries_in slots = filter_map (λ slot. slot) slots
 
-  -- the entries that stand
-  abbrev pub entries_in : List (Slot K V) → List (K × V)
-  entries_in slots = entries_by (λ number value. value) slots
+  -- an entry stands in the slot, and its key passes the test
+  abbrev pub holds : (K → Bool) → Option (K × V) → Bool
+  holds test slot = option_map_or (λ entry. test entry.0) slot false
 
-  -- their numbers of entering
-  abbrev pub numbers_in : List (Slot K V) → List (K × ℕ)
-  numbers_in slots = entries_by (λ number value. number) slots
+  -- the place of the first slot with such an entry
+  abbrev pub place_in : (K → Bool) → List (Option (K × V)) → Option ℕ
+  place_in test [] = None
+  place_in test (slot ∷ slots) = if holds test slot then Some 0 else option_map (λ place. suc place) (place_in test slots)
 
-  -- each number is below this one
-  abbrev pub AreBelow : ℕ → List (Slot K V) → Type 0
-  AreBelow next slots = AllByRecursion (λ slot. slot.0 < next) slots
-
-  -- what stands in the slot of a number, if it has one, becomes this
-  abbrev pub with_slot : (Option (K × V) → Option (K × V)) → ℕ → List (Slot K V) → List (Slot K V)
-  with_slot change number slots =
-      option_map_or (λ slot. set_value (nat_eq number) slots (change slot)) (lookup (nat_eq number) slots) slots
+  -- what stands at a place, if there is one, becomes this
+  abbrev pub with_slot : (Option (K × V) → Option (K × V)) → ℕ → List (Option (K × V)) → List (Option (K × V))
+  with_slot change place slots = option_map_or (λ slot. slice_set slots place (change slot)) (slice_get slots place) slots
 
   -- a hole is left there
-  abbrev pub with_hole : ℕ → List (Slot K V) → List (Slot K V)
-  with_hole number slots = with_slot (λ slot. None) number slots
+  abbrev pub with_hole : ℕ → List (Option (K × V)) → List (Option (K × V))
+  with_hole place slots = with_slot (λ slot. None) place slots
 
   -- the entry there has another value
-  abbrev pub with_value : V → ℕ → List (Slot K V) → List (Slot K V)
-  with_value value number slots = with_slot (option_map (λ entry. (entry.0, value))) number slots
+  abbrev pub with_value : V → ℕ → List (Option (K × V)) → List (Option (K × V))
+  with_value value place slots = with_slot (option_map (λ entry. (entry.0, value))) place slots
 
   -- what is true of each such list: an entry is found by its key exactly where it stands, and none stands twice
-  pub record AreEntries (same : K → K → Bool) (entered : List (K × ℕ)) (slots : List (Slot K V)) (next : ℕ) : Type 0 where
-    pub found : (key : K) → lookup (same key) entered ≡ lookup (same key) (numbers_in slots)
-    pub count : length entered ≡ length (entries_in slots)
-    pub below : AreBelow next slots
+  pub record AreEntries (same : K → K → Bool) (places : List (K × ℕ)) (slots : List (Option (K × V))) : Type 0 where
+    pub found : (key : K) → lookup (same key) places ≡ place_in (same key) slots
+    pub count : length places ≡ length (entries_in slots)
+    pub fits : length slots ≤ 2 ^ 32
     pub distinct : IsDistinct same (keys_of (entries_in slots))
 
 module _ {K : Type 0} (same : K → K → Bool) where
-  -- a number is that of this key, and the numbers of the others stay
-  abbrev pub NumbersOne : K → ℕ → List (K × ℕ) → List (K × ℕ) → Type 0
-  NumbersOne key number old new =
-      (other : K) → lookup (same other) new ≡ cond (same key other) (Some number) (lookup (same other) old)
+  -- a place is that of this key, and the places of the others stay
+  abbrev pub PlacesOne : K → ℕ → List (K × ℕ) → List (K × ℕ) → Type 0
+  PlacesOne key place old new =
+      (other : K) → lookup (same other) new ≡ cond (same key other) (Some place) (lookup (same other) old)
 
-  -- where the key has no number, there is one number more
+  -- where the key has no place, there is one place more
   abbrev pub CountsOne : K → List (K × ℕ) → List (K × ℕ) → Type 0
   CountsOne key old new = lookup (same key) old ≡ None → length new ≡ length old + 1

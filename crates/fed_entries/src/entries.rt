@@ -1,10 +1,10 @@
 //! Entries in order of entering.
-ghost use Rattle.std.specs.Prelude.{◌≡◌, ◌<◌, ◌++◌, ◌∷◌, [], ℕ, false, Some, None, nat_eq, is_some, length, slice_get};
+ghost use Rattle.std.specs.Prelude.{◌≡◌, ◌<◌, ◌≤◌, ◌^◌, ◌++◌, ◌∷◌, [], true, false, Some, None, is_some, length, slice_get};
 ghost use Rattle.std.specs.Prelude.{option_copied, option_map, option_and_then, OnOk, OnErr};
 ghost use Rattle.std.specs.List.{IsDistinct};
 ghost use Rattle.std.specs.Map.{keys_of, values_of, lookup};
 ghost use Rattle.indexmap.specs.IndexMap.{spare, insert_entry, shift_remove_entry};
-ghost use Rattle.fed_entries.specs.Entries.{AreBelow, CountsOne, NumbersOne, with_hole, with_value, entries_in, numbers_in};
+ghost use Rattle.fed_entries.specs.Entries.{AreEntries, CountsOne, PlacesOne, with_hole, with_value, entries_in, place_in};
 
 use fed_io::NoRoom;
 use indexmap::IndexMap;
@@ -12,27 +12,24 @@ use std::alloc::Global;
 use std::hash::Hash;
 use std::marker::Model;
 
-/// The entry of each number of entering, and none where it went. The numbers rise.
-pub type Slots<K, V> = IndexMap<u64, Option<(K, V)>>;
+/// An entry, or the hole that one has left.
+pub type Slot<K, V> = Option<(K, V)>;
 
 /// Values under keys, in order of entering. One that goes leaves a hole and moves none of the others, so what it costs does
 /// not grow with them. Contracts see those that stand.
 pub struct Entries<K: Eq + Hash, V> {
-    /// The number of entering of each.
-    entered: IndexMap<K, u64>,
-    /// By the numbers of entering.
-    slots: Slots<K, V>,
-    /// The number that the next one enters under.
-    next: u64,
+    /// The place of each among the slots.
+    places: IndexMap<K, u32>,
+    /// In order of entering.
+    slots: Vec<Slot<K, V>>,
 }
 
 // Written out, so that one function lets it go wherever it ends.
 impl<K: Eq + Hash + Drop, V: Drop> Drop for Entries<K, V> {
     fn drop(self) {
         let Entries {
-            entered: _,
+            places: _,
             slots: _,
-            next: _,
         } = self;
     }
 }
@@ -43,9 +40,9 @@ impl<K: Eq + Hash, V> Model for Entries<K, V> {
 
     ghost Value = { List (K × V) };
 
-    ghost view = { λ e. entries_in e.slots.entries };
+    ghost view = { λ e. entries_in e.slots.items };
 
-    ghost invariant = { λ e. AreEntries K.eq e.entered.entries e.slots.entries e.next };
+    ghost invariant = { λ e. AreEntries K.eq e.places.entries e.slots.items };
 }
 
 impl<K: Copy + Eq + Hash + Drop, V: Drop> Entries<K, V> {
@@ -54,9 +51,8 @@ impl<K: Copy + Eq + Hash + Drop, V: Drop> Entries<K, V> {
         ensures { result ≡ [] }
     {
         Entries {
-            entered: IndexMap::new(alloc),
-            slots: IndexMap::new(alloc),
-            next: 0,
+            places: IndexMap::new(alloc),
+            slots: Vec::new(alloc),
         }
     }
 
@@ -64,8 +60,8 @@ impl<K: Copy + Eq + Hash + Drop, V: Drop> Entries<K, V> {
     pub fn get(&self, key: K) -> Option<&V>
         ensures { option_copied result ≡ lookup (K.eq key) self.now }
     {
-        match self.entered.get(&key) {
-            Some(number) => value_at(&self.slots, *number),
+        match self.places.get(&key) {
+            Some(place) => value_at(self.slots.as_slice(), *place as usize),
             None => None,
         }
     }
@@ -74,7 +70,7 @@ impl<K: Copy + Eq + Hash + Drop, V: Drop> Entries<K, V> {
     pub fn has(&self, key: K) -> bool
         ensures { result ≡ is_some (lookup (K.eq key) self.now) }
     {
-        self.entered.contains_key(&key)
+        self.places.contains_key(&key)
     }
 
     /// Puts a value under a key. A key that stands keeps its place, and a new one enters last. On want of memory the entries
@@ -83,8 +79,8 @@ impl<K: Copy + Eq + Hash + Drop, V: Drop> Entries<K, V> {
         ensures ok { OnOk result (self.new ≡ insert_entry K.eq self.old key value) }
         ensures err { OnErr result (self.new ≡ self.old) }
     {
-        if let Some(number) = self.entered.get(&key) {
-            write(&mut self.slots, *number, value);
+        if let Some(place) = self.places.get(&key) {
+            write(&mut self.slots, *place, value);
             return Ok(());
         }
         self.insert_new(key, value)
@@ -97,13 +93,8 @@ impl<K: Copy + Eq + Hash + Drop, V: Drop> Entries<K, V> {
         ensures ok { OnOk result (self.new ≡ insert_entry K.eq self.old key value) }
         ensures err { OnErr result (self.new ≡ self.old) }
     {
-        let number = self.next;
-        let Some(next) = number.checked_add(1) else {
-            return Err(NoRoom);
-        };
-        close_up(&self.entered, &mut self.slots);
-        enter(&mut self.entered, &mut self.slots, number, key, value)?;
-        self.next = next;
+        close_up(&mut self.places, &mut self.slots);
+        enter(&mut self.places, &mut self.slots, key, value)?;
         Ok(())
     }
 
@@ -111,8 +102,8 @@ impl<K: Copy + Eq + Hash + Drop, V: Drop> Entries<K, V> {
     pub fn remove(&mut self, key: K)
         ensures { self.new ≡ shift_remove_entry (K.eq key) self.old }
     {
-        if let Some(number) = self.entered.swap_remove(&key) {
-            leave_hole(&mut self.slots, number);
+        if let Some(place) = self.places.swap_remove(&key) {
+            leave_hole(&mut self.slots, place);
         }
     }
 
@@ -120,7 +111,7 @@ impl<K: Copy + Eq + Hash + Drop, V: Drop> Entries<K, V> {
     pub fn len(&self) -> usize
         ensures { result ≡ length self.now }
     {
-        self.entered.len()
+        self.places.len()
     }
 
     /// The value at place `k` from 0 in order of entering; `None` exactly where `k` is at least `len`. It takes no memory.
@@ -128,45 +119,42 @@ impl<K: Copy + Eq + Hash + Drop, V: Drop> Entries<K, V> {
         ensures { option_copied result ≡ slice_get (values_of self.now) k }
     {
         // Without holes an entry stands at the place of its slot: then a walk over all places takes linear time.
-        if self.slots.len() == self.entered.len() {
-            return at_slot(&self.slots, k);
+        if self.slots.len() == self.places.len() {
+            return at_slot(self.slots.as_slice(), k);
         }
-        standing(&self.slots, k)
+        standing(self.slots.as_slice(), k)
     }
 
     /// Where the entries stand, with holes between them: for a walk over all. It takes no memory.
-    pub fn slots(&self) -> &Slots<K, V>
-        ensures { entries_in result.now.entries ≡ self.now }
+    pub fn slots(&self) -> &[Slot<K, V>]
+        ensures { entries_in result.now ≡ self.now }
     {
-        &self.slots
+        self.slots.as_slice()
     }
 }
 
-// The value of the entry that entered under the number.
-fn value_at<K, V>(slots: &Slots<K, V>, number: u64) -> Option<&V>
-    ensures value { option_copied result
-        ≡ option_map (λ entry. entry.1) (option_and_then (λ slot. slot) (lookup (nat_eq number) slots.now.entries)) }
-    ensures distinct { IsDistinct nat_eq (keys_of slots.now.entries) }
+// The value of the entry at a place.
+fn value_at<K, V>(slots: &[Slot<K, V>], place: usize) -> Option<&V>
+    ensures { option_copied result
+        ≡ option_map (λ entry. entry.1) (option_and_then (λ slot. slot) (slice_get slots.now place)) }
 {
-    let _ = slots.len();
-    match slots.get(&number) {
+    match slots.get(place) {
         Some(Some((_, value))) => Some(value),
         _ => None,
     }
 }
 
-// The entry that entered under the number has another value.
-fn write<K: Drop, V: Drop>(slots: &mut Slots<K, V>, number: u64, value: V)
-    ensures slots { slots.new.entries ≡ with_value value number slots.old.entries }
-    ensures distinct { IsDistinct nat_eq (keys_of slots.old.entries) }
+// The entry at a place has another value.
+fn write<K: Drop, V: Drop>(slots: &mut Vec<Slot<K, V>>, place: u32, value: V)
+    ensures { slots.new.items ≡ with_value value place slots.old.items }
 {
-    if let Some(slot) = slots.get_mut(&number) {
+    if let Some(slot) = slots.get_mut(place as usize) {
         set_value(slot, value);
     }
 }
 
 // The entry of a slot has another value.
-fn set_value<K: Drop, V: Drop>(slot: &mut Option<(K, V)>, value: V)
+fn set_value<K: Drop, V: Drop>(slot: &mut Slot<K, V>, value: V)
     ensures { slot.new ≡ option_map (λ entry. (entry.0, value)) slot.old }
 {
     if let Some(entry) = slot {
@@ -175,91 +163,105 @@ fn set_value<K: Drop, V: Drop>(slot: &mut Option<(K, V)>, value: V)
 }
 
 // Takes the holes out, where there are as many as entries: the removals that made them pay for the pass over all.
-fn close_up<K: Eq + Hash + Drop, V: Drop>(entered: &IndexMap<K, u64>, slots: &mut Slots<K, V>)
-    ensures entries { entries_in slots.new.entries ≡ entries_in slots.old.entries }
-    ensures numbers { numbers_in slots.new.entries ≡ numbers_in slots.old.entries }
-    ensures below { (next : ℕ) → AreBelow next slots.old.entries → AreBelow next slots.new.entries }
+fn close_up<K: Eq + Hash + Drop, V: Drop>(
+    places: &mut IndexMap<K, u32>,
+    slots: &mut Vec<Slot<K, V>>,
+)
+    requires { AreEntries K.eq places.old.entries slots.old.items }
+    ensures entries { entries_in slots.new.items ≡ entries_in slots.old.items }
+    ensures kept { AreEntries K.eq places.new.entries slots.new.items }
 {
-    if slots.len() / 2 >= entered.len() {
+    if slots.len() / 2 >= places.len() {
         slots.retain(
-            |_: &u64, slot: &mut Option<(K, V)>| -> bool
-                ensures { (result ≡ is_some slot.old) × (slot.new ≡ slot.old) }
+            |slot: &Slot<K, V>| -> bool
+                ensures { result ≡ is_some slot.now }
             { slot.is_some() },
         );
+        place_anew(places, slots.as_slice());
     }
 }
 
-// Adds an entry under a number that is above all others.
+// Each entry has the place of its slot.
+fn place_anew<K: Eq + Hash, V>(places: &mut IndexMap<K, u32>, slots: &[Slot<K, V>])
+    requires fits { length slots.now ≤ 2 ^ 32 }
+    requires distinct { IsDistinct K.eq (keys_of (entries_in slots.now)) }
+    requires found { (key : K) → is_some (lookup (K.eq key) places.old.entries) ≡ is_some (place_in (K.eq key) slots.now) }
+    ensures found { (key : K) → lookup (K.eq key) places.new.entries ≡ place_in (K.eq key) slots.now }
+    ensures count { length places.new.entries ≡ length places.old.entries }
+{
+    for place in 0..slots.len() {
+        if let Some((key, _)) = &slots[place] {
+            place_at(places, key, place as u32);
+        }
+    }
+}
+
+// An entry has this place.
+fn place_at<K: Eq + Hash>(places: &mut IndexMap<K, u32>, key: &K, place: u32)
+    requires { is_some (lookup (K.eq key.now) places.old.entries) ≡ true }
+    ensures places { PlacesOne K.eq key.now place places.old.entries places.new.entries }
+    ensures count { length places.new.entries ≡ length places.old.entries }
+{
+    if let Some(there) = places.get_mut(key) {
+        *there = place;
+    }
+}
+
+// Adds an entry.
 fn enter<K: Copy + Eq + Hash + Drop, V: Drop>(
-    entered: &mut IndexMap<K, u64>,
-    slots: &mut Slots<K, V>,
-    number: u64,
+    places: &mut IndexMap<K, u32>,
+    slots: &mut Vec<Slot<K, V>>,
     key: K,
     value: V,
 ) -> Result<(), NoRoom>
-    requires { lookup (nat_eq number) slots.old.entries ≡ None }
-    ensures entered { OnOk result (NumbersOne K.eq key number entered.old.entries entered.new.entries) }
-    ensures count { OnOk result (CountsOne K.eq key entered.old.entries entered.new.entries) }
-    ensures slots { OnOk result (slots.new.entries ≡ slots.old.entries ++ (number, Some (key, value)) ∷ []) }
-    ensures err_entered { OnErr result (entered.new.entries ≡ entered.old.entries) }
-    ensures err_slots { OnErr result (slots.new.entries ≡ slots.old.entries) }
+    ensures places { OnOk result (PlacesOne K.eq key (length slots.old.items) places.old.entries places.new.entries) }
+    ensures count { OnOk result (CountsOne K.eq key places.old.entries places.new.entries) }
+    ensures slots { OnOk result (slots.new.items ≡ slots.old.items ++ Some (key, value) ∷ []) }
+    ensures fits { OnOk result (length slots.old.items < 2 ^ 32) }
+    ensures err_places { OnErr result (places.new.entries ≡ places.old.entries) }
+    ensures err_slots { OnErr result (slots.new.items ≡ slots.old.items) }
 {
-    entered.reserve(1)?;
-    match slots.insert(number, Some((key, value))) {
-        Ok(_) => {
-            put_number(entered, key, number);
-            Ok(())
-        }
-        Err(_) => Err(NoRoom),
-    }
+    let Ok(place) = u32::try_from(slots.len()) else {
+        return Err(NoRoom);
+    };
+    places.reserve(1)?;
+    slots.push(Some((key, value)))?;
+    put_place(places, key, place);
+    Ok(())
 }
 
-// Puts a number, for which there is room.
-fn put_number<K: Eq + Hash + Drop>(entered: &mut IndexMap<K, u64>, key: K, number: u64)
-    requires { 0 < spare entered.old }
-    ensures entered { NumbersOne K.eq key number entered.old.entries entered.new.entries }
-    ensures count { CountsOne K.eq key entered.old.entries entered.new.entries }
+// Puts a place, for which there is room.
+fn put_place<K: Eq + Hash + Drop>(places: &mut IndexMap<K, u32>, key: K, place: u32)
+    requires { 0 < spare places.old }
+    ensures places { PlacesOne K.eq key place places.old.entries places.new.entries }
+    ensures count { CountsOne K.eq key places.old.entries places.new.entries }
 {
-    let _ = entered.insert(key, number);
+    let _ = places.insert(key, place);
 }
 
-// The entry that entered under the number goes.
-fn leave_hole<K: Drop, V: Drop>(slots: &mut Slots<K, V>, number: u64)
-    ensures slots { slots.new.entries ≡ with_hole number slots.old.entries }
-    ensures distinct { IsDistinct nat_eq (keys_of slots.old.entries) }
+// The entry at a place goes.
+fn leave_hole<K: Drop, V: Drop>(slots: &mut Vec<Slot<K, V>>, place: u32)
+    ensures { slots.new.items ≡ with_hole place slots.old.items }
 {
-    if let Some(slot) = slots.get_mut(&number) {
+    if let Some(slot) = slots.get_mut(place as usize) {
         *slot = None;
     }
 }
 
 // The value at place k, where there are no holes.
-fn at_slot<K, V>(slots: &Slots<K, V>, k: usize) -> Option<&V>
-    requires { length (entries_in slots.now.entries) ≡ length slots.now.entries }
-    ensures { option_copied result ≡ slice_get (values_of (entries_in slots.now.entries)) k }
+fn at_slot<K, V>(slots: &[Slot<K, V>], k: usize) -> Option<&V>
+    requires { length (entries_in slots.now) ≡ length slots.now }
+    ensures { option_copied result ≡ slice_get (values_of (entries_in slots.now)) k }
 {
-    match slots.get_index(k) {
-        Some((_, slot)) => value_in(slot),
-        None => None,
-    }
-}
-
-// The value of a slot.
-fn value_in<K, V>(slot: &Option<(K, V)>) -> Option<&V>
-    ensures { option_copied result ≡ option_map (λ entry. entry.1) slot.now }
-{
-    match slot {
-        Some((_, value)) => Some(value),
-        None => None,
-    }
+    value_at(slots, k)
 }
 
 // The value at place k among those that stand.
-fn standing<K, V>(slots: &Slots<K, V>, k: usize) -> Option<&V>
-    ensures { option_copied result ≡ slice_get (values_of (entries_in slots.now.entries)) k }
+fn standing<K, V>(slots: &[Slot<K, V>], k: usize) -> Option<&V>
+    ensures { option_copied result ≡ slice_get (values_of (entries_in slots.now)) k }
 {
     let mut before = k;
-    for (_, slot) in slots.iter() {
+    for slot in slots {
         if let Some((_, value)) = slot {
             if before == 0 {
                 return Some(value);

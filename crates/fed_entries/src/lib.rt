@@ -3,4 +3,4 @@
 
 mod entries;
 
-pub use entries::{Entries, Slots};
+pub use entries::{Entries, Slot};

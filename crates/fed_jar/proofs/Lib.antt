@@ -1,5 +1,6 @@
 pub mod order
 pub mod keys
+pub mod texts
 pub mod writes
 pub mod parties
 pub mod parts

@@ -4,11 +4,12 @@ use Rattle.std.specs.Prelude.{Option, None, Some, is_some, option_map, slice_get
 use Rattle.std.specs.List.{AllByRecursion, IsDistinct}
 use Rattle.std.specs.Map.{keys_of, lookup}
 use Rattle.std.specs.Option.{option_map_or}
-use Rattle.indexmap.specs.IndexSet.{IndexSet}
 use Rattle.fed_suffix.specs.Rule.{RuleSet}
 use Rattle.fed_suffix.specs.Registrable.{party}
 use Rattle.fed_jar.specs.declared.numbered.Numbered.{Numbered}
 use Rattle.fed_jar.specs.declared.numbered.Lent.{Lent}
+use Rattle.fed_jar.specs.declared.party_cookies.PartyCookies.{PartyCookies}
+use Rattle.fed_jar.specs.declared.party_cookies.PartyCookies.TheVariants.{Empty, One, Many}
 use Rattle.fed_jar.specs.Cookie.{StoredCookie, KeptCookie, JarParts, AreDistinct, same_key, cookies_of}
 use Rattle.fed_jar.specs.Send.{in_order}
 
@@ -45,9 +46,21 @@ put_numbered (n ∷ ns) new = if same_numbered new n then record n { cookie = ne
 abbrev pub Lists : Type 0
 Lists = List (List ℕ × List Numbered)
 
+-- the cookies of one party, however they are held
+abbrev pub cookies_held : PartyCookies → List Numbered
+cookies_held Empty = []
+cookies_held (One only) = only ∷ []
+cookies_held (Many cookies) = cookies.value.keys
+
+-- there is one cookie, which has another name, domain or path
+abbrev pub IsOther : Numbered → PartyCookies → Type 0
+IsOther new Empty = ⊥
+IsOther new (One only) = same_numbered new only ≡ false
+IsOther new (Many cookies) = ⊥
+
 -- the entries of the jar's map as plain lists
-abbrev pub lists_of : {K S : Type 0} → (K → List ℕ) → List (K × IndexSet Numbered S) → Lists
-lists_of text entries = map (λ e. (text e.0, e.1.keys)) entries
+abbrev pub lists_of : {K : Type 0} → (K → List ℕ) → List (K × PartyCookies) → Lists
+lists_of text entries = map (λ e. (text e.0, cookies_held e.1)) entries
 
 -- the list under the party, empty where there is none
 abbrev pub list_under : List ℕ → Lists → List Numbered

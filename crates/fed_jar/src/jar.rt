@@ -19,7 +19,7 @@ use crate::lists::{
 };
 use crate::numbered::{Lent, Numbered};
 use crate::store::{cookie_from, host_only_of, is_refused_of, site_by};
-use crate::{Cookie, send};
+use crate::{Cookie, PackedCookie, send};
 use fed_cookie::RawCookie;
 use fed_io::{Bytes, NoRoom};
 use fed_origin::{Host, WebUrl};
@@ -128,7 +128,7 @@ impl Jar {
         let Some(host_only) = self.scope_of(rules, url, &raw) else {
             return Ok(false);
         };
-        let cookie = cookie_from(self.alloc, url, now, raw, host_only)?;
+        let cookie = cookie_from(self.alloc, url, now, &raw, host_only)?;
         self.put(rules, url.host(), cookie)?;
         Ok(true)
     }
@@ -163,7 +163,7 @@ impl Jar {
 
     // Puts the cookie under the party of the host, under which each cookie with its name, domain and
     // path is kept.
-    fn put(&mut self, rules: &Suffixes, host: &Host, cookie: Cookie) -> Result<(), NoRoom>
+    fn put(&mut self, rules: &Suffixes, host: &Host, cookie: PackedCookie) -> Result<(), NoRoom>
         requires kept { IsKeptBy rules.now self.old }
         requires own { has_key cookie (cookies_in self.old)
             ≡ has_key cookie (cookies_of (kept_under (party rules.now host.now) self.old.kept)) }
@@ -172,7 +172,7 @@ impl Jar {
         ensures err { OnErr result (self.new ≡ self.old) }
     {
         let number = self.entered;
-        let host_only = cookie.host_only;
+        let host_only = cookie.host_only();
         let new = Numbered { cookie, number };
         let kept = keep(&mut self.parties, self.alloc, self.last, rules, host, new)?;
         self.entered = after(number, kept.is_new);
@@ -252,7 +252,7 @@ fn keep(
     ensures err { OnErr result (lists_of (λ key. key.items) parties.new.entries ≡ lists_of (λ key. key.items) parties.old.entries) }
 {
     match place_by(parties, last, rules, host) {
-        Some(at) => keep_more(parties, at, new),
+        Some(at) => keep_more(parties, alloc, at, new),
         None => keep_first(parties, alloc, rules.party(host), new),
     }
 }
@@ -284,7 +284,7 @@ fn copies(alloc: Global, cookies: &[Numbered]) -> Result<Vec<Cookie>, NoRoom>
 {
     let mut list = Vec::new(alloc);
     for one in cookies {
-        list.push(one.cookie.copy(alloc)?)?;
+        list.push(one.cookie.unpack(alloc)?)?;
     }
     Ok(list)
 }
@@ -314,7 +314,7 @@ fn lent_copies(alloc: Global, all: &[Lent<'_>]) -> Result<Vec<Cookie>, NoRoom>
 {
     let mut list = Vec::new(alloc);
     for lent in all {
-        list.push(lent.one.cookie.copy(alloc)?)?;
+        list.push(lent.one.cookie.unpack(alloc)?)?;
     }
     Ok(list)
 }

@@ -6,9 +6,12 @@ mod jar;
 pub mod laws;
 mod lists;
 mod numbered;
+mod packed;
+mod party_cookies;
 mod send;
 mod store;
 
 pub use cookie::Cookie;
 pub use jar::Jar;
 pub use numbered::Numbered;
+pub use packed::PackedCookie;

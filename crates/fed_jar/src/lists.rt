@@ -1,20 +1,20 @@
 //! The lists of a jar, by parties.
-ghost use Rattle.std.specs.Prelude.{◌≡◌, ◌++◌, ℕ, List, IfOk, IfSome, OnOk, OnErr, None, Some, not, bytes_eq, option_map};
+ghost use Rattle.std.specs.Prelude.{◌≡◌, ◌++◌, ℕ, List, IfOk, IfSome, OnOk, OnErr, None, Some, not, bytes_eq};
 ghost use Rattle.std.specs.List.{IsDistinct, list_any};
 ghost use Rattle.std.specs.Map.{keys_of};
 ghost use Rattle.fed_suffix.specs.Rule.{RuleSet};
 ghost use Rattle.fed_suffix.specs.Registrable.{party};
-ghost use Rattle.indexmap.specs.IndexSet.{get_by};
-ghost use Rattle.fed_jar.specs.Parts.{AreOwn, IsPlace};
+ghost use Rattle.fed_jar.specs.Parts.{AreOwn, IsPlace, cookies_held};
 ghost use Rattle.fed_jar.specs.Parts.{lists_of, list_under, put_under, put_numbered, same_numbered, all_numbered, lent_numbered};
 
 use crate::numbered::{Lent, Numbered};
+use crate::party_cookies::PartyCookies;
 use fed_io::NoRoom;
-use indexmap::{IndexMap, IndexSet};
+use indexmap::IndexMap;
 use std::alloc::Global;
 
 /// The cookies of each party by its text, in the order of first storing. A look-up by a slice takes no memory.
-pub type Parties = IndexMap<Vec<u8>, IndexSet<Numbered>>;
+pub type Parties = IndexMap<Vec<u8>, PartyCookies>;
 
 /// The cookies that are kept under the party.
 pub fn listed<'a>(parties: &'a Parties, party: &[u8]) -> &'a [Numbered]
@@ -42,8 +42,8 @@ pub fn party_at<'a>(parties: &'a Parties, place: Place, host: &[u8]) -> Option<(
         → IfSome result (λ found. found.1.now ≡ party rules host.now) }
 {
     let (name, cookies) = parties.get_index(place.party)?;
-    let one = cookies.get_index(place.cookie)?;
-    if one.cookie.domain.as_slice() != host {
+    let one = cookies.get(place.cookie)?;
+    if one.cookie.domain() != host {
         return None;
     }
     Some((place.party, name.as_slice()))
@@ -66,7 +66,7 @@ pub struct Kept {
     pub place: Place,
 }
 
-/// The first cookie of a party: its list is made with it, so no party stands without a cookie.
+/// The first cookie of a party: the party stands from it on, so none stands without a cookie.
 pub fn keep_first(
     parties: &mut Parties,
     alloc: Global,
@@ -80,14 +80,12 @@ pub fn keep_first(
         ≡ not (list_any (same_numbered new) (list_under party.now (lists_of (λ key. key.items) parties.old.entries)))) }
     ensures err { OnErr result (lists_of (λ key. key.items) parties.new.entries ≡ lists_of (λ key. key.items) parties.old.entries) }
 {
-    let mut cookies = IndexSet::new(alloc);
-    cookies.insert(new)?;
     let name = party.to_vec(alloc)?;
     let place = Place {
         party: parties.len(),
         cookie: 0,
     };
-    parties.insert(name, cookies)?;
+    parties.insert(name, PartyCookies::One(new))?;
     Ok(Kept {
         is_new: true,
         place,
@@ -96,7 +94,12 @@ pub fn keep_first(
 
 /// One more cookie of the party at the place: a new one, or one that takes the number of that
 /// which it replaces.
-pub fn keep_more(parties: &mut Parties, at: usize, new: Numbered) -> Result<Kept, NoRoom>
+pub fn keep_more(
+    parties: &mut Parties,
+    alloc: Global,
+    at: usize,
+    new: Numbered,
+) -> Result<Kept, NoRoom>
     requires named { IsDistinct bytes_eq (keys_of (lists_of (λ key. key.items) parties.old.entries)) }
     ensures ok { OnOk result ((name : List ℕ) → IsPlace name (Some at) (lists_of (λ key. key.items) parties.old.entries)
         → lists_of (λ key. key.items) parties.new.entries ≡ put_under name (lists_of (λ key. key.items) parties.old.entries) new) }
@@ -105,49 +108,25 @@ pub fn keep_more(parties: &mut Parties, at: usize, new: Numbered) -> Result<Kept
     ensures err { OnErr result (lists_of (λ key. key.items) parties.new.entries ≡ lists_of (λ key. key.items) parties.old.entries) }
 {
     match parties.get_index_mut(at) {
-        Some(cookies) => put(cookies, at, new),
+        Some(cookies) => put(cookies, alloc, at, new),
         // There is one at the place of a party.
         None => Err(NoRoom),
     }
 }
 
-fn put(cookies: &mut IndexSet<Numbered>, at: usize, new: Numbered) -> Result<Kept, NoRoom>
-    ensures ok { OnOk result (cookies.new.keys ≡ put_numbered cookies.old.keys new) }
-    ensures fresh { IfOk result (λ kept. kept.is_new ≡ not (list_any (same_numbered new) cookies.old.keys)) }
-    ensures err { OnErr result (cookies.new.keys ≡ cookies.old.keys) }
+fn put(cookies: &mut PartyCookies, alloc: Global, at: usize, new: Numbered) -> Result<Kept, NoRoom>
+    ensures ok { OnOk result (cookies_held cookies.new ≡ put_numbered (cookies_held cookies.old) new) }
+    ensures fresh { IfOk result (λ kept. kept.is_new ≡ not (list_any (same_numbered new) (cookies_held cookies.old))) }
+    ensures err { OnErr result (cookies_held cookies.new ≡ cookies_held cookies.old) }
 {
-    match number_of(cookies, &new) {
-        Some(number) => {
-            let Numbered { cookie, number: _ } = new;
-            let (place, _) = cookies.replace_full(Numbered { cookie, number })?;
-            Ok(Kept::at(false, at, place))
-        }
-        None => {
-            let (place, _) = cookies.insert_full(new)?;
-            Ok(Kept::at(true, at, place))
-        }
-    }
-}
-
-impl Kept {
-    fn at(is_new: bool, party: usize, cookie: usize) -> Kept
-        ensures { result.is_new ≡ is_new }
-    {
-        Kept {
-            is_new,
-            place: Place { party, cookie },
-        }
-    }
-}
-
-// The number of the cookie with this name, domain and path.
-fn number_of(cookies: &IndexSet<Numbered>, new: &Numbered) -> Option<u64>
-    ensures { result ≡ option_map (λ n. n.number) (get_by (same_numbered new.now) cookies.now) }
-{
-    match cookies.get(new) {
-        Some(old) => Some(old.number),
-        None => None,
-    }
+    let entered = cookies.put(alloc, new)?;
+    Ok(Kept {
+        is_new: entered.is_new,
+        place: Place {
+            party: at,
+            cookie: entered.place,
+        },
+    })
 }
 
 /// All cookies, one party after another.

@@ -7,14 +7,14 @@ ghost use Rattle.std.specs.Cmp.Lexicographic.{nat_list_eq_equiv};
 ghost use Rattle.std.specs.Cmp.Rules.{hashing};
 ghost use Rattle.fed_jar.specs.Parts.{same_numbered};
 
-use crate::Cookie;
+use crate::PackedCookie;
 use std::hash::{Hash, Hasher};
 
 /// A cookie of a jar, and how many new keys had entered the jar before it. Two are equal where their
 /// cookies have the same name, domain and path.
 #[derive(Drop)]
 pub struct Numbered {
-    pub cookie: Cookie,
+    pub cookie: PackedCookie,
     pub number: u64,
 }
 
@@ -25,8 +25,9 @@ impl PartialEq for Numbered {
         (and_equiv (on_equiv (λ n. n.cookie.domain) nat_list_eq_equiv) (on_equiv (λ n. n.cookie.path) nat_list_eq_equiv))) };
 
     fn eq(&self, other: &Numbered) -> bool {
-        self.cookie.name == other.cookie.name
-            && (self.cookie.domain == other.cookie.domain && self.cookie.path == other.cookie.path)
+        self.cookie.name() == other.cookie.name()
+            && (self.cookie.domain() == other.cookie.domain()
+                && self.cookie.path() == other.cookie.path())
     }
 }
 
@@ -41,9 +42,9 @@ impl Hash for Numbered {
     ghost respects_eq = { Prim.search (hashing, rules) };
 
     fn hash<H: Hasher>(&self, state: &mut H) {
-        self.cookie.name.hash(state);
-        self.cookie.domain.hash(state);
-        self.cookie.path.hash(state);
+        self.cookie.name().hash(state);
+        self.cookie.domain().hash(state);
+        self.cookie.path().hash(state);
     }
 }
 

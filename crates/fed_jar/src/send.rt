@@ -9,7 +9,7 @@ ghost use Rattle.fed_jar.specs.Parts.{lent_cookie, lent_cookies, numbered_cookie
 ghost use Rattle.fed_jar.specs.Send as spec;
 ghost use Rattle.fed_jar.specs.Store as within;
 
-use crate::Cookie;
+use crate::PackedCookie;
 use crate::numbered::{Lent, Numbered};
 use crate::store::is_within;
 use fed_cookie::{SameSite, path_matches};
@@ -112,8 +112,7 @@ fn divide<'a>(
 fn path_length(lent: &Lent<'_>) -> usize
     ensures { result ≡ spec.path_length (lent_cookie lent.now) }
 {
-    let cookie = &lent.one.cookie;
-    cookie.path.as_slice().len()
+    lent.one.cookie.path().len()
 }
 
 // The same by sorting alone.
@@ -163,15 +162,11 @@ fn push_next(text: &mut Vec<u8>, lent: &Lent<'_>) -> Result<(), NoRoom>
     push_pair(text, lent)
 }
 
-#[tactic(auto, unfolding(crate::specs::Send::pair_text))]
 fn push_pair(text: &mut Vec<u8>, lent: &Lent<'_>) -> Result<(), NoRoom>
     ensures value { OnOk result (text.new.items ≡ text.old.items ++ spec.pair_text (lent_cookie lent.now)) }
     ensures line { HasNoLineEnd text.old.items → OnOk result (HasNoLineEnd text.new.items) }
 {
-    let cookie = &lent.one.cookie;
-    text.extend_from_slice(cookie.name.as_slice())?;
-    text.push(b'=')?;
-    text.extend_from_slice(cookie.value.as_slice())?;
+    text.extend_from_slice(lent.one.cookie.pair())?;
     Ok(())
 }
 
@@ -185,17 +180,17 @@ fn is_sent<'a>(
     site: Option<&[u8]>,
     now: u64,
     last: &mut Option<(&'a [u8], bool)>,
-    cookie: &'a Cookie,
+    cookie: &'a PackedCookie,
 ) -> bool
     requires site { option_copied site ≡ registrable rules.now (host_of url.now) }
     requires known { spec.IsKnown rules.now (host_of url.now) last.old }
     ensures value { result ≡ spec.is_sent rules.now url.now now cookie.now }
     ensures known { spec.IsKnown rules.now (host_of url.now) last.new }
 {
-    cookie.secure
-        && cookie.same_site == SameSite::NoLimit
-        && is_fresh(now, cookie.expiry)
-        && path_matches(url.path().as_bytes(), cookie.path.as_slice())
+    cookie.secure()
+        && cookie.same_site() == SameSite::NoLimit
+        && is_fresh(now, cookie.expiry())
+        && path_matches(url.path().as_bytes(), cookie.path())
         && goes_to(rules, url.host(), site, last, cookie)
 }
 
@@ -213,17 +208,17 @@ fn goes_to<'a>(
     host: &Host,
     site: Option<&[u8]>,
     last: &mut Option<(&'a [u8], bool)>,
-    cookie: &'a Cookie,
+    cookie: &'a PackedCookie,
 ) -> bool
     requires site { option_copied site ≡ registrable rules.now host.now }
     requires known { spec.IsKnown rules.now host.now last.old }
     ensures value { result ≡ spec.goes_to rules.now host.now cookie.now }
     ensures known { spec.IsKnown rules.now host.now last.new }
 {
-    if cookie.host_only {
-        return cookie.domain.as_slice() == host.text.as_str().as_bytes();
+    if cookie.host_only() {
+        return cookie.domain() == host.text.as_str().as_bytes();
     }
-    is_within_last(rules, host, site, last, cookie.domain.as_slice())
+    is_within_last(rules, host, site, last, cookie.domain())
 }
 
 // Whether the host is within the domain, which may be the one that was looked at last.

@@ -5,9 +5,9 @@ ghost use Rattle.fed_origin.specs.WebUrl.{scheme_of};
 ghost use Rattle.fed_suffix.specs.Registrable.{party as party_of, registrable};
 ghost use Rattle.fed_jar.specs.Store as spec;
 
-use crate::Cookie;
+use crate::packed::{LentCookie, PackedCookie};
 use fed_cookie::{RawCookie, SameSite, default_path, domain_matches};
-use fed_io::{Bytes, NoRoom};
+use fed_io::NoRoom;
 use fed_origin::{Host, Scheme, WebUrl};
 use fed_suffix::Suffixes;
 use std::alloc::Global;
@@ -117,42 +117,30 @@ pub fn cookie_from(
     alloc: Global,
     url: &WebUrl,
     now: u64,
-    raw: RawCookie,
+    raw: &RawCookie,
     host_only: bool,
-) -> Result<Cookie, NoRoom>
-    ensures { IfOk result (λ cookie. cookie ≡ spec.cookie_from url.now now raw host_only) }
+) -> Result<PackedCookie, NoRoom>
+    ensures { IfOk result (λ cookie. cookie ≡ spec.cookie_from url.now now raw.now host_only) }
 {
-    let RawCookie {
-        name,
-        value,
-        domain,
-        path,
-        expires,
-        max_age,
-        secure,
-        same_site,
-    } = raw;
-    let domain = or_copy(alloc, domain, url.host().text.as_str().as_bytes())?;
-    let path = or_copy(alloc, path, default_path(url.path().as_bytes()))?;
-    Ok(Cookie {
-        name,
-        value,
-        domain,
+    let cookie = LentCookie {
+        name: raw.name.as_slice(),
+        value: raw.value.as_slice(),
+        domain: domain_from(url.host(), raw),
         host_only,
-        path,
-        expiry: expiry_of(now, max_age, expires),
-        secure,
-        same_site,
-    })
+        path: path_from(url.path().as_bytes(), raw),
+        expiry: expiry_of(now, raw.max_age, raw.expires),
+        secure: raw.secure,
+        same_site: raw.same_site,
+    };
+    PackedCookie::of(alloc, &cookie)
 }
 
-// The bytes that are there, or else a copy of the others.
-fn or_copy(alloc: Global, bytes: Option<Bytes>, other: &[u8]) -> Result<Bytes, NoRoom>
-    ensures { IfOk result (λ r. r ≡ unwrap_or bytes other.now) }
+fn domain_from<'a>(host: &'a Host, raw: &'a RawCookie) -> &'a [u8]
+    ensures { result.now ≡ unwrap_or raw.now.domain host.now }
 {
-    match bytes {
-        Some(bytes) => Ok(bytes),
-        None => Bytes::of(alloc, other),
+    match &raw.domain {
+        Some(domain) => domain.as_slice(),
+        None => host.text.as_str().as_bytes(),
     }
 }
 

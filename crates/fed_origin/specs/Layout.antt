@@ -4,7 +4,7 @@ use Rattle.url.specs.declared.slicing.Position.TheVariants.{BeforePath, AfterPat
 use Rattle.url.specs.Parts.{Parts, serialize, offset, IsValid}
 use Rattle.url.specs.Parser.{Parsed, parse_url}
 use Rattle.fed_origin.specs.declared.layout.Layout.TheInside.{Inside}
-use Rattle.fed_origin.specs.WebUrl.{web_part, scheme_of, host_of, origin_of}
+use Rattle.fed_origin.specs.WebUrl.{web_part, origin_of}
 
 -- the parts that were read, and empty ones where none were
 abbrev pub parts_or_empty : Parsed Parts → Parts
@@ -33,9 +33,7 @@ pub record IsLayoutOf (l : Inside) (url : Parts) : Type 0 where
   pub ascii : IsAscii (string_bytes l.text)
   pub valid : IsValid url
   pub web : web_part (Ok url) ≡ Ok url
-  pub scheme : l.scheme ≡ scheme_of url
-  pub host : l.host ≡ host_of url
-  pub port : l.port ≡ (origin_of url).port
+  pub origin : l.origin ≡ origin_of url
   pub path : l.path ≡ offset url BeforePath
   pub query : l.query ≡ option_map (λ _. offset url AfterPath) url.query
   pub end : l.end ≡ offset url AfterQuery

@@ -6,7 +6,7 @@ ghost use Rattle.url.specs.Parts.{Parts, serialize};
 ghost use Rattle.fed_origin.specs.Plain as spec;
 
 use crate::plain::{FRONT, Plain, Tail};
-use crate::{Host, Scheme};
+use crate::{Host, Origin, Scheme};
 use fed_io::NoRoom;
 use std::alloc::Global;
 use std::marker::Model;
@@ -16,9 +16,7 @@ use url::{Position, Url};
 /// see it as the parts that `url` reads in the text.
 pub(crate) struct Layout {
     text: String,
-    scheme: Scheme,
-    host: Host,
-    port: u16,
+    origin: Origin,
     // Before the first `/` of the path.
     path: usize,
     // Before `?`.
@@ -32,9 +30,7 @@ impl Drop for Layout {
     fn drop(self) {
         let Layout {
             text: _,
-            scheme: _,
-            host: _,
-            port: _,
+            origin: _,
             path: _,
             query: _,
             end: _,
@@ -58,7 +54,7 @@ impl Model for Layout {
 }
 
 impl Layout {
-    ghost use Rattle.fed_origin.specs.WebUrl.{web_part, host_of, scheme_of, path_query_of, origin_of};
+    ghost use Rattle.fed_origin.specs.WebUrl.{web_part, path_query_of, origin_of};
 
     /// The layout of a URL of the web that `url` read.
     pub fn of(alloc: Global, url: Url) -> Result<Layout, NoRoom>
@@ -74,9 +70,7 @@ impl Layout {
         let text = String::from(url);
         Ok(Layout {
             text,
-            scheme,
-            host,
-            port,
+            origin: Origin { scheme, host, port },
             path,
             query,
             end,
@@ -94,9 +88,11 @@ impl Layout {
         let host = Host::of(alloc, &text[FRONT.len()..path])?;
         Ok(Layout {
             text: String::from_str(alloc, text)?,
-            scheme: Scheme::Https,
-            host,
-            port: 443,
+            origin: Origin {
+                scheme: Scheme::Https,
+                host,
+                port: 443,
+            },
             path,
             query,
             end: text.len(),
@@ -108,15 +104,13 @@ impl Layout {
         requires { spec.IsReference text.now tail.path.now (option_copied tail.query) }
         ensures { IfOk result (λ layout. web_part (parse_url (Some self.now) text.now) ≡ Ok layout) }
     {
-        let host = self.host.copy(alloc)?;
+        let origin = self.origin.copy(alloc)?;
         let text = joined(alloc, &self.text.as_str()[..self.path], text)?;
         let query = marked(tail.query, self.path + tail.path.len());
         let end = text.as_str().len();
         Ok(Layout {
             text,
-            scheme: self.scheme,
-            host,
-            port: self.port,
+            origin,
             path: self.path,
             query,
             end,
@@ -155,22 +149,10 @@ impl Layout {
         self.text.as_str() == text
     }
 
-    pub fn host(&self) -> &Host
-        ensures { result.now ≡ host_of self.now }
+    pub fn origin(&self) -> &Origin
+        ensures { result.now ≡ origin_of self.now }
     {
-        &self.host
-    }
-
-    pub fn scheme(&self) -> Scheme
-        ensures { result ≡ scheme_of self.now }
-    {
-        self.scheme
-    }
-
-    pub fn port(&self) -> u16
-        ensures { result ≡ (origin_of self.now).port }
-    {
-        self.port
+        &self.origin
     }
 
     pub fn path(&self) -> &str

@@ -48,13 +48,7 @@ impl Origin {
     pub fn of_url(alloc: Global, url: &WebUrl) -> Result<Origin, NoRoom>
         ensures { IfOk result (λ origin. origin ≡ origin_of url.now) }
     {
-        let host = url.host().copy(alloc)?;
-        let scheme = url.scheme();
-        Ok(Origin {
-            scheme,
-            host,
-            port: url.port(),
-        })
+        url.origin().copy(alloc)
     }
 
     /// An origin equal to this one.

@@ -6,7 +6,7 @@ ghost use Rattle.url.specs.Parts.{serialize};
 
 use crate::layout::Layout;
 use crate::plain::{read_plain, read_reference};
-use crate::{Host, Scheme, UrlRefusal};
+use crate::{Host, Origin, Scheme, UrlRefusal};
 use fed_io::{Fault, NoRoom};
 use std::alloc::Global;
 use std::marker::Model;
@@ -82,9 +82,7 @@ impl WebUrl {
     pub fn same_origin(&self, other: &WebUrl) -> bool
         ensures { result ≡ same_origin (origin_of self.now) (origin_of other.now) }
     {
-        self.scheme() == other.scheme()
-            && *self.host() == *other.host()
-            && self.port() == other.port()
+        *self.origin() == *other.origin()
     }
 
     /// Whether both URLs are equal, their fragments too: they are where their serialized texts are (URL 4.6). It takes no memory.
@@ -156,25 +154,32 @@ impl WebUrl {
         self.layout.as_str()
     }
 
+    /// The origin (URL 4.7). It takes no memory.
+    pub fn origin(&self) -> &Origin
+        ensures { result.now ≡ origin_of self.now }
+    {
+        self.layout.origin()
+    }
+
     /// The host. It takes no memory.
     pub fn host(&self) -> &Host
         ensures { result.now ≡ host_of self.now }
     {
-        self.layout.host()
+        &self.origin().host
     }
 
     /// The scheme.
     pub fn scheme(&self) -> Scheme
         ensures { result ≡ scheme_of self.now }
     {
-        self.layout.scheme()
+        self.origin().scheme
     }
 
     /// The port, or the scheme's own.
     pub fn port(&self) -> u16
         ensures { result ≡ (origin_of self.now).port }
     {
-        self.layout.port()
+        self.origin().port
     }
 
     /// The path.

@@ -14,6 +14,24 @@ pub(crate) fn is_plain(b: u8) -> bool
     !(b == b'"' || (b == b'\\' || b < 32))
 }
 
+// For each byte a digit, 1 where it stands for itself: one look spares three compares where a text is read byte by byte.
+static PLAIN: [u8; 256] = *b"\
+    00000000000000000000000000000000\
+    11011111111111111111111111111111\
+    11111111111111111111111111110111\
+    11111111111111111111111111111111\
+    11111111111111111111111111111111\
+    11111111111111111111111111111111\
+    11111111111111111111111111111111\
+    11111111111111111111111111111111";
+
+// The same as `is_plain`, by the table.
+fn stands_for_itself(b: u8) -> bool
+    ensures { result ≡ is_plain_byte b }
+{
+    PLAIN[b as usize] & 1 != 0
+}
+
 // The byte for which an escape of this letter stands, where it is the shortest one.
 #[tactic(auto, unfolding(json::specs::Print::escape_byte))]
 fn escaped_byte(letter: u8) -> Option<u8>
@@ -36,7 +54,7 @@ fn first_byte(bytes: &[u8]) -> Option<(u8, &[u8])>
     ensures shorter { IfSome result (λ found. length found.1.now < length bytes.now) }
 {
     let (b, after) = bytes.split_first()?;
-    if is_plain(*b) {
+    if stands_for_itself(*b) {
         return Some((*b, after));
     }
     if *b != b'\\' {

@@ -13,6 +13,9 @@ use fed_io::{Items, NoRoom};
 use std::alloc::Global;
 use std::marker::Model;
 
+// How much memory, in bytes, stays for the lines that the ends of pieces cut.
+const STAYS: usize = 16_384;
+
 /// A reader of a script that comes in pieces, which may end anywhere. Of the bytes it keeps those alone that follow the
 /// last line end. It reads the lines as `read_script` does: the first as the header, each later one as blank or as an
 /// event, up to the first bad one. After want of memory it answers that from then on.
@@ -199,7 +202,7 @@ impl ScriptReader {
     }
 
     // Reads the line of what is kept and then these bytes. A line that lies in one piece is read where it stands; only
-    // one that a piece's end cuts is put together, in memory that stays.
+    // one that a piece's end cuts is put together, in memory that stays where the line is not long.
     fn read_line(&mut self, bytes: &[u8]) -> Result<Line, NoRoom>
         requires few { self.old.phase.number < 2 ^ 32 - 1 }
         ensures line { IfOk result (λ found. found ≡ read_as self.old.phase (self.old.rest ++ bytes.now)) }
@@ -213,8 +216,21 @@ impl ScriptReader {
         }
         self.rest.extend_from_slice(bytes)?;
         let found = self.reading.take(self.alloc, self.rest.as_slice())?;
-        self.rest.clear();
+        self.let_go();
         Ok(found)
+    }
+
+    // Keeps no bytes. The memory of a long line goes, so that it does not stand while its event is taken.
+    fn let_go(&mut self)
+        ensures rest { self.new.rest ≡ [] }
+        ensures phase { self.new.phase ≡ self.old.phase }
+        ensures alive { self.new.alive ≡ self.old.alive }
+    {
+        if self.rest.capacity() > STAYS {
+            self.rest = Vec::new(self.alloc);
+        } else {
+            self.rest.clear();
+        }
     }
 
     // Reads the next line that ends in the piece, or keeps the piece.

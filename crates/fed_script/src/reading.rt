@@ -28,7 +28,8 @@ fn event_line(alloc: Global, number: u32, line: &[u8], used: &mut Used) -> Resul
     }
 }
 
-// What the first line is read as.
+// What the first line is read as. By itself, since what it makes room for is filled with zeros at each call of what has it.
+#[inline(never)]
 fn head_line(alloc: Global, number: u32, line: &[u8]) -> Result<Line, NoRoom>
     ensures line { IfOk result (λ found. found ≡ line_by None number line.now) }
     ensures follows { IfOk result (LineMayFollow None) }
@@ -40,7 +41,8 @@ fn head_line(alloc: Global, number: u32, line: &[u8]) -> Result<Line, NoRoom>
     }
 }
 
-// What is used after the first line.
+// What is used after the first line. By itself, as `head_line`.
+#[inline(never)]
 fn used_after_head(alloc: Global, line: &Line) -> Option<Used>
     ensures { result ≡ used_by line.now None }
 {

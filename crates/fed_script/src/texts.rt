@@ -12,6 +12,9 @@ use std::str;
 // What stands behind the last text of a line.
 const END: &[u8] = b"\"}";
 
+// How long a text may be, in bytes, that is kept for the lines after it: those of a longer one would stand twice more.
+const KEPT: usize = 2048;
+
 // A text as a line had it, and its bytes.
 #[derive(Drop)]
 struct LastText {
@@ -99,6 +102,9 @@ fn kept_bytes(
 ) -> Result<Option<Bytes>, NoRoom>
     ensures { IfOk result (λ found. IfSome found (λ bytes. (escaped.now ≡ escape bytes) × IsUtf8 bytes)) }
 {
+    if escaped.len() > KEPT {
+        return text_bytes(alloc, escaped);
+    }
     if let Some(text) = &*last {
         if let Some(bytes) = text.find(escaped) {
             return Ok(Some(Bytes::of(alloc, bytes)?));
@@ -115,7 +121,8 @@ fn kept_bytes(
     }
 }
 
-/// The last texts of replies of some kinds. One that comes again need not be read byte by byte: that spares some 2,400 instructions.
+/// The last texts of replies of some kinds that are not long. One that comes again need not be read byte by byte: that spares some 2,400
+/// instructions.
 pub(crate) struct LastTexts {
     wellknown: Option<LastText>,
     config: Option<LastText>,

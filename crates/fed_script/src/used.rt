@@ -9,7 +9,7 @@ use crate::cause::LineCause;
 use crate::event::Event;
 use crate::line::{LineMemory, event_named};
 use fed_io::{Fault, NoRoom};
-use indexmap::IndexSet;
+use fed_numbers::Numbers;
 use std::alloc::Global;
 use std::marker::Model;
 
@@ -17,7 +17,7 @@ use std::marker::Model;
 /// number of their events, and the time in seconds since 1970.
 #[derive(Drop)]
 pub struct Used {
-    calls: IndexSet<u32>,
+    calls: Numbers,
     started: bool,
     events: u32,
     time: u64,
@@ -29,7 +29,7 @@ impl Model for Used {
 
     ghost Value = { UsedState };
 
-    ghost view = { λ u. record { calls = u.calls.keys; started = u.started; events = u.events; time = u.time } };
+    ghost view = { λ u. record { calls = u.calls; started = u.started; events = u.events; time = u.time } };
 }
 
 impl Used {
@@ -38,7 +38,7 @@ impl Used {
         ensures { result ≡ unused time }
     {
         Used {
-            calls: IndexSet::new(alloc),
+            calls: Numbers::new(alloc),
             started: false,
             events: 0,
             time,
@@ -65,7 +65,7 @@ impl Used {
         ensures { result ≡ is_used self.now event.now }
     {
         match event {
-            Event::Get { call, .. } | Event::Disconnect { call, .. } => self.calls.contains(call),
+            Event::Get { call, .. } | Event::Disconnect { call, .. } => self.calls.has(*call),
             _ => false,
         }
     }
@@ -109,10 +109,9 @@ impl Used {
         ensures ok { OnOk result (self.new ≡ used_after event.now self.old) }
         ensures err { OnErr result (self.new ≡ self.old) }
     {
-        match event {
-            Event::Get { call, .. } | Event::Disconnect { call, .. } => self.calls.insert(*call)?,
-            _ => false,
-        };
+        if let Event::Get { call, .. } | Event::Disconnect { call, .. } = event {
+            self.calls.insert(*call)?;
+        }
         self.started = started_after(event, self.started);
         self.time = time_after(event, self.time);
         self.events += 1;

@@ -1,5 +1,5 @@
 //! What is kept of calls.
-ghost use Rattle.std.specs.Prelude.{◌≡◌, true, is_some, IfOk, Some, None, option_copied, option_map, option_and_then};
+ghost use Rattle.std.specs.Prelude.{◌≡◌, true, is_some, IfOk, Some, None, option_copied, option_map};
 ghost use Rattle.fed_call.specs.State.{facts_of};
 ghost use Rattle.fed_disconnect.specs.State.{disconnect_facts_of};
 ghost use Rattle.fed_status.specs.Shared.{world_of};
@@ -7,7 +7,7 @@ ghost use Rattle.fed_trace.specs.Begun.{is_get};
 ghost use Rattle.fed_trace.specs.Call.{Known, OfGet, OfDisconnect, kind_of, page_of};
 ghost use Rattle.fed_session.specs.StepParts.{known_of, awaited_in, stage_in, outcome_at, kept_next};
 
-use fed_call::CallState;
+use fed_call::{CallState, Ended};
 use fed_consent::{Effect, Input};
 use fed_disconnect::DState;
 use fed_io::{Items, NoRoom};
@@ -16,27 +16,27 @@ use fed_status::Shared;
 use std::alloc::Global;
 use std::marker::Model;
 
-/// The state of a call that is pending, by its kind. It is small: what is large of it stands in places of its own.
+/// The state of a call, by its kind. It is small: what is large of it stands in places of its own.
 #[derive(Drop)]
 pub enum Pending {
     Get(CallState),
     Disconnect(DState),
 }
 
-/// What is kept of a call that was taken: its state where it is pending, and nothing where it is over.
+/// What is kept of a call that was taken: its state, where it is pending or over.
 #[derive(Drop)]
 pub struct Kept {
-    pub state: Option<Pending>,
+    pub state: Pending,
 }
 
 impl Model for Kept {
-    ghost use Rattle.std.specs.Prelude.{Option, option_and_then};
+    ghost use Rattle.std.specs.Prelude.{Option};
     ghost use Rattle.fed_trace.specs.Call.{Known};
     ghost use Rattle.fed_session.specs.StepParts.{known_of};
 
     ghost Value = { Option Known };
 
-    ghost view = { λ kept. option_and_then known_of kept.state };
+    ghost view = { λ kept. known_of kept.state };
 }
 
 impl Pending {
@@ -113,11 +113,8 @@ impl Kept {
     pub(crate) fn of_get(state: CallState) -> Kept
         ensures { result ≡ option_map OfGet (facts_of state) }
     {
-        match state {
-            CallState::Ended(..) => Kept::over(),
-            other => Kept {
-                state: Some(Pending::Get(other)),
-            },
+        Kept {
+            state: Pending::Get(state),
         }
     }
 
@@ -125,17 +122,14 @@ impl Kept {
     pub(crate) fn of_disconnect(state: DState) -> Kept
         ensures { result ≡ option_map OfDisconnect (disconnect_facts_of state) }
     {
-        match state {
-            DState::DEnded(..) => Kept::over(),
-            other => Kept {
-                state: Some(Pending::Disconnect(other)),
-            },
+        Kept {
+            state: Pending::Disconnect(state),
         }
     }
 
-    /// The state of the call, where it is pending. It takes no memory.
-    pub(crate) fn into_state(self) -> Option<Pending>
-        ensures { option_and_then known_of result ≡ self }
+    /// The state of the call. It takes no memory.
+    pub(crate) fn into_state(self) -> Pending
+        ensures { known_of result ≡ self }
     {
         self.state
     }
@@ -144,36 +138,27 @@ impl Kept {
     pub(crate) fn page(&self) -> Option<u32>
         ensures { result ≡ option_map page_of self.now }
     {
-        match &self.state {
-            Some(state) => state.page(),
-            None => None,
-        }
+        self.state.page()
     }
 
     /// The origin for which the call waits; none where it waits for none. It takes no memory.
     pub(crate) fn waits_for(&self) -> Option<&Origin>
         ensures { option_copied result ≡ awaited_in self.now }
     {
-        match &self.state {
-            Some(state) => state.waits_for(),
-            None => None,
-        }
+        self.state.waits_for()
     }
 
     /// Whether the call, which is pending, is a get. It takes no memory.
     pub(crate) fn is_get(&self) -> bool
         ensures { (known : Known) → self.now ≡ Some known → result ≡ is_get (kind_of known) }
     {
-        match &self.state {
-            Some(Pending::Get(_)) => true,
-            Some(Pending::Disconnect(_)) | None => false,
-        }
+        matches!(self.state, Pending::Get(_))
     }
 
     /// What is kept of a call that is over.
     pub(crate) fn over() -> Kept
         ensures { result ≡ None }
     {
-        Kept { state: None }
+        Kept::of_get(CallState::Ended(Ended))
     }
 }

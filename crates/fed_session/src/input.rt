@@ -41,9 +41,7 @@ pub(crate) fn take_input<L: Ledger>(
     let Some(kept) = tabs.lend(call) else {
         return ignored(alloc, line, unpending(tabs, call));
     };
-    let Some(state) = kept.into_state() else {
-        return ignored(alloc, line, Why::CallEnded);
-    };
+    let state = kept.into_state();
     let page = state.page();
     let waited = state.waits();
     learn(alloc, sight, &state, input)?;

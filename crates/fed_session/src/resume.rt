@@ -85,9 +85,7 @@ fn resume_one<L: Ledger>(
     let Some(kept) = tabs.lend(call) else {
         return ignored(alloc, line, Why::CallEnded);
     };
-    let Some(state) = kept.into_state() else {
-        return ignored(alloc, line, Why::CallEnded);
-    };
+    let state = kept.into_state();
     let page = state.page();
     let waited = state.waits();
     let (kept, effects) = state.advance(alloc, &Input::Resume, &sight.lent())?;

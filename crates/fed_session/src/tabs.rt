@@ -20,9 +20,10 @@ use crate::view::{shown_calls, shown_pages};
 use fed_entries::Entries;
 use fed_io::{Items, NoRoom, Steps};
 use fed_links::Links;
+use fed_numbers::Numbers;
 use fed_origin::{Origin, Stage};
 use fed_table::Table;
-use indexmap::{IndexMap, IndexSet};
+use indexmap::IndexMap;
 use std::alloc::Global;
 use std::marker::Model;
 use std::sync::ledger::Ledger;
@@ -34,7 +35,7 @@ pub struct Tabs {
     /// The pending get of each page that has one.
     gets: IndexMap<u32, u32>,
     /// The calls that were taken.
-    taken: IndexSet<u32>,
+    taken: Numbers,
     /// The pages that were ever loaded, each with its pending calls.
     table: Table<Kept>,
     /// How many loads, calls and opened windows there were. There are no more pages, pending calls and origins waited for.
@@ -60,9 +61,9 @@ impl Model for Tabs {
 
     ghost Value = { TabsParts };
 
-    ghost view = { λ t. record { pages = t.pages; gets = t.gets.entries; taken = t.taken.keys; table = t.table } };
+    ghost view = { λ t. record { pages = t.pages; gets = t.gets.entries; taken = t.taken; table = t.table } };
 
-    ghost invariant = { λ t. AreTabs t.pages t.taken.keys t.table t.changes };
+    ghost invariant = { λ t. AreTabs t.pages t.taken t.table t.changes };
 }
 
 impl Tabs {
@@ -73,7 +74,7 @@ impl Tabs {
         Tabs {
             pages: Entries::new(alloc),
             gets: IndexMap::new(alloc),
-            taken: IndexSet::new(alloc),
+            taken: Numbers::new(alloc),
             table: Table::new(alloc),
             changes: 0,
         }
@@ -97,7 +98,7 @@ impl Tabs {
     pub(crate) fn was_taken(&self, call: u32) -> bool
         ensures { result ≡ list_any (nat_eq call) self.now.taken }
     {
-        self.taken.contains(&call)
+        self.taken.has(call)
     }
 
     /// A page's pending calls end, and it stands with this origin: one that stands keeps its place, and a new one enters last.

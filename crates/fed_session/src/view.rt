@@ -6,13 +6,13 @@ ghost use Rattle.fed_session.specs.Session.{item_known};
 ghost use Rattle.fed_session.specs.StepParts as spec;
 
 use crate::calls::Kept;
-use fed_entries::Slots;
+use fed_entries::Slot;
 use fed_io::{Items, NoRoom};
 use fed_jar::Cookie;
+use fed_numbers::Numbers;
 use fed_origin::{LoginStatus, Origin, Stage, Triple};
 use fed_status::{LoginMap, SilentFlags};
 use fed_table::Table;
-use indexmap::IndexSet;
 use std::alloc::Global;
 
 /// What stands in a session after the events that it took. Each list is in order of first entering.
@@ -66,12 +66,12 @@ pub(crate) fn shown_flags(alloc: Global, flags: &SilentFlags) -> Result<Items<Or
 /// The pages with their origins.
 pub(crate) fn shown_pages(
     alloc: Global,
-    slots: &Slots<u32, Origin>,
+    slots: &[Slot<u32, Origin>],
 ) -> Result<Items<(u32, Origin)>, NoRoom>
-    ensures { IfOk result (λ shown. shown ≡ entries_in slots.now.entries) }
+    ensures { IfOk result (λ shown. shown ≡ entries_in slots.now) }
 {
     let mut shown = Items::new(alloc);
-    for (_, slot) in slots.iter() {
+    for slot in slots {
         if let Some((page, origin)) = slot {
             shown.push((*page, origin.copy(alloc)?))?;
         }
@@ -82,13 +82,13 @@ pub(crate) fn shown_pages(
 /// The calls that are pending.
 pub(crate) fn shown_calls(
     alloc: Global,
-    taken: &IndexSet<u32>,
+    taken: &Numbers,
     table: &Table<Kept>,
 ) -> Result<Items<(u32, u32, Stage)>, NoRoom>
-    ensures { IfOk result (λ shown. shown ≡ spec.shown_calls (item_known table.now.items) taken.now.keys) }
+    ensures { IfOk result (λ shown. shown ≡ spec.shown_calls (item_known table.now.items) taken.now) }
 {
     let mut shown = Items::new(alloc);
-    for call in taken.iter() {
+    for call in taken.list(alloc)?.as_slice() {
         if let Some((page, stage)) = stage_of(table, *call) {
             shown.push((*call, page, stage))?;
         }
@@ -101,7 +101,6 @@ fn stage_of(table: &Table<Kept>, call: u32) -> Option<(u32, Stage)>
     ensures { result ≡ option_map (λ known. (page_of known, stage_of known)) (item_known table.now.items call) }
 {
     let kept = table.get(call)?;
-    let state = kept.state.as_ref()?;
-    let page = state.page()?;
-    Some((page, state.stage()))
+    let page = kept.state.page()?;
+    Some((page, kept.state.stage()))
 }

@@ -1,6 +1,7 @@
--- The numbers under which permissions are kept, and the table by them.
+-- The ids and numbers under which permissions are kept, and the table by them.
 pub mod Equal
-pub mod Places
+pub mod Origins
+pub mod Found
 pub mod Listed
 pub mod Removed
 pub mod Tables

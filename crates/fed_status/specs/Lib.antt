@@ -1,7 +1,7 @@
 pub mod Flags
 pub mod Kept
 pub mod Login
+pub mod Names
 pub mod Pairs
-pub mod Place
 pub mod Shared
 pub mod Table

@@ -1,74 +1,89 @@
-//! The accounts of which a permission is kept, by pairs.
-ghost use Rattle.std.specs.Prelude.{◌≡◌, true, false, not, is_some, slice_get, IfOk, OnOk, OnErr};
+//! The permissions of each pair, by their accounts.
+ghost use Rattle.std.specs.Prelude.{◌≡◌, ℕ, List, false, is_some, slice_get, OnOk, OnErr};
 ghost use Rattle.std.specs.Map.{lookup};
-ghost use Rattle.fed_status.specs.Pairs.{accounts_in, accounts_of, is_listed, ListsSame, ListsOne, ListsNone};
-ghost use Rattle.fed_status.specs.Place.{same_pair, pair_at};
+ghost use Rattle.fed_origin.specs.declared.status.Triple.{Triple};
+ghost use Rattle.fed_status.specs.Pairs.{id_of, ids_of, ListsNew, ListsLess, ListsSame, ListsNone};
+ghost use Rattle.fed_status.specs.Names.{same_pair};
 
 use crate::accounts::PairAccounts;
-use crate::place::{Pair, Place};
-use fed_io::NoRoom;
+use crate::names::Pair;
+use fed_entries::Entries;
+use fed_io::{NoRoom, Text};
+use fed_origin::Triple;
 use indexmap::IndexMap;
 use std::alloc::Global;
 
-/// The accounts of each pair, so that those of one pair are found without a look at another's. A pair of which no permission is
+/// The permissions of each pair, so that those of one pair are found without a look at another's. A pair of which no permission is
 /// kept does not stand.
 pub type Pairs = IndexMap<Pair, PairAccounts>;
 
-/// An account is one of its pair from now on. It answers whether it was none of them; on want of memory nothing changes.
-pub fn list(pairs: &mut Pairs, alloc: Global, place: Place) -> Result<bool, NoRoom>
-    ensures ok { OnOk result (ListsOne place true pairs.old.entries pairs.new.entries) }
-    ensures fresh { IfOk result (λ is_new. is_new ≡ not (is_listed pairs.old.entries place)) }
-    ensures err { OnErr result (ListsSame pairs.old.entries pairs.new.entries) }
+/// The id of the permission of a pair for an account; `None` exactly where there is none.
+pub fn find(pairs: &Pairs, kept: &Entries<u32, Triple>, pair: Pair, account: &Text) -> Option<u32>
+    ensures { result ≡ id_of kept.now pairs.now.entries pair account.now }
 {
-    match pairs.get_mut(&place.pair()) {
-        Some(accounts) => accounts.add(alloc, place.account),
-        None => {
-            list_first(pairs, place)?;
-            Ok(true)
-        }
+    match pairs.get(&pair) {
+        Some(accounts) => accounts.find(kept, account),
+        None => None,
     }
 }
 
-// The first account of its pair.
-fn list_first(pairs: &mut Pairs, place: Place) -> Result<(), NoRoom>
-    requires { is_some (lookup (same_pair (pair_at place)) pairs.old.entries) ≡ false }
-    ensures ok { OnOk result (ListsOne place true pairs.old.entries pairs.new.entries) }
+/// The permission under an id is one of its pair from now on. On want of memory nothing changes.
+pub fn list(
+    pairs: &mut Pairs,
+    alloc: Global,
+    kept: &Entries<u32, Triple>,
+    pair: Pair,
+    id: u32,
+) -> Result<(), NoRoom>
+    ensures ok { OnOk result (ListsNew kept.now pair id pairs.old.entries pairs.new.entries) }
     ensures err { OnErr result (ListsSame pairs.old.entries pairs.new.entries) }
 {
-    pairs.insert(place.pair(), PairAccounts::One(place.account))?;
+    match pairs.get_mut(&pair) {
+        Some(accounts) => accounts.add(alloc, kept, id),
+        None => list_first(pairs, pair, id),
+    }
+}
+
+// The first permission of its pair.
+fn list_first(pairs: &mut Pairs, pair: Pair, id: u32) -> Result<(), NoRoom>
+    requires { is_some (lookup (same_pair pair) pairs.old.entries) ≡ false }
+    ensures ok { OnOk result ((kept : List (ℕ × Triple)) → ListsNew kept pair id pairs.old.entries pairs.new.entries) }
+    ensures err { OnErr result (ListsSame pairs.old.entries pairs.new.entries) }
+{
+    pairs.insert(pair, PairAccounts::One(id))?;
     Ok(())
 }
 
-/// An account is one of its pair no longer.
-pub fn unlist(pairs: &mut Pairs, place: Place)
-    ensures { ListsOne place false pairs.old.entries pairs.new.entries }
+/// The permission of a pair for an account, which stands, is one of the pair no longer.
+pub fn unlist(pairs: &mut Pairs, pair: Pair, account: &Text)
+    ensures { ListsLess pair account.now pairs.old.entries pairs.new.entries }
 {
-    list_less(pairs, place);
-    if !has_some(pairs, place.pair()) {
-        let _ = take(pairs, place.pair());
+    list_less(pairs, pair, account);
+    if !has_some(pairs, pair) {
+        let _ = take(pairs, pair);
     }
 }
 
-// An account less of its pair.
-fn list_less(pairs: &mut Pairs, place: Place)
-    ensures { ListsOne place false pairs.old.entries pairs.new.entries }
+// A permission less of the pair.
+fn list_less(pairs: &mut Pairs, pair: Pair, account: &Text)
+    ensures { ListsLess pair account.now pairs.old.entries pairs.new.entries }
 {
-    if let Some(accounts) = pairs.get_mut(&place.pair()) {
-        accounts.remove(place.account);
+    if let Some(accounts) = pairs.get_mut(&pair) {
+        accounts.remove(account);
     }
 }
 
-/// Takes the accounts of a pair out.
+/// Takes the permissions of a pair out.
 pub fn take(pairs: &mut Pairs, pair: Pair) -> Option<PairAccounts>
-    ensures accounts { accounts_in result ≡ accounts_of pairs.old.entries pair }
+    ensures accounts { result ≡ lookup (same_pair pair) pairs.old.entries }
     ensures others { ListsNone pair pairs.old.entries pairs.new.entries }
 {
     pairs.swap_remove(&pair)
 }
 
-/// Whether there is an account of the pair.
+/// Whether there is a permission of the pair.
 pub fn has_some(pairs: &Pairs, pair: Pair) -> bool
-    ensures { result ≡ is_some (slice_get (accounts_of pairs.now.entries pair) 0) }
+    ensures { result ≡ is_some (slice_get (ids_of pairs.now.entries pair) 0) }
 {
     match pairs.get(&pair) {
         Some(accounts) => accounts.has_some(),

@@ -1,30 +1,32 @@
-//! The table of kept permissions: each under the numbers of its parts.
-ghost use Rattle.std.specs.Prelude.{◌≡◌, [], Some, not, filter, length, slice_get, IfOk, OnOk, OnErr};
-ghost use Rattle.std.specs.List.{IsDistinct};
-ghost use Rattle.std.specs.Map.{keys_of, values_of};
+//! The table of kept permissions: each under an id, and the ids by pairs and accounts.
+ghost use Rattle.std.specs.Prelude.{◌≡◌, [], Some, None, length, slice_get, IfOk, OnOk, OnErr};
+ghost use Rattle.std.specs.Map.{values_of};
 ghost use Rattle.std.specs.Option.{option_copied};
 ghost use Rattle.fed_entries.specs.Entries.{entries_in};
 ghost use Rattle.fed_status.specs.Kept as spec;
 ghost use Rattle.fed_status.specs.Kept.{triple_of, with_triple, without_triple, without_pair};
-ghost use Rattle.fed_status.specs.Pairs.{accounts_held};
-ghost use Rattle.fed_status.specs.Place.{place_of, same_place, is_at_pair};
-ghost use Rattle.fed_status.specs.Table.{IsTable, ArePairsOf, triples_of, without_accounts};
+ghost use Rattle.fed_status.specs.Names.{pair_of};
+ghost use Rattle.fed_status.specs.Pairs.{id_of, ids_held, AreApart};
+ghost use Rattle.fed_status.specs.Table.{IsTable, triples_of, without_ids};
 
 use crate::accounts::PairAccounts;
-use crate::pairs::{Pairs, has_some, list, take, unlist};
-use crate::place::{Names, Pair, Place};
-use fed_entries::{Entries, Slots};
+use crate::names::{Names, Pair};
+use crate::pairs::{Pairs, find, has_some, list, take, unlist};
+use fed_entries::{Entries, Slot};
 use fed_io::{Items, NoRoom, Text};
 use fed_origin::{Origin, Triple};
-use indexmap::{IndexMap, IndexSet};
+use indexmap::IndexMap;
 use std::alloc::Global;
 
-/// The kept permissions, in order of entering, under the numbers of their parts: so one is found without a copy of its parts.
+/// The kept permissions, in order of entering, each under an id. The ids of a pair stand under the numbers of its origins: so one is
+/// found without a copy of its parts.
 pub struct Table {
     pub names: Names,
-    pub kept: Entries<Place, Triple>,
-    /// The accounts of the pairs of which some permission is kept.
+    pub kept: Entries<u32, Triple>,
+    /// The permissions of the pairs of which some permission is kept.
     pub pairs: Pairs,
+    /// The id that the next permission stands under.
+    pub next: u32,
 }
 
 // Written out, so that one function lets it go wherever it ends.
@@ -34,6 +36,7 @@ impl Drop for Table {
             names: _,
             kept: _,
             pairs: _,
+            next: _,
         } = self;
     }
 }
@@ -47,6 +50,7 @@ impl Table {
             names: Names::new(alloc),
             kept: Entries::new(alloc),
             pairs: IndexMap::new(alloc),
+            next: 0,
         }
     }
 
@@ -56,25 +60,34 @@ impl Table {
         ensures err { OnErr result (triples_of self.new ≡ triples_of self.old) }
         ensures table { IsTable self.new }
     {
-        let place = self.names.enter(alloc, &triple)?;
-        self.put(alloc, place, triple)
+        let pair = self.names.enter(alloc, &triple.page, &triple.provider)?;
+        if find(&self.pairs, &self.kept, pair, &triple.account).is_some() {
+            return Ok(());
+        }
+        self.put(alloc, pair, triple)
     }
 
-    // Adds a permission under its numbers.
-    fn put(&mut self, alloc: Global, place: Place, triple: Triple) -> Result<(), NoRoom>
+    // Adds a permission, which is not there, of a pair with these numbers.
+    fn put(&mut self, alloc: Global, pair: Pair, triple: Triple) -> Result<(), NoRoom>
         requires table { IsTable self.old }
-        requires place { place_of self.old.names triple ≡ Some place }
+        requires pair { pair_of self.old.names triple.page triple.provider ≡ Some pair }
+        requires absent { id_of self.old.kept self.old.pairs.entries pair triple.account ≡ None }
         ensures ok { OnOk result (triples_of self.new ≡ with_triple (triples_of self.old) triple) }
         ensures err { OnErr result (triples_of self.new ≡ triples_of self.old) }
         ensures table { IsTable self.new }
     {
-        if !list(&mut self.pairs, alloc, place)? {
-            return Ok(());
-        }
-        match self.kept.insert_new(place, triple) {
-            Ok(()) => Ok(()),
+        let id = self.next;
+        let Some(next) = id.checked_add(1) else {
+            return Err(NoRoom);
+        };
+        self.kept.insert_new(id, triple)?;
+        match list(&mut self.pairs, alloc, &self.kept, pair, id) {
+            Ok(()) => {
+                self.next = next;
+                Ok(())
+            }
             Err(NoRoom) => {
-                unlist(&mut self.pairs, place);
+                self.kept.remove(id);
                 Err(NoRoom)
             }
         }
@@ -84,8 +97,8 @@ impl Table {
         requires { IsTable self.now }
         ensures { result ≡ spec.has_triple (triples_of self.now) (triple_of page.now provider.now account.now) }
     {
-        match self.names.place(page, provider, account) {
-            Some(place) => self.kept.has(place),
+        match self.names.pair(page, provider) {
+            Some(pair) => find(&self.pairs, &self.kept, pair, account).is_some(),
             None => false,
         }
     }
@@ -105,9 +118,12 @@ impl Table {
         ensures value { triples_of self.new ≡ without_triple (triples_of self.old) (triple_of page.now provider.now account.now) }
         ensures table { IsTable self.new }
     {
-        if let Some(place) = self.names.place(page, provider, account) {
-            self.kept.remove(place);
-            unlist(&mut self.pairs, place);
+        let Some(pair) = self.names.pair(page, provider) else {
+            return;
+        };
+        if let Some(id) = find(&self.pairs, &self.kept, pair, account) {
+            unlist(&mut self.pairs, pair, account);
+            self.kept.remove(id);
         }
     }
 
@@ -116,8 +132,11 @@ impl Table {
         ensures value { triples_of self.new ≡ without_pair (triples_of self.old) page.now provider.now }
         ensures table { IsTable self.new }
     {
-        if let Some(pair) = self.names.pair(page, provider) {
-            forget(&mut self.kept, &mut self.pairs, pair);
+        let Some(pair) = self.names.pair(page, provider) else {
+            return;
+        };
+        if let Some(accounts) = take(&mut self.pairs, pair) {
+            remove_held(&mut self.kept, &accounts);
         }
     }
 
@@ -140,44 +159,37 @@ impl Table {
     }
 }
 
-// Removes the permissions of a pair, and no other is looked at.
-fn forget(kept: &mut Entries<Place, Triple>, pairs: &mut Pairs, pair: Pair)
-    requires pairs { ArePairsOf kept.old pairs.old.entries }
-    requires apart { IsDistinct same_place (keys_of kept.old) }
-    ensures kept { kept.new ≡ filter (λ entry. not (is_at_pair pair entry.0)) kept.old }
-    ensures pairs { ArePairsOf kept.new pairs.new.entries }
-{
-    if let Some(accounts) = take(pairs, pair) {
-        remove_held(kept, pair, &accounts);
-    }
-}
-
-// Removes the permissions of a pair for the accounts that it holds.
-fn remove_held(kept: &mut Entries<Place, Triple>, pair: Pair, accounts: &PairAccounts)
-    ensures { kept.new ≡ without_accounts pair (accounts_held accounts.now) kept.old }
+// Removes the permissions that are held, and no other is looked at.
+fn remove_held(kept: &mut Entries<u32, Triple>, accounts: &PairAccounts)
+    ensures kept { kept.new ≡ without_ids (ids_held accounts.now) kept.old }
+    ensures apart { AreApart accounts.now }
 {
     match accounts {
         PairAccounts::Empty => {}
-        PairAccounts::One(account) => kept.remove(pair.place(*account)),
-        PairAccounts::Many(accounts) => remove_each(kept, pair, accounts),
+        PairAccounts::One(id) => kept.remove(*id),
+        PairAccounts::Many(ids) => {
+            // For the proof: the length says that no account stands twice.
+            let _ = ids.len();
+            remove_each(kept, ids);
+        }
     }
 }
 
-// Removes the permissions of a pair for these accounts.
-fn remove_each(kept: &mut Entries<Place, Triple>, pair: Pair, accounts: &IndexSet<u32>)
-    ensures { kept.new ≡ without_accounts pair accounts.now.keys kept.old }
+// Removes the permissions under these ids.
+fn remove_each(kept: &mut Entries<u32, Triple>, ids: &IndexMap<Text, u32>)
+    ensures { kept.new ≡ without_ids (values_of ids.now.entries) kept.old }
 {
-    for account in accounts.iter() {
-        kept.remove(pair.place(*account));
+    for (_, id) in ids.iter() {
+        kept.remove(*id);
     }
 }
 
 // All permissions that stand, each copied.
-fn all_standing(alloc: Global, slots: &Slots<Place, Triple>) -> Result<Items<Triple>, NoRoom>
-    ensures { IfOk result (λ list. list ≡ values_of (entries_in slots.now.entries)) }
+fn all_standing(alloc: Global, slots: &[Slot<u32, Triple>]) -> Result<Items<Triple>, NoRoom>
+    ensures { IfOk result (λ list. list ≡ values_of (entries_in slots.now)) }
 {
     let mut list = Items::new(alloc);
-    for (_, slot) in slots.iter() {
+    for slot in slots {
         if let Some((_, triple)) = slot {
             list.push(triple.copy(alloc)?)?;
         }

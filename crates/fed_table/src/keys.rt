@@ -1,8 +1,9 @@
 //! Keys whose place is the number of a list.
-ghost use Rattle.std.specs.Prelude.{◌≡◌, ◌<◌, ◌++◌, [], ◌∷◌, false, length, position, is_some, IfSome};
+ghost use Rattle.std.specs.Prelude.{◌≡◌, ◌<◌, ◌++◌, [], ◌∷◌, false, nat_eq, length, position, is_some, IfSome};
 ghost use Rattle.std.specs.List.{list_any};
 ghost use Rattle.indexmap.specs.IndexSet.{spare};
 
+use fed_numbers::Numbers;
 use indexmap::IndexSet;
 use std::hash::Hash;
 
@@ -14,6 +15,19 @@ pub fn place_of<K: Eq + Hash>(keys: &IndexSet<K>, key: &K) -> Option<u32>
     ensures within { IfSome result (λ place. place < length keys.now.keys) }
 {
     match keys.get_index_of(key) {
+        Some(place) => Some(place as u32),
+        None => None,
+    }
+}
+
+/// The number of a page's list.
+pub fn page_place(pages: &Numbers, page: u32) -> Option<u32>
+    requires { length pages.now < 4294967296 }
+    ensures place { result ≡ position (nat_eq page) pages.now }
+    ensures found { is_some result ≡ list_any (nat_eq page) pages.now }
+    ensures within { IfSome result (λ place. place < length pages.now) }
+{
+    match pages.place_of(page) {
         Some(place) => Some(place as u32),
         None => None,
     }

@@ -10,9 +10,10 @@ ghost use Rattle.fed_table.specs.Table.{has_page, page_calls, waiting_for, item_
 ghost use Rattle.fed_table.specs.Table.{ChangesItem, LosesItems, IsCallTable};
 
 use crate::calls::Calls;
-use crate::keys::{place_of, put};
+use crate::keys::{page_place, place_of, put};
 use fed_io::{Items, NoRoom, Steps};
 use fed_links::Links;
+use fed_numbers::Numbers;
 use fed_origin::Origin;
 use indexmap::IndexSet;
 use std::alloc::Global;
@@ -23,7 +24,7 @@ use std::sync::ledger::Ledger;
 /// an item for each call, which is present or lent out.
 pub struct Table<C> {
     /// The place of a page is the number of its list.
-    pages: IndexSet<u32>,
+    pages: Numbers,
     /// The place of an origin is the number of its list.
     origins: IndexSet<Origin>,
     calls: Calls<C>,
@@ -49,9 +50,9 @@ impl<C> Model for Table<C> {
 
     ghost use Rattle.fed_table.specs.Kept.{AreListed, table_shown};
 
-    ghost view = { λ t. table_shown t.pages.keys t.origins.keys t.calls };
+    ghost view = { λ t. table_shown t.pages t.origins.keys t.calls };
 
-    ghost invariant = { λ t. AreListed t.pages.keys t.origins.keys t.calls };
+    ghost invariant = { λ t. AreListed t.pages t.origins.keys t.calls };
 }
 
 impl<C: Drop> Table<C> {
@@ -66,7 +67,7 @@ impl<C: Drop> Table<C> {
         } }
     {
         Table {
-            pages: IndexSet::new(alloc),
+            pages: Numbers::new(alloc),
             origins: IndexSet::new(alloc),
             calls: Calls::new(alloc),
             alloc,
@@ -92,7 +93,7 @@ impl<C: Drop> Table<C> {
         ensures nodes { self.new.nodes ≡ self.old.nodes }
         ensures err { OnErr result (self.new ≡ self.old) }
     {
-        match place_of(&self.pages, &page) {
+        match page_place(&self.pages, page) {
             Some(_) => Ok(()),
             None => enter_page(&mut self.pages, &mut self.calls, page),
         }
@@ -121,7 +122,7 @@ impl<C: Drop> Table<C> {
 
         ensures steps { steps.new ≤ steps.old + 20 }
     {
-        let Some(list) = place_of(&self.pages, &page) else {
+        let Some(list) = page_place(&self.pages, page) else {
             return Err((NoRoom, item));
         };
         self.calls.add(list, call, item, steps)
@@ -163,7 +164,7 @@ impl<C: Drop> Table<C> {
         requires { has_page self.now.pages page ≡ true }
         ensures value { result ≡ slice_get (page_calls self.now.pages page) 0 }
     {
-        match place_of(&self.pages, &page) {
+        match page_place(&self.pages, page) {
             Some(list) => self.first_at(page, list),
             None => None,
         }
@@ -283,7 +284,7 @@ impl<C: Drop> Table<C> {
         ensures steps { steps.new ≤ steps.old + (20 * length (page_calls self.old.pages page) + 8) }
     {
         self.are_lists();
-        let Some(list) = place_of(&self.pages, &page) else {
+        let Some(list) = page_place(&self.pages, page) else {
             return 0;
         };
         let mut count = 0;
@@ -310,26 +311,24 @@ impl<C: Drop> Table<C> {
 }
 
 // A new page comes last, with an empty list. On want of memory nothing changes.
-fn enter_page<C: Drop>(
-    pages: &mut IndexSet<u32>,
-    calls: &mut Calls<C>,
-    page: u32,
-) -> Result<(), NoRoom>
-    requires few { length pages.old.keys < 4294967295 }
-    requires new { list_any (nat_eq page) pages.old.keys ≡ false }
-    requires lists { length pages.old.keys ≡ length calls.old.pages }
-    ensures keys { OnOk result (pages.new.keys ≡ pages.old.keys ++ page ∷ []) }
+fn enter_page<C: Drop>(pages: &mut Numbers, calls: &mut Calls<C>, page: u32) -> Result<(), NoRoom>
+    requires few { length pages.old < 4294967295 }
+    requires new { list_any (nat_eq page) pages.old ≡ false }
+    requires lists { length pages.old ≡ length calls.old.pages }
+    ensures keys { OnOk result (pages.new ≡ pages.old ++ page ∷ []) }
     ensures pages { OnOk result (calls.new.pages ≡ calls.old.pages ++ [] ∷ []) }
     ensures waits { calls.new.waits ≡ calls.old.waits }
     ensures items { calls.new.items ≡ calls.old.items }
     ensures nodes { calls.new.nodes ≡ calls.old.nodes }
     ensures err { OnErr result (calls.new ≡ calls.old) }
-    ensures err_keys { OnErr result (pages.new.keys ≡ pages.old.keys) }
+    ensures err_keys { OnErr result (pages.new ≡ pages.old) }
 {
-    pages.reserve(1)?;
-    calls.add_page_list(pages.len() as u32 + 1)?;
-    put(pages, page);
-    Ok(())
+    pages.insert(page)?;
+    let added = calls.add_page_list(pages.len() as u32);
+    if added.is_err() {
+        let _ = pages.take_last();
+    }
+    added
 }
 
 // A new origin comes last, with an empty list, whose number is answered. On want of memory nothing changes.

@@ -11,8 +11,8 @@ use std::alloc::{AllocError, Global};
 /// The most bytes of an input: 67,108,864.
 pub const LIMIT: usize = 67_108_864;
 
-/// So many bytes are asked of the source at a time: 65,536.
-pub const PIECE: usize = 65_536;
+/// So many bytes are asked of the source at a time: 16,384. The profile allows pieces of 65,536; what is asked for stands in memory.
+pub const PIECE: usize = 16_384;
 
 /// Why the input was not read.
 #[derive(Clone, Copy, Debug, PartialEq, Eq)]

@@ -4,7 +4,7 @@ use fed_accounts::{
     Account, Accounts, AccountsStep, connected, eligible, keep_hinted, read_accounts, read_hinted,
     reselect,
 };
-use fed_io::{Fault, NoRoom, Text};
+use fed_io::{Fault, NoRoom, Text, lent_text};
 use fed_origin::Mediation;
 use std::alloc::{AllocError, Global};
 use std::process::Abort;
@@ -316,7 +316,7 @@ fn add_texts(found: &mut String, texts: &[Text]) -> Result<(), AllocError> {
 }
 
 // Adds the text, where there is one, and a semicolon.
-fn add_text(found: &mut String, text: &Option<Text>) -> Result<(), AllocError> {
+fn add_text(found: &mut String, text: Option<&Text>) -> Result<(), AllocError> {
     if let Some(text) = text {
         found.push_str(text.as_str())?;
     }
@@ -329,8 +329,8 @@ fn members_of(alloc: Global, account: &Account) -> Result<String, AllocError> {
     let name = account.name.as_str();
     let email = account.email.as_str();
     let mut found = format!(in alloc; "{id};{name};{email};")?;
-    add_text(&mut found, &account.given_name)?;
-    add_text(&mut found, &account.picture)?;
+    add_text(&mut found, account.given_name.as_ref())?;
+    add_text(&mut found, lent_text(&account.picture))?;
     if let Some(clients) = &account.approved {
         add_texts(&mut found, clients.as_slice())?;
     }

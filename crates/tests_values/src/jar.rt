@@ -105,10 +105,10 @@ fn push_number(text: &mut Vec<u8>, alloc: Global, number: u64) -> Result<(), All
     text.extend_from_slice(word.as_bytes())
 }
 
-// Names, values and paths, each with its number.
-fn push_numbered(text: &mut Vec<u8>, alloc: Global, list: &[Numbered]) -> Result<(), AllocError> {
+// Names, values and paths, of copies, each with its number.
+fn push_numbered(text: &mut Vec<u8>, alloc: Global, list: &[Numbered]) -> Result<(), Fail> {
     for one in list {
-        push(text, &one.cookie)?;
+        push(text, &one.cookie.unpack(alloc)?)?;
         push_number(text, alloc, one.number)?;
     }
     Ok(())

@@ -1,110 +1,144 @@
--- The slot of an entry is found by its number, and written there.
-use Rattle.std.proofs.Common.{◌≡◌, ℕ, Bool, true, false, cond, nat_eq, List, [], ◌∷◌, Option, Some, None}
-use Rattle.std.proofs.Common.{eq-eqb, refl, sym, ap, ◌∙◌}
-use Rattle.std.specs.Prelude.{option_map, option_and_then}
-use Rattle.std.specs.Option.{option_map_or}
+-- What a write to a slot does to the entries and their places.
+use Rattle.std.proofs.Common.{◌≡◌, ℕ, zero, suc, Bool, true, false, cond, List, [], ◌∷◌, length}
+use Rattle.std.proofs.Common.{Option, Some, None, refl, sym, ap, ◌∙◌}
+use Rattle.std.specs.Prelude.{option_map, slice_get, slice_set}
+use Rattle.std.specs.Cmp.{IsEquivalence}
 use Rattle.std.specs.List.{IsDistinct}
-use Rattle.std.specs.Map.{keys_of, lookup, set_value}
-use Rattle.fed_entries.specs.Entries.{Slot, entries_by, entries_in, numbers_in, with_slot}
-use Rattle.fed_entries.proofs.slots.Holes.{some_one, other_number}
+use Rattle.std.specs.Map.{keys_of, remove_entry, set_value}
+use Rattle.std.specs.Option.{option_map_or}
+use Rattle.fed_entries.specs.Entries.{entries_in, holds, place_in, with_slot, with_hole, with_value}
+use Rattle.fed_entries.proofs.slots.Places.{some_one, next_is, next_cond, none_apart}
 
 module _ {K V : Type 0} where
-  -- what stands in a slot that is found
-  abbrev pub shown : Option (Option (K × V)) → Option V
-  shown found = option_map (λ entry. entry.1) (option_and_then (λ slot. slot) found)
-
-  set_none : (number : ℕ) (slot : Option (K × V)) (slots : List (Slot K V)) → lookup (nat_eq number) slots ≡ None
-      → set_value (nat_eq number) slots slot ≡ slots
-  set_none number slot [] absent = refl
-  set_none number slot (first ∷ slots) absent = pick (nat_eq number first.0) absent (λ f. set_none number slot slots f)
+  later_slot : (change : Option (K × V) → Option (K × V)) (place : ℕ) (slot : Option (K × V)) (slots : List (Option (K × V)))
+      → with_slot change (suc place) (slot ∷ slots) ≡ slot ∷ with_slot change place slots
+  later_slot change place slot slots = into (slice_get slots place)
     where
-      pick : (b : Bool) → cond b (Some first.1) (lookup (nat_eq number) slots) ≡ None → (lookup (nat_eq number) slots ≡ None
-          → set_value (nat_eq number) slots slot ≡ slots)
-          → cond b ((first.0, slot) ∷ slots) (first ∷ set_value (nat_eq number) slots slot) ≡ first ∷ slots
-      pick true f later = cc
-      pick false f later = ap (λ l. first ∷ l) (later f)
+      into : (o : Option (Option (K × V)))
+          → option_map_or (λ s. slot ∷ slice_set slots place (change s)) o (slot ∷ slots)
+          ≡ slot ∷ option_map_or (λ s. slice_set slots place (change s)) o slots
+      into None = refl
+      into (Some s) = refl
 
-  -- a hole is written where the number has a slot
-  pub hole_written : (number : ℕ) (slots : List (Slot K V))
-      → with_slot (λ slot. None) number slots ≡ set_value (nat_eq number) slots None
-  hole_written number slots = by (lookup (nat_eq number) slots) refl
-    where
-      by : (o : Option (Option (K × V))) → lookup (nat_eq number) slots ≡ o
-          → option_map_or (λ slot. set_value (nat_eq number) slots None) o slots ≡ set_value (nat_eq number) slots None
-      by None e = sym (set_none number None slots e)
-      by (Some slot) e = refl
+  pub length_written : (change : Option (K × V) → Option (K × V)) (place : ℕ) (slots : List (Option (K × V)))
+      → length (with_slot change place slots) ≡ length slots
+  length_written change place [] = refl
+  length_written change zero (slot ∷ slots) = refl
+  length_written change (suc place) (slot ∷ slots) =
+      ap length (later_slot change place slot slots) ∙ ap (λ n. suc n) (length_written change place slots)
+
+  holds_written : (test : K → Bool) (value : V) (slot : Option (K × V))
+      → holds test (option_map (λ entry. (entry.0, value)) slot) ≡ holds test slot
+  holds_written test value None = refl
+  holds_written test value (Some entry) = refl
+
+  -- a write of a value moves nothing
+  pub place_written : (test : K → Bool) (value : V) (place : ℕ) (slots : List (Option (K × V)))
+      → place_in test (with_value value place slots) ≡ place_in test slots
+  place_written test value place [] = refl
+  place_written test value zero (slot ∷ slots) =
+      ap (λ b. cond b (Some 0) (option_map (λ p. suc p) (place_in test slots))) (holds_written test value slot)
+  place_written test value (suc place) (slot ∷ slots) =
+      ap (place_in test) (later_slot (option_map (λ entry. (entry.0, value))) place slot slots)
+      ∙ ap (λ o. cond (holds test slot) (Some 0) (option_map (λ p. suc p) o)) (place_written test value place slots)
 
 module _ {K V : Type 0} (test : K → Bool) where
-  -- the slot of the number that a key has
-  pub found_at : (number : ℕ) (slots : List (Slot K V)) → lookup test (numbers_in slots) ≡ Some number
-      → IsDistinct nat_eq (keys_of slots) → shown (lookup (nat_eq number) slots) ≡ lookup test (entries_in slots)
-  unfolding IsDistinct
-  found_at number [] e d = refl
-  found_at number ((n, None) ∷ slots) e d =
-      ap (λ b. shown (cond b (Some None) (lookup (nat_eq number) slots))) (other_number test number n slots e d.0)
-      ∙ found_at number slots e d.1
-  found_at number ((n, Some entry) ∷ slots) e d = pick (test entry.0) e (λ f. found_at number slots f d.1)
+  -- where an entry leaves a hole, the others stand
+  pub hole : (place : ℕ) (slots : List (Option (K × V))) → place_in test slots ≡ Some place
+      → entries_in (with_hole place slots) ≡ remove_entry test (entries_in slots)
+  hole place [] e = cc
+  hole place (None ∷ slots) e =
+      let next = next_is (place_in test slots) place e in
+      ap (λ p. entries_in (with_hole p (None ∷ slots))) next.2
+      ∙ ap entries_in (later_slot (λ slot. None) next.0 None slots)
+      ∙ hole next.0 slots next.1
+  hole place (Some entry ∷ slots) e = pick (test entry.0) e (λ before f. hole before slots f)
     where
-      pick : (b : Bool) → cond b (Some n) (lookup test (numbers_in slots)) ≡ Some number
-          → (lookup test (numbers_in slots) ≡ Some number → shown (lookup (nat_eq number) slots) ≡ lookup test (entries_in slots))
-          → shown (cond (nat_eq number n) (Some (Some entry)) (lookup (nat_eq number) slots))
-          ≡ cond b (Some entry.1) (lookup test (entries_in slots))
-      pick true f later =
-          ap (λ b. shown (cond b (Some (Some entry)) (lookup (nat_eq number) slots))) (eq-eqb number n (sym (some_one n number f)))
+      pick : (b : Bool) → cond b (Some 0) (option_map (λ p. suc p) (place_in test slots)) ≡ Some place
+          → ((before : ℕ) → place_in test slots ≡ Some before
+          → entries_in (with_hole before slots) ≡ remove_entry test (entries_in slots))
+          → entries_in (with_hole place (Some entry ∷ slots))
+          ≡ cond b (entries_in slots) (entry ∷ remove_entry test (entries_in slots))
+      pick true f later = ap (λ p. entries_in (with_hole p (Some entry ∷ slots))) (sym (some_one 0 place f))
       pick false f later =
-          ap (λ b. shown (cond b (Some (Some entry)) (lookup (nat_eq number) slots))) (other_number test number n slots f d.0) ∙ later f
+          let next = next_is (place_in test slots) place f in
+          ap (λ p. entries_in (with_hole p (Some entry ∷ slots))) next.2
+          ∙ ap entries_in (later_slot (λ slot. None) next.0 (Some entry) slots)
+          ∙ ap (λ es. entry ∷ es) (later next.0 next.1)
 
-  -- where nothing is said of values, a write of one says the same; else it is the write of what is said
-  pub value_written : {X : Type 0} (said : ℕ → V → X) (value : V) (number : ℕ) (slots : List (Slot K V))
-      → lookup test (numbers_in slots) ≡ Some number → IsDistinct nat_eq (keys_of slots)
-      → entries_by said (with_slot (option_map (λ entry. (entry.0, value))) number slots)
-      ≡ set_value test (entries_by said slots) (said number value)
-  unfolding IsDistinct
-  value_written said value number [] e d = refl
-  value_written {X} said value number ((n, None) ∷ slots) e d =
-      ap (λ b. entries_by said (option_map_or
-      (λ slot. cond b ((n, change slot) ∷ slots) ((n, None) ∷ set_value (nat_eq number) slots (change slot)))
-      (cond b (Some None) (lookup (nat_eq number) slots)) ((n, None) ∷ slots))) (other_number test number n slots e d.0)
-      ∙ into (lookup (nat_eq number) slots)
-      ∙ value_written said value number slots e d.1
+  pub value_written : (value : V) (place : ℕ) (slots : List (Option (K × V))) → place_in test slots ≡ Some place
+      → entries_in (with_value value place slots) ≡ set_value test (entries_in slots) value
+  value_written value place [] e = cc
+  value_written value place (None ∷ slots) e =
+      let next = next_is (place_in test slots) place e in
+      ap (λ p. entries_in (with_value value p (None ∷ slots))) next.2
+      ∙ ap entries_in (later_slot (option_map (λ entry. (entry.0, value))) next.0 None slots)
+      ∙ value_written value next.0 slots next.1
+  value_written value place (Some entry ∷ slots) e = pick (test entry.0) e (λ before f. value_written value before slots f)
     where
-      change : Option (K × V) → Option (K × V)
-      change = option_map (λ entry. (entry.0, value))
-
-      into : (o : Option (Option (K × V)))
-          → entries_by said (option_map_or (λ slot. (n, None) ∷ set_value (nat_eq number) slots (change slot)) o ((n, None) ∷ slots))
-          ≡ entries_by said (option_map_or (λ slot. set_value (nat_eq number) slots (change slot)) o slots)
-      into None = refl
-      into (Some slot) = refl
-  value_written {X} said value number ((n, Some entry) ∷ slots) e d =
-      pick (test entry.0) e (λ f. value_written said value number slots f d.1)
-    where
-      change : Option (K × V) → Option (K × V)
-      change = option_map (λ entry. (entry.0, value))
-
-      first : K × X
-      first = (entry.0, said n entry.1)
-
-      at : Bool → List (K × X)
-      at b = entries_by said (option_map_or (λ slot. cond b ((n, change slot) ∷ slots) ((n, Some entry) ∷ set_value (nat_eq number) slots
-          (change slot)))
-          (cond b (Some (Some entry)) (lookup (nat_eq number) slots)) ((n, Some entry) ∷ slots))
-
-      into : (o : Option (Option (K × V)))
-          → entries_by said (option_map_or (λ slot. (n, Some entry) ∷ set_value (nat_eq number) slots (change slot)) o
-          ((n, Some entry) ∷ slots))
-          ≡ first ∷ entries_by said (option_map_or (λ slot. set_value (nat_eq number) slots (change slot)) o slots)
-      into None = refl
-      into (Some slot) = refl
-
-      pick : (b : Bool) → cond b (Some n) (lookup test (numbers_in slots)) ≡ Some number
-          → (lookup test (numbers_in slots) ≡ Some number
-          → entries_by said (with_slot change number slots) ≡ set_value test (entries_by said slots) (said number value))
-          → at (nat_eq number n)
-          ≡ cond b ((entry.0, said number value) ∷ entries_by said slots)
-          (first ∷ set_value test (entries_by said slots) (said number value))
-      pick true f later =
-          let same : n ≡ number = some_one n number f in
-          ap at (eq-eqb number n (sym same)) ∙ ap (λ m. (entry.0, said m value) ∷ entries_by said slots) same
+      pick : (b : Bool) → cond b (Some 0) (option_map (λ p. suc p) (place_in test slots)) ≡ Some place
+          → ((before : ℕ) → place_in test slots ≡ Some before
+          → entries_in (with_value value before slots) ≡ set_value test (entries_in slots) value)
+          → entries_in (with_value value place (Some entry ∷ slots))
+          ≡ cond b ((entry.0, value) ∷ entries_in slots) (entry ∷ set_value test (entries_in slots) value)
+      pick true f later = ap (λ p. entries_in (with_value value p (Some entry ∷ slots))) (sym (some_one 0 place f))
       pick false f later =
-          ap at (other_number test number n slots f d.0) ∙ into (lookup (nat_eq number) slots) ∙ ap (λ es. first ∷ es) (later f)
+          let next = next_is (place_in test slots) place f in
+          ap (λ p. entries_in (with_value value p (Some entry ∷ slots))) next.2
+          ∙ ap entries_in (later_slot (option_map (λ entry. (entry.0, value))) next.0 (Some entry) slots)
+          ∙ ap (λ es. entry ∷ es) (later next.0 next.1)
+
+module _ {K V : Type 0} (same : K → K → Bool) (laws : IsEquivalence same) where
+  -- a key whose entry goes has no place, and the others keep theirs
+  pub place_hole : (key other : K) (place : ℕ) (slots : List (Option (K × V))) → place_in (same key) slots ≡ Some place
+      → IsDistinct same (keys_of (entries_in slots))
+      → place_in (same other) (with_hole place slots) ≡ cond (same key other) None (place_in (same other) slots)
+  unfolding IsDistinct
+  place_hole key other place [] e d = cc
+  place_hole key other place (None ∷ slots) e d =
+      let next = next_is (place_in (same key) slots) place e in
+      ap (λ p. place_in (same other) (with_hole p (None ∷ slots))) next.2
+      ∙ ap (place_in (same other)) (later_slot (λ slot. None) next.0 None slots)
+      ∙ ap (option_map (λ p. suc p)) (place_hole key other next.0 slots next.1 d)
+      ∙ next_cond (same key other) None (place_in (same other) slots)
+  place_hole key other place (Some entry ∷ slots) e d =
+      pick (same key entry.0) (same other entry.0) (same key other) refl refl refl e
+      (λ before f. place_hole key other before slots f d.1)
+    where
+      left : Option ℕ
+      left = place_in (same other) slots
+
+      pick : (a b c : Bool) → same key entry.0 ≡ a → same other entry.0 ≡ b → same key other ≡ c
+          → cond a (Some 0) (option_map (λ p. suc p) (place_in (same key) slots)) ≡ Some place
+          → ((before : ℕ) → place_in (same key) slots ≡ Some before
+          → place_in (same other) (with_hole before slots) ≡ cond (same key other) None left)
+          → place_in (same other) (with_hole place (Some entry ∷ slots))
+          ≡ cond c None (cond b (Some 0) (option_map (λ p. suc p) left))
+      pick true b true t u v f later =
+          ap (λ p. place_in (same other) (with_hole p (Some entry ∷ slots))) (sym (some_one 0 place f))
+          ∙ ap (option_map (λ p. suc p)) (none_apart same laws entry.0 other slots
+          (laws.symm entry.0 other ∙ laws.congr other key entry.0 (laws.symm other key ∙ v) ∙ t) d.0)
+      pick true true false t u v f later =
+          let wrong : true ≡ false = sym u ∙ laws.symm other entry.0 ∙ sym (laws.congr key entry.0 other t) ∙ v in
+          cc
+      pick true false false t u v f later =
+          ap (λ p. place_in (same other) (with_hole p (Some entry ∷ slots))) (sym (some_one 0 place f))
+      pick false true true t u v f later =
+          let wrong : true ≡ false = sym u ∙ laws.congr other key entry.0 (laws.symm other key ∙ v) ∙ t in
+          cc
+      pick false b c t u v f later =
+          let next = next_is (place_in (same key) slots) place f in
+          ap (λ p. place_in (same other) (with_hole p (Some entry ∷ slots))) next.2
+          ∙ ap (place_in (same other)) (later_slot (λ slot. None) next.0 (Some entry) slots)
+          ∙ ap (λ h. cond h (Some 0) (option_map (λ p. suc p) (place_in (same other) (with_hole next.0 slots)))) u
+          ∙ ap (λ o. cond b (Some 0) (option_map (λ p. suc p) o)) (later next.0 next.1 ∙ ap (λ h. cond h None left) v)
+          ∙ last b c v u
+        where
+          last : (b c : Bool) → same key other ≡ c → same other entry.0 ≡ b
+              → cond b (Some 0) (option_map (λ p. suc p) (cond c None left)) ≡ cond c None (cond b (Some 0) (option_map (λ p. suc p) left))
+          last true true v u =
+              let wrong : true ≡ false = sym u ∙ laws.congr other key entry.0 (laws.symm other key ∙ v) ∙ t in
+              cc
+          last true false v u = refl
+          last false true v u = refl
+          last false false v u = refl

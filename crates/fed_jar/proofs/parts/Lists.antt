@@ -6,9 +6,10 @@ use Rattle.std.specs.Map.{lookup}
 use Rattle.std.specs.Option.{option_map_or}
 use Rattle.std.specs.Set.{swap_key}
 use Rattle.indexmap.specs.IndexMap.{insert_entry}
-use Rattle.indexmap.specs.IndexSet.{IndexSet, insert_key, replace_key}
+use Rattle.indexmap.specs.IndexSet.{insert_key, replace_key}
 use Rattle.fed_jar.specs.declared.numbered.Numbered.{Numbered}
-use Rattle.fed_jar.specs.Parts.{same_numbered, put_numbered, lists_of, list_under, put_under}
+use Rattle.fed_jar.specs.declared.party_cookies.PartyCookies.{PartyCookies}
+use Rattle.fed_jar.specs.Parts.{cookies_held, same_numbered, put_numbered, lists_of, list_under, put_under}
 
 -- ---- a list of cookies
 
@@ -90,35 +91,35 @@ alike : {X : Type 0} (a b : X) → Some a ≡ Some b → a ≡ b
 alike a b e = cc
 
 -- a party that stands has its list
-pub listed_some : {K S : Type 0} (text : K → List ℕ) (name : List ℕ) (es : List (K × IndexSet Numbered S)) (s : IndexSet Numbered S)
-    → lookup (λ k. bytes_eq name (text k)) es ≡ Some s → list_under name (lists_of text es) ≡ s.keys
+pub listed_some : {K : Type 0} (text : K → List ℕ) (name : List ℕ) (es : List (K × PartyCookies)) (s : PartyCookies)
+    → lookup (λ k. bytes_eq name (text k)) es ≡ Some s → list_under name (lists_of text es) ≡ cookies_held s
 listed_some text name [] s e = absurd (cc)
-listed_some {K} {S} text name (l ∷ es) s e = pick (bytes_eq name (text l.0)) (listed_some text name es s) e
+listed_some {K} text name (l ∷ es) s e = pick (bytes_eq name (text l.0)) (listed_some text name es s) e
   where
-    pick : (b : Bool) → (lookup (λ k. bytes_eq name (text k)) es ≡ Some s → list_under name (lists_of text es) ≡ s.keys)
+    pick : (b : Bool) → (lookup (λ k. bytes_eq name (text k)) es ≡ Some s → list_under name (lists_of text es) ≡ cookies_held s)
         → cond b (Some l.1) (lookup (λ k. bytes_eq name (text k)) es) ≡ Some s
-        → option_map_or (λ list. list) (cond b (Some l.1.keys) (lookup (bytes_eq name) (lists_of text es))) [] ≡ s.keys
-    pick true h e = ap (λ (t : IndexSet Numbered S). t.keys) (alike l.1 s e)
+        → option_map_or (λ list. list) (cond b (Some (cookies_held l.1)) (lookup (bytes_eq name) (lists_of text es))) [] ≡ cookies_held s
+    pick true h e = ap cookies_held (alike l.1 s e)
     pick false h e = h e
 
 -- a party that does not stand has none
-pub listed_none : {K S : Type 0} (text : K → List ℕ) (name : List ℕ) (es : List (K × IndexSet Numbered S))
+pub listed_none : {K : Type 0} (text : K → List ℕ) (name : List ℕ) (es : List (K × PartyCookies))
     → lookup (λ k. bytes_eq name (text k)) es ≡ None → list_under name (lists_of text es) ≡ []
 listed_none text name [] e = refl
-listed_none {K} {S} text name (l ∷ es) e = pick (bytes_eq name (text l.0)) (listed_none text name es) e
+listed_none {K} text name (l ∷ es) e = pick (bytes_eq name (text l.0)) (listed_none text name es) e
   where
     pick : (b : Bool) → (lookup (λ k. bytes_eq name (text k)) es ≡ None → list_under name (lists_of text es) ≡ [])
         → cond b (Some l.1) (lookup (λ k. bytes_eq name (text k)) es) ≡ None
-        → option_map_or (λ list. list) (cond b (Some l.1.keys) (lookup (bytes_eq name) (lists_of text es))) [] ≡ []
+        → option_map_or (λ list. list) (cond b (Some (cookies_held l.1)) (lookup (bytes_eq name) (lists_of text es))) [] ≡ []
     pick true h e = absurd (cc)
     pick false h e = h e
 
 -- a party with its first cookie
-pub put_first : {K S : Type 0} (text : K → List ℕ) (name : List ℕ) (new : Numbered) (es : List (K × IndexSet Numbered S)) (k : K)
-    (s : IndexSet Numbered S) → lookup (λ k. bytes_eq name (text k)) es ≡ None → text k ≡ name → s.keys ≡ new ∷ []
+pub put_first : {K : Type 0} (text : K → List ℕ) (name : List ℕ) (new : Numbered) (es : List (K × PartyCookies)) (k : K)
+    (s : PartyCookies) → lookup (λ k. bytes_eq name (text k)) es ≡ None → text k ≡ name → cookies_held s ≡ new ∷ []
     → lists_of text (insert_entry (λ a b. bytes_eq (text a) (text b)) es k s) ≡ put_under name (lists_of text es) new
 put_first text name new [] k s e named one = λ i. (named i, one i) ∷ []
-put_first {K} {S} text name new (l ∷ es) k s e named one =
+put_first {K} text name new (l ∷ es) k s e named one =
     ap (λ b. lists_of text (cond b ((l.0, s) ∷ es) (l ∷ insert_entry (λ a b. bytes_eq (text a) (text b)) es k s)))
     (ap (λ n. bytes_eq n (text l.0)) named)
     ∙ pick (bytes_eq name (text l.0)) (λ f. put_first text name new es k s f named one) e
@@ -128,6 +129,6 @@ put_first {K} {S} text name new (l ∷ es) k s e named one =
         → lists_of text (insert_entry (λ a b. bytes_eq (text a) (text b)) es k s) ≡ put_under name (lists_of text es) new)
         → cond b (Some l.1) (lookup (λ k. bytes_eq name (text k)) es) ≡ None
         → lists_of text (cond b ((l.0, s) ∷ es) (l ∷ insert_entry (λ a b. bytes_eq (text a) (text b)) es k s))
-        ≡ cond b ((text l.0, put_numbered l.1.keys new) ∷ lists_of text es) ((text l.0, l.1.keys) ∷ put_under name (lists_of text es) new)
+        ≡ cond b ((text l.0, put_numbered (cookies_held l.1) new) ∷ lists_of text es) ((text l.0, cookies_held l.1) ∷ put_under name (lists_of text es) new)
     pick true h e = absurd (cc)
-    pick false h e = ap (λ rest. (text l.0, l.1.keys) ∷ rest) (h e)
+    pick false h e = ap (λ rest. (text l.0, cookies_held l.1) ∷ rest) (h e)

@@ -6,14 +6,14 @@ use Rattle.std.specs.List.{AllByRecursion, IsDistinct}
 use Rattle.std.specs.Map.{keys_of, lookup, lookup_key}
 use Rattle.std.specs.Option.{option_map_or}
 use Rattle.indexmap.specs.IndexMap.{IndexMap, with_entries, with_value_at}
-use Rattle.indexmap.specs.IndexSet.{IndexSet}
 use Rattle.fed_suffix.specs.Rule.{RuleSet}
 use Rattle.fed_suffix.specs.Registrable.{registrable, party}
 use Rattle.fed_jar.specs.declared.numbered.Numbered.{Numbered}
+use Rattle.fed_jar.specs.declared.party_cookies.PartyCookies.{PartyCookies}
 use Rattle.fed_jar.specs.Cookie.{KeptCookie}
 use Rattle.fed_jar.specs.Store.{IsOwn, IsKeptBy}
 use Rattle.fed_jar.specs.Send.{put_by, in_order}
-use Rattle.fed_jar.specs.Parts.{under, put_numbered, Lists, lists_of, list_under, put_under, all_kept, jar_of, IsPlace, AreOwn}
+use Rattle.fed_jar.specs.Parts.{cookies_held, under, put_numbered, Lists, lists_of, list_under, put_under, all_kept, jar_of, IsPlace, AreOwn}
 use Rattle.fed_jar.proofs.parts.Kept.{same_text, text_same, text_comm}
 
 -- ---- the registrable domain by the party
@@ -43,38 +43,38 @@ found_passes {K} {V} test (l ∷ es) k e = pick (test l.0) refl (found_passes te
     pick false is h e = h e
 
 -- the list at a place
-pub list_at : {K S : Type 0} (text : K → List ℕ) (es : List (K × IndexSet Numbered S)) (at : ℕ) (k : K) (s : IndexSet Numbered S)
-    → slice_get es at ≡ Some (k, s) → slice_get (lists_of text es) at ≡ Some (text k, s.keys)
+pub list_at : {K : Type 0} (text : K → List ℕ) (es : List (K × PartyCookies)) (at : ℕ) (k : K) (s : PartyCookies)
+    → slice_get es at ≡ Some (k, s) → slice_get (lists_of text es) at ≡ Some (text k, cookies_held s)
 list_at text [] at k s e = absurd (cc)
-list_at {K} {S} text (l ∷ es) zero k s e =
-    ap (λ (r : K × IndexSet Numbered S). Some (text r.0, r.1.keys)) (alike l (k, s) e)
+list_at {K} text (l ∷ es) zero k s e =
+    ap (λ (r : K × PartyCookies). Some (text r.0, cookies_held r.1)) (alike l (k, s) e)
 list_at text (l ∷ es) (suc at) k s e = list_at text es at k s e
 
-pub place_some : {K S : Type 0} (text : K → List ℕ) (name : List ℕ) (es : List (K × IndexSet Numbered S)) (at : ℕ) (k : K)
-    (s : IndexSet Numbered S) → slice_get es at ≡ Some (k, s) → lookup_key (λ k. bytes_eq name (text k)) es ≡ Some k
+pub place_some : {K : Type 0} (text : K → List ℕ) (name : List ℕ) (es : List (K × PartyCookies)) (at : ℕ) (k : K)
+    (s : PartyCookies) → slice_get es at ≡ Some (k, s) → lookup_key (λ k. bytes_eq name (text k)) es ≡ Some k
     → IsPlace name (Some at) (lists_of text es)
 place_some text name es at k s e found =
     ap (option_map (λ (l : List ℕ × List Numbered). l.0)) (list_at text es at k s e)
     ∙ ap Some (sym (same_text name (text k) (found_passes (λ k. bytes_eq name (text k)) es k found)))
 
-pub place_none : {K S : Type 0} (text : K → List ℕ) (name : List ℕ) (es : List (K × IndexSet Numbered S))
+pub place_none : {K : Type 0} (text : K → List ℕ) (name : List ℕ) (es : List (K × PartyCookies))
     → lookup (λ k. bytes_eq name (text k)) es ≡ None → IsPlace name None (lists_of text es)
 place_none text name [] e = refl
-place_none {K} {S} text name (l ∷ es) e = pick (bytes_eq name (text l.0)) (place_none text name es) e
+place_none {K} text name (l ∷ es) e = pick (bytes_eq name (text l.0)) (place_none text name es) e
   where
     pick : (b : Bool) → (lookup (λ k. bytes_eq name (text k)) es ≡ None → IsPlace name None (lists_of text es))
         → cond b (Some l.1) (lookup (λ k. bytes_eq name (text k)) es) ≡ None
-        → is_some (cond b (Some l.1.keys) (lookup (bytes_eq name) (lists_of text es))) ≡ false
+        → is_some (cond b (Some (cookies_held l.1)) (lookup (bytes_eq name) (lists_of text es))) ≡ false
     pick true h e = absurd (cc)
     pick false h e = h e
 
-pub none_placed : {K S : Type 0} (text : K → List ℕ) (name : List ℕ) (es : List (K × IndexSet Numbered S))
+pub none_placed : {K : Type 0} (text : K → List ℕ) (name : List ℕ) (es : List (K × PartyCookies))
     → IsPlace name None (lists_of text es) → lookup (λ k. bytes_eq name (text k)) es ≡ None
 none_placed text name [] e = refl
-none_placed {K} {S} text name (l ∷ es) e = pick (bytes_eq name (text l.0)) (none_placed text name es) e
+none_placed {K} text name (l ∷ es) e = pick (bytes_eq name (text l.0)) (none_placed text name es) e
   where
     pick : (b : Bool) → (IsPlace name None (lists_of text es) → lookup (λ k. bytes_eq name (text k)) es ≡ None)
-        → is_some (cond b (Some l.1.keys) (lookup (bytes_eq name) (lists_of text es))) ≡ false
+        → is_some (cond b (Some (cookies_held l.1)) (lookup (bytes_eq name) (lists_of text es))) ≡ false
         → cond b (Some l.1) (lookup (λ k. bytes_eq name (text k)) es) ≡ None
     pick true h e = absurd (cc)
     pick false h e = h e
@@ -89,14 +89,14 @@ one_own rules name [] at n all e = absurd (cc)
 one_own rules name (m ∷ ns) zero n all e = all.0 ∙ ap (λ (x : Numbered). party rules x.cookie.domain) (alike m n e)
 one_own rules name (m ∷ ns) (suc at) n all e = one_own rules name ns at n all.1 e
 
-pub own_at : {K S : Type 0} (text : K → List ℕ) (rules : RuleSet) (es : List (K × IndexSet Numbered S)) (at place : ℕ) (k : K)
-    (s : IndexSet Numbered S) (n : Numbered) → AreOwn rules (lists_of text es) → slice_get es at ≡ Some (k, s)
-    → slice_get s.keys place ≡ Some n → text k ≡ party rules n.cookie.domain
+pub own_at : {K : Type 0} (text : K → List ℕ) (rules : RuleSet) (es : List (K × PartyCookies)) (at place : ℕ) (k : K)
+    (s : PartyCookies) (n : Numbered) → AreOwn rules (lists_of text es) → slice_get es at ≡ Some (k, s)
+    → slice_get (cookies_held s) place ≡ Some n → text k ≡ party rules n.cookie.domain
 own_at text rules [] at place k s n own e f = absurd (cc)
-own_at {K} {S} text rules (l ∷ es) zero place k s n own e f =
+own_at {K} text rules (l ∷ es) zero place k s n own e f =
     let same = alike l (k, s) e in
-    ap (λ (r : K × IndexSet Numbered S). text r.0) (sym same)
-    ∙ one_own rules (text l.0) l.1.keys place n own.0 (ap (λ (r : K × IndexSet Numbered S). slice_get r.1.keys place) same ∙ f)
+    ap (λ (r : K × PartyCookies). text r.0) (sym same)
+    ∙ one_own rules (text l.0) (cookies_held l.1) place n own.0 (ap (λ (r : K × PartyCookies). slice_get (cookies_held r.1) place) same ∙ f)
 own_at text rules (l ∷ es) (suc at) place k s n own e f = own_at text rules es at place k s n own.1 e f
 
 -- the name at a later place is none before it
@@ -107,48 +107,48 @@ away first name (l ∷ ls) zero all e = text_comm name first ∙ ap (bytes_eq fi
 away first name (l ∷ ls) (suc at) all e = away first name ls at all.1 e
 
 -- a cookie more in the list at the place
-pub put_at : {K V S : Type 0} (text : K → List ℕ) (name : List ℕ) (new : Numbered) (m : IndexMap K (IndexSet Numbered V) S)
-    (es : List (K × IndexSet Numbered V)) (at : ℕ) (s t : IndexSet Numbered V) → IsDistinct bytes_eq (keys_of (lists_of text es))
-    → IsPlace name (Some at) (lists_of text es) → slice_get (map (λ (e : K × IndexSet Numbered V). e.1) es) at ≡ Some s
-    → t.keys ≡ put_numbered s.keys new
+pub put_at : {K S : Type 0} (text : K → List ℕ) (name : List ℕ) (new : Numbered) (m : IndexMap K PartyCookies S)
+    (es : List (K × PartyCookies)) (at : ℕ) (s t : PartyCookies) → IsDistinct bytes_eq (keys_of (lists_of text es))
+    → IsPlace name (Some at) (lists_of text es) → slice_get (map (λ (e : K × PartyCookies). e.1) es) at ≡ Some s
+    → cookies_held t ≡ put_numbered (cookies_held s) new
     → lists_of text (with_value_at (with_entries m es) at t).entries ≡ put_under name (lists_of text es) new
 unfolding IsDistinct
 put_at text name new m [] at s t named e f keys = absurd (cc)
-put_at {K} {V} {S} text name new m (l ∷ es) zero s t named e f keys =
+put_at {K} {S} text name new m (l ∷ es) zero s t named e f keys =
     ap (λ (k : List Numbered). (text l.0, k) ∷ lists_of text es)
-    (keys ∙ ap (λ (u : IndexSet Numbered V). put_numbered u.keys new) (sym (alike l.1 s f)))
-    ∙ ap (λ b. cond b ((text l.0, put_numbered l.1.keys new) ∷ lists_of text es)
-    ((text l.0, l.1.keys) ∷ put_under name (lists_of text es) new))
+    (keys ∙ ap (λ (u : PartyCookies). put_numbered (cookies_held u) new) (sym (alike l.1 s f)))
+    ∙ ap (λ b. cond b ((text l.0, put_numbered (cookies_held l.1) new) ∷ lists_of text es)
+    ((text l.0, cookies_held l.1) ∷ put_under name (lists_of text es) new))
     (sym (text_same name (text l.0) (sym (alike (text l.0) name e))))
 put_at text name new m (l ∷ es) (suc at) s t named e f keys =
-    ap (λ rest. (text l.0, l.1.keys) ∷ rest) (put_at text name new m es at s t named.1 e f keys)
-    ∙ ap (λ b. cond b ((text l.0, put_numbered l.1.keys new) ∷ lists_of text es)
-    ((text l.0, l.1.keys) ∷ put_under name (lists_of text es) new))
+    ap (λ rest. (text l.0, cookies_held l.1) ∷ rest) (put_at text name new m es at s t named.1 e f keys)
+    ∙ ap (λ b. cond b ((text l.0, put_numbered (cookies_held l.1) new) ∷ lists_of text es)
+    ((text l.0, cookies_held l.1) ∷ put_under name (lists_of text es) new))
     (sym (away (text l.0) name (lists_of text es) at named.0 e))
 
 -- the lists stay where the one at the place does
-pub put_same : {K V S : Type 0} (text : K → List ℕ) (m : IndexMap K (IndexSet Numbered V) S) (es : List (K × IndexSet Numbered V)) (at : ℕ)
-    (s t : IndexSet Numbered V) → slice_get (map (λ (e : K × IndexSet Numbered V). e.1) es) at ≡ Some s → t.keys ≡ s.keys
+pub put_same : {K S : Type 0} (text : K → List ℕ) (m : IndexMap K PartyCookies S) (es : List (K × PartyCookies)) (at : ℕ)
+    (s t : PartyCookies) → slice_get (map (λ (e : K × PartyCookies). e.1) es) at ≡ Some s → cookies_held t ≡ cookies_held s
     → lists_of text (with_value_at (with_entries m es) at t).entries ≡ lists_of text es
 put_same text m [] at s t f keys = absurd (cc)
-put_same {K} {V} {S} text m (l ∷ es) zero s t f keys =
+put_same {K} {S} text m (l ∷ es) zero s t f keys =
     ap (λ (k : List Numbered). (text l.0, k) ∷ lists_of text es)
-    (keys ∙ ap (λ (u : IndexSet Numbered V). u.keys) (sym (alike l.1 s f)))
-put_same text m (l ∷ es) (suc at) s t f keys = ap (λ rest. (text l.0, l.1.keys) ∷ rest) (put_same text m es at s t f keys)
+    (keys ∙ ap cookies_held (sym (alike l.1 s f)))
+put_same text m (l ∷ es) (suc at) s t f keys = ap (λ rest. (text l.0, cookies_held l.1) ∷ rest) (put_same text m es at s t f keys)
 
 -- the list of a party that stands at the place, by the set there
-pub set_at : {K V : Type 0} (text : K → List ℕ) (name : List ℕ) (es : List (K × IndexSet Numbered V)) (at : ℕ)
-    (s : IndexSet Numbered V) → IsDistinct bytes_eq (keys_of (lists_of text es))
-    → IsPlace name (Some at) (lists_of text es) → slice_get (map (λ (e : K × IndexSet Numbered V). e.1) es) at ≡ Some s
-    → list_under name (lists_of text es) ≡ s.keys
+pub set_at : {K : Type 0} (text : K → List ℕ) (name : List ℕ) (es : List (K × PartyCookies)) (at : ℕ)
+    (s : PartyCookies) → IsDistinct bytes_eq (keys_of (lists_of text es))
+    → IsPlace name (Some at) (lists_of text es) → slice_get (map (λ (e : K × PartyCookies). e.1) es) at ≡ Some s
+    → list_under name (lists_of text es) ≡ cookies_held s
 unfolding IsDistinct
 set_at text name [] at s named e f = absurd (cc)
-set_at {K} {V} text name (l ∷ es) zero s named e f =
-    ap (λ b. option_map_or (λ list. list) (cond b (Some l.1.keys) (lookup (bytes_eq name) (lists_of text es))) [])
+set_at {K} text name (l ∷ es) zero s named e f =
+    ap (λ b. option_map_or (λ list. list) (cond b (Some (cookies_held l.1)) (lookup (bytes_eq name) (lists_of text es))) [])
     (text_same name (text l.0) (sym (alike (text l.0) name e)))
-    ∙ ap (λ (u : IndexSet Numbered V). u.keys) (alike l.1 s f)
+    ∙ ap cookies_held (alike l.1 s f)
 set_at text name (l ∷ es) (suc at) s named e f =
-    ap (λ b. option_map_or (λ list. list) (cond b (Some l.1.keys) (lookup (bytes_eq name) (lists_of text es))) [])
+    ap (λ b. option_map_or (λ list. list) (cond b (Some (cookies_held l.1)) (lookup (bytes_eq name) (lists_of text es))) [])
     (away (text l.0) name (lists_of text es) at named.0 e)
     ∙ set_at text name es at s named.1 e f
 

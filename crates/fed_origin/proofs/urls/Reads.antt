@@ -10,6 +10,7 @@ use Rattle.url.specs.Scheme.{scheme_type, default_port}
 use Rattle.url.proofs.Theorems.{parse_url-serialize_special}
 use Rattle.fed_origin.specs.Layout.{parts_or_empty, parts_of_text}
 use Rattle.fed_origin.specs.WebUrl.{web_part}
+use Rattle.fed_origin.specs.declared.origin.Origin.{Origin}
 use Rattle.fed_origin.specs.declared.refusal.UrlRefusal.{UrlRefusal}
 use Rattle.fed_origin.specs.declared.refusal.UrlRefusal.TheVariants.{NotWeb, HasUser}
 
@@ -65,3 +66,7 @@ reads_itself url base valid web = parse_url-serialize_special url base valid (sp
 pub parts_are : (text : List ℕ) (url : Parts) → parse_url None text ≡ Ok url → parts_of_text text ≡ url
 unfolding parts_of_text
 parts_are text url read = ap parts_or_empty read
+
+-- two origins of the same parts
+pub same_parts : {a b : Origin} → a.scheme ≡ b.scheme → a.host ≡ b.host → a.port ≡ b.port → a ≡ b
+same_parts scheme host port = rw (scheme, host, port) refl

@@ -8,7 +8,6 @@ use Rattle.std.specs.Prelude.{Option, IfSome, option_map, option_and_then, unwra
 use Rattle.std.specs.List.{list_any}
 use Rattle.std.specs.Map.{lookup, keys_of}
 use Rattle.indexmap.specs.IndexMap.{insert_entry, shift_remove_entry}
-use Rattle.indexmap.specs.IndexSet.{insert_key}
 use Rattle.fed_origin.specs.declared.origin.Origin.{Origin}
 use Rattle.fed_origin.specs.Origin.{same_origin}
 use Rattle.fed_table.specs.Lists.{has, without, all_without, all_without_calls, with_last, with_key, emptied, stands_in, total, calls_at}
@@ -484,10 +483,6 @@ known_loses gone old new loses = λ other.
 
 -- ---- in turn
 
--- a call that was never taken goes last among those that were
-pub key_new : (call : ℕ) (taken : List ℕ) → list_any (nat_eq call) taken ≡ false → insert_key nat_eq taken call ≡ taken ++ call ∷ []
-key_new call taken fresh = ap (λ b. cond b taken (taken ++ call ∷ [])) fresh
-
 -- the calls of a page end, and then it no longer stands
 pub closes_then : (page : ℕ) (old mid inside : TabsParts) (pages : List (ℕ × Origin))
     → Ends page old.pages (emptied (nat_eq page) old.table.pages) old mid → inside ≡ mid
@@ -588,7 +583,7 @@ leaves_from page call old inside gets table is listed waits items held =
 -- a call enters
 pub entered_then : (page call : ℕ) (kept : Option Known) (get : Bool) (inside : TabsParts) (gets : List (ℕ × ℕ)) (taken : List ℕ)
     (table : TableParts (Option Known)) → has_page inside.table.pages page ≡ true → list_any (nat_eq call) inside.taken ≡ false
-    → ((known : Known) → kept ≡ Some known → get ≡ is_get (kind_of known)) → taken ≡ insert_key nat_eq inside.taken call
+    → ((known : Known) → kept ≡ Some known → get ≡ is_get (kind_of known)) → taken ≡ inside.taken ++ call ∷ []
     → table.pages ≡ with_last nat_eq page call inside.table.pages → table.waits ≡ inside.table.waits
     → ChangesItem call (Some (Some kept)) inside.table.items table.items
     → ChangesGet page (cond get (Some call) (lookup (nat_eq page) inside.gets)) inside.gets gets
@@ -598,7 +593,7 @@ entered_then page call kept get inside gets taken table there fresh kind new lis
   listed = listed;
   loaded = ap keys_of listed ∙ keys_last page call inside.table.pages there;
   gets = subst (λ b. ChangesGet page (cond b (Some call) (lookup (nat_eq page) inside.gets)) inside.gets gets) (kind known is) held;
-  taken = new ∙ key_new call inside.taken fresh;
+  taken = new;
   waits = waits;
   known = subst (λ k. ChangesKnown call k inside.table.items table.items) is
       (known_changes call (Some (Some kept)) inside.table.items table.items items);
@@ -607,7 +602,7 @@ entered_then page call kept get inside gets taken table there fresh kind new lis
 pub entered_from : (page call : ℕ) (kept : Option Known) (get : Bool) (old inside : TabsParts) (gets : List (ℕ × ℕ)) (taken : List ℕ)
     (table : TableParts (Option Known)) → inside ≡ old → has_page inside.table.pages page ≡ true
     → list_any (nat_eq call) inside.taken ≡ false
-    → ((known : Known) → kept ≡ Some known → get ≡ is_get (kind_of known)) → taken ≡ insert_key nat_eq inside.taken call
+    → ((known : Known) → kept ≡ Some known → get ≡ is_get (kind_of known)) → taken ≡ inside.taken ++ call ∷ []
     → table.pages ≡ with_last nat_eq page call inside.table.pages → table.waits ≡ inside.table.waits
     → ChangesItem call (Some (Some kept)) inside.table.items table.items
     → ChangesGet page (cond get (Some call) (lookup (nat_eq page) inside.gets)) inside.gets gets

@@ -2,7 +2,7 @@
 use Rattle.std.proofs.Common.{◌≡◌, true, sym, refl, subst}
 use mathlib.Core.Bool.{true≢false}
 use Rattle.std.specs.Bool.{Decides}
-use Rattle.std.proofs.lemmas.Bool.Decides.{Decides-and, Decides-eqb}
+use Rattle.std.proofs.lemmas.Bool.Decides.{Decides-and, Decides-eqb, same_from_decides}
 use Rattle.std.proofs.lemmas.Slice.Eq.{bytes_eq-Decides}
 use Rattle.fed_origin.specs.declared.origin.Origin.{Origin}
 use Rattle.fed_origin.specs.declared.scheme.Scheme.{Scheme}
@@ -49,3 +49,8 @@ same_triple_self a =
     Decides-and _ _ (same_origin-Decides a.page a.page)
     (Decides-and _ _ (same_origin-Decides a.provider a.provider) (bytes_eq-Decides a.account a.account)) in
     d.1 (refl, (refl, refl))
+
+pub same_triple_flips : (a b : Triple) → same_triple a b ≡ same_triple b a
+same_triple_flips a b = same_from_decides (same_triple a b) (same_triple b a)
+    ((same_triple_is a b, λ e. subst (λ t. same_triple a t ≡ true) e (same_triple_self a)))
+    ((λ e. sym (same_triple_is b a e)), (λ e. subst (λ t. same_triple t a ≡ true) e (same_triple_self a)))

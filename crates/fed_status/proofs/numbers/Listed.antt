@@ -1,198 +1,196 @@
--- The accounts that are listed, as permissions come and go.
-use Rattle.std.proofs.Common.{◌≡◌, ℕ, Bool, true, false, cond, not, ◌||◌, nat_eq, List, [], ◌∷◌, ◌++◌}
-use Rattle.std.proofs.Common.{filter, slice_get}
-use Rattle.std.proofs.Common.{is_some, Option, Some, None, eq-eqb, refl, sym, ap, ◌∙◌}
-use Rattle.std.specs.List.{AllByRecursion, IsDistinct, list_any}
-use Rattle.std.specs.Map.{keys_of, lookup, remove_entry}
-use Rattle.std.proofs.lemmas.Map.{lookup-remove_entry}
+-- The ids that are listed, as permissions come and go.
+use Rattle.std.proofs.Common.{◌≡◌, ℕ, Bool, true, false, cond, ◌&&◌, ◌||◌, nat_eq, bytes_eq, List, [], ◌∷◌, slice_get}
+use Rattle.std.proofs.Common.{is_some, Option, Some, None, if◌then◌else◌, eq-eqb, refl, sym, ap, ◌∙◌}
+use Rattle.std.specs.List.{IsDistinct, list_any}
+use Rattle.std.specs.Map.{keys_of, values_of, lookup}
+use Rattle.std.specs.Option.{option_map_or}
 use Rattle.fed_origin.specs.declared.status.Triple.{Triple}
 use Rattle.fed_status.specs.declared.accounts.PairAccounts.{PairAccounts}
-use Rattle.fed_status.specs.declared.place.Pair.{Pair}
-use Rattle.fed_status.specs.declared.place.Place.{Place}
-use Rattle.fed_status.specs.Pairs.{accounts_in, accounts_of, is_listed, ListsSame, ListsOne, ListsNone}
-use Rattle.fed_status.specs.Place.{same_place, pair_at, is_at_pair, place_in}
-use Rattle.fed_status.specs.Table.{ArePairsOf}
-use Rattle.fed_status.proofs.numbers.Equal.{pair_laws, same_place_is, same_place_self, place_flips, place_laws, pair_of_same}
+use Rattle.fed_status.specs.declared.accounts.PairAccounts.TheVariants.{Empty, One, Many}
+use Rattle.fed_status.specs.declared.names.Pair.{Pair}
+use Rattle.fed_status.specs.Names.{same_pair}
+use Rattle.fed_status.specs.Pairs.{id_alone, id_held, ids_held, id_in, ids_in, id_of, ids_of, AreApart}
+use Rattle.fed_status.specs.Pairs.{HoldsOne, HoldsNew, HoldsLess, ListsOne, ListsNew, ListsLess, ListsSame, ListsNone}
+use Rattle.fed_status.proofs.numbers.Equal.{account_laws, same_number_is, same_pair_is}
+use Rattle.fed_status.proofs.numbers.Found.{apart_key}
 
-module _ (pair : Pair) where
-  pub same_accounts : (old : List (Pair × PairAccounts)) (place : Place) → is_at_pair pair place ≡ true
-      → accounts_of old (pair_at place) ≡ accounts_of old pair
-  same_accounts old place here = ap (λ test. accounts_in (lookup test old)) (λ i r. sym (pair_laws.congr pair (pair_at place) r here) i)
+some_one : {A : Type 0} (x y : A) → Some x ≡ Some y → x ≡ y
+some_one x y e = cc
 
-  -- where there are none, nothing goes
-  pub lists_nothing : (old new : List (Pair × PairAccounts)) → is_some (slice_get (accounts_of old pair) 0) ≡ false
-      → ListsNone pair old new → ListsSame old new
-  lists_nothing old new none less = λ other. less other ∙ by other (is_at_pair pair other) refl
-    where
-      is_empty : (accounts : List ℕ) → is_some (slice_get accounts 0) ≡ false → accounts ≡ []
-      is_empty [] e = refl
-      is_empty (a ∷ accounts) e = cc
-
-      by : (other : Place) (b : Bool) → is_at_pair pair other ≡ b → cond b false (is_listed old other) ≡ is_listed old other
-      by other true t = sym (ap (list_any (nat_eq other.account)) (same_accounts old other t ∙ is_empty (accounts_of old pair) none))
-      by other false t = refl
-
--- ---- beside the permissions
-
--- one that is put last is found
-found_last : (place : Place) (triple : Triple) (other : Place) (es : List (Place × Triple))
-    → is_some (lookup (same_place other) (es ++ (place, triple) ∷ []))
-    ≡ cond (same_place place other) true (is_some (lookup (same_place other) es))
-found_last place triple other [] = ap (λ b. is_some (cond b (Some triple) None)) (place_flips other place) ∙ by (same_place place other)
+-- one alone is found for some account
+alone_found : (kept : List (ℕ × Triple)) (id : ℕ) → (account : List ℕ) × (id_alone kept id account ≡ Some id)
+alone_found kept id = by (lookup (nat_eq id) kept) refl
   where
-    by : (b : Bool) → is_some (cond b (Some triple) None) ≡ cond b true false
-    by true = refl
-    by false = refl
-found_last place triple other (e ∷ es) = by (same_place other e.0) (same_place place other) _ _ (found_last place triple other es)
+    answer : List ℕ → Option Triple → Option ℕ
+    answer account o = if option_map_or (λ triple. bytes_eq triple.account account) o true then Some id else None
+
+    by : (o : Option Triple) → lookup (nat_eq id) kept ≡ o → (account : List ℕ) × (id_alone kept id account ≡ Some id)
+    by None e = ([], ap (answer []) e)
+    by (Some triple) e = (
+      triple.account,
+      ap (answer triple.account) e ∙ ap (λ b. if b then Some id else None) (account_laws.refl triple.account),
+    )
+
+-- what is found alone is it
+alone_is : (kept : List (ℕ × Triple)) (only id : ℕ) (account : List ℕ) → id_alone kept only account ≡ Some id → only ≡ id
+alone_is kept only id account e = by (option_map_or (λ triple. bytes_eq triple.account account) (lookup (nat_eq only) kept) true) e
   where
-    by : (a b : Bool) (x y : Option Triple) → is_some y ≡ cond b true (is_some x)
-        → is_some (cond a (Some e.1) y) ≡ cond b true (is_some (cond a (Some e.1) x))
-    by true true x y h = refl
-    by true false x y h = refl
-    by false b x y h = h
+    by : (b : Bool) → (if b then Some only else None) ≡ Some id → only ≡ id
+    by true f = some_one only id f
+    by false f = cc
 
-module _ (es : List (Place × Triple)) (old : List (Pair × PairAccounts)) (are : ArePairsOf es old) where
-  -- a permission stands where its account is listed
-  pub found_listed : (place : Place) → not (is_listed old place) ≡ false → is_some (lookup (same_place place) es) ≡ true
-  found_listed place listed = sym (are place) ∙ by (is_listed old place) listed
-    where
-      by : (b : Bool) → not b ≡ false → b ≡ true
-      by true e = refl
-      by false e = cc
+-- ---- the ids of one pair
 
-  pub absent_unlisted : (place : Place) → not (is_listed old place) ≡ true → is_some (lookup (same_place place) es) ≡ false
-  absent_unlisted place unlisted = sym (are place) ∙ by (is_listed old place) unlisted
-    where
-      by : (b : Bool) → not b ≡ true → b ≡ false
-      by false e = refl
-      by true e = cc
+values_none : (test : List ℕ → Bool) (es : List (List ℕ × ℕ)) → values_of es ≡ [] → lookup test es ≡ None
+values_none test [] e = refl
+values_none test (first ∷ es) e = cc
 
-  pub one_comes : (place : Place) (triple : Triple) (new : List (Pair × PairAccounts)) → ListsOne place true old new
-      → ArePairsOf (es ++ (place, triple) ∷ []) new
-  one_comes place triple new more = λ other.
-      more other ∙ ap (λ b. cond (same_place place other) true b) (are other) ∙ sym (found_last place triple other es)
+-- where there is no id, none is found
+pub ids_none : (kept : List (ℕ × Triple)) (held : PairAccounts) → ids_held held ≡ [] → (account : List ℕ) → id_held kept held account ≡ None
+ids_none kept Empty e account = refl
+ids_none kept (One id) e account = cc
+ids_none kept (Many ids) e account = values_none (bytes_eq account) ids.value.entries e
 
-  -- one that stands comes once more
-  pub one_there : (place : Place) (new : List (Pair × PairAccounts)) → is_some (lookup (same_place place) es) ≡ true
-      → ListsOne place true old new → ArePairsOf es new
-  one_there place new there more = λ other. more other ∙ by other (same_place place other) refl
-    where
-      by : (other : Place) (b : Bool) → same_place place other ≡ b
-          → cond b true (is_listed old other) ≡ is_some (lookup (same_place other) es)
-      by other true t = sym there ∙ ap (λ p. is_some (lookup (same_place p) es)) (same_place_is place other t)
-      by other false t = are other
-
-  -- one that does not stand comes and goes
-  pub one_undone : (place : Place) (between new : List (Pair × PairAccounts)) → is_some (lookup (same_place place) es) ≡ false
-      → ListsOne place true old between → ListsOne place false between new → ArePairsOf es new
-  one_undone place between new absent more less = λ other.
-      less other ∙ ap (λ b. cond (same_place place other) false b) (more other) ∙ by other (same_place place other) refl
-    where
-      by : (other : Place) (b : Bool) → same_place place other ≡ b
-          → cond b false (cond b true (is_listed old other)) ≡ is_some (lookup (same_place other) es)
-      by other true t = sym absent ∙ ap (λ p. is_some (lookup (same_place p) es)) (same_place_is place other t)
-      by other false t = are other
-
-  pub one_goes : (place : Place) (new : List (Pair × PairAccounts)) → IsDistinct same_place (keys_of es)
-      → ListsOne place false old new
-      → ArePairsOf (remove_entry (same_place place) es) new
-  one_goes place new distinct less = λ other.
-      less other ∙ ap (λ b. cond (same_place place other) false b) (are other)
-      ∙ by (same_place place other) (lookup (same_place other) es)
-      ∙ sym (ap is_some (lookup-remove_entry place_laws (same_place place) (λ x y e. place_laws.congr place x y e) other es distinct))
-    where
-      by : (b : Bool) (o : Option Triple) → cond b false (is_some o) ≡ is_some (cond b None o)
-      by true o = refl
-      by false o = refl
-
-  -- those of a pair are no longer found
-  found_filtered : (pair : Pair) (other : Place) (ds : List (Place × Triple))
-      → is_some (lookup (same_place other) (filter (λ e. not (is_at_pair pair e.0)) ds))
-      ≡ cond (is_at_pair pair other) false (is_some (lookup (same_place other) ds))
-  found_filtered pair other [] = by (is_at_pair pair other)
-    where
-      by : (b : Bool) → false ≡ cond b false false
-      by true = refl
-      by false = refl
-  found_filtered pair other (e ∷ ds) = pick (same_place other e.0) (is_at_pair pair e.0) refl refl (found_filtered pair other ds)
-    where
-      left : List (Place × Triple)
-      left = filter (λ d. not (is_at_pair pair d.0)) ds
-
-      pick : (a b : Bool) → same_place other e.0 ≡ a → is_at_pair pair e.0 ≡ b
-          → is_some (lookup (same_place other) left) ≡ cond (is_at_pair pair other) false (is_some (lookup (same_place other) ds))
-          → is_some (lookup (same_place other) (cond (not b) (e ∷ left) left))
-          ≡ cond (is_at_pair pair other) false (is_some (cond a (Some e.1) (lookup (same_place other) ds)))
-      pick true true t u h =
-          let here : is_at_pair pair other ≡ true = pair_of_same pair other e.0 t ∙ u in
-          h ∙ ap (λ c. cond c false (is_some (lookup (same_place other) ds))) here ∙ sym (ap (λ c. cond c false true) here)
-      pick true false t u h =
-          let apart : is_at_pair pair other ≡ false = pair_of_same pair other e.0 t ∙ u in
-          ap (λ c. is_some (cond c (Some e.1) (lookup (same_place other) left))) t ∙ sym (ap (λ c. cond c false true) apart)
-      pick false true t u h = h
-      pick false false t u h = ap (λ c. is_some (cond c (Some e.1) (lookup (same_place other) left))) t ∙ h
-
-  pub all_go : (pair : Pair) (new : List (Pair × PairAccounts)) → ListsNone pair old new
-      → ArePairsOf (filter (λ e. not (is_at_pair pair e.0)) es) new
-  all_go pair new less = λ other. less other ∙ ap (λ b. cond (is_at_pair pair other) false b) (are other)
-      ∙ sym (found_filtered pair other es)
-
--- ---- whether a pair has a permission
-
--- each of these permissions is found among all
-pub all_found : (all es : List (Place × Triple)) → ((place : Place) → is_some (lookup (same_place place) es) ≡ true
-    → is_some (lookup (same_place place) all) ≡ true)
-    → AllByRecursion (λ e. is_some (lookup (same_place e.0) all) ≡ true) es
-all_found all [] within = tt
-all_found all (e ∷ es) within = (
-  within e.0 (ap (λ b. is_some (cond b (Some e.1) (lookup (same_place e.0) es))) (same_place_self e.0)),
-  all_found all es (λ place h. within place (later (same_place place e.0) (lookup (same_place place) es) h)),
-)
+-- and else some is
+pub ids_first : (kept : List (ℕ × Triple)) (held : PairAccounts) (id : ℕ) (rest : List ℕ) → ids_held held ≡ id ∷ rest
+    → (account : List ℕ) × (id_held kept held account ≡ Some id)
+ids_first kept Empty id rest e = cc
+ids_first kept (One only) id rest e =
+    let is : only ≡ id = cc in
+    let found = alone_found kept only in
+    (found.0, found.1 ∙ ap (λ n. Some n) is)
+ids_first kept (Many ids) id rest e = by ids.value.entries e
   where
-    later : (b : Bool) (o : Option Triple) → is_some o ≡ true → is_some (cond b (Some e.1) o) ≡ true
-    later true o h = refl
-    later false o h = h
+    by : (es : List (List ℕ × ℕ)) → values_of es ≡ id ∷ rest → (account : List ℕ) × (lookup (bytes_eq account) es ≡ Some id)
+    by [] f = cc
+    by (first ∷ es) f =
+        let is : first.1 ≡ id = cc in (
+          first.0,
+          ap (λ b. cond b (Some first.1) (lookup (bytes_eq first.0) es)) (account_laws.refl first.0) ∙ ap (λ n. Some n) is,
+        )
 
-module _ (es : List (Place × Triple)) (old : List (Pair × PairAccounts)) (are : ArePairsOf es old) (pair : Pair) where
-  none_at_pair : accounts_of old pair ≡ [] → (ds : List (Place × Triple))
-      → AllByRecursion (λ e. is_some (lookup (same_place e.0) es) ≡ true) ds
-      → list_any (is_at_pair pair) (keys_of ds) ≡ false
-  none_at_pair none [] all = refl
-  none_at_pair none (e ∷ ds) all = pick (is_at_pair pair e.0) refl (none_at_pair none ds all.1)
+or_true : (a : Bool) → (a || true) ≡ true
+or_true true = refl
+or_true false = refl
+
+list_among : (es : List (List ℕ × ℕ)) (id : ℕ) (account : List ℕ) → lookup (bytes_eq account) es ≡ Some id
+    → list_any (nat_eq id) (values_of es) ≡ true
+list_among [] id account f = cc
+list_among (first ∷ es) id account f = pick (bytes_eq account first.0) f (λ g. list_among es id account g)
+  where
+    pick : (b : Bool) → cond b (Some first.1) (lookup (bytes_eq account) es) ≡ Some id
+        → (lookup (bytes_eq account) es ≡ Some id → list_any (nat_eq id) (values_of es) ≡ true)
+        → (nat_eq id first.1 || list_any (nat_eq id) (values_of es)) ≡ true
+    pick true g later =
+        ap (λ b. b || list_any (nat_eq id) (values_of es)) (eq-eqb id first.1 (sym (some_one first.1 id g)))
+    pick false g later = ap (λ b. nat_eq id first.1 || b) (later g) ∙ or_true (nat_eq id first.1)
+
+-- what is found is an id
+pub held_among : (kept : List (ℕ × Triple)) (held : PairAccounts) (id : ℕ) (account : List ℕ) → id_held kept held account ≡ Some id
+    → list_any (nat_eq id) (ids_held held) ≡ true
+held_among kept Empty id account e = cc
+held_among kept (One only) id account e = ap (λ b. b || false) (eq-eqb id only (sym (alone_is kept only id account e)))
+held_among kept (Many ids) id account e = list_among ids.value.entries id account e
+
+among_list : (es : List (List ℕ × ℕ)) (id : ℕ) → IsDistinct bytes_eq (keys_of es) → list_any (nat_eq id) (values_of es) ≡ true
+    → (account : List ℕ) × (lookup (bytes_eq account) es ≡ Some id)
+unfolding IsDistinct
+among_list [] id d f = cc
+among_list (first ∷ es) id d f = pick (nat_eq id first.1) refl f (λ g. among_list es id d.1 g)
+  where
+    pick : (b : Bool) → nat_eq id first.1 ≡ b → (b || list_any (nat_eq id) (values_of es)) ≡ true
+        → (list_any (nat_eq id) (values_of es) ≡ true → (account : List ℕ) × (lookup (bytes_eq account) es ≡ Some id))
+        → (account : List ℕ) × (cond (bytes_eq account first.0) (Some first.1) (lookup (bytes_eq account) es) ≡ Some id)
+    pick true t g later = (
+      first.0,
+      ap (λ b. cond b (Some first.1) (lookup (bytes_eq first.0) es)) (account_laws.refl first.0)
+          ∙ ap (λ n. Some n) (sym (same_number_is id first.1 t)),
+    )
+    pick false t g later =
+        let rest = later g in (
+          rest.0,
+          ap (λ b. cond b (Some first.1) (lookup (bytes_eq rest.0) es))
+              (apart_key bytes_eq account_laws first.0 rest.0 es d.0 (ap is_some rest.1)) ∙ rest.1,
+        )
+
+-- an id is found, for some account
+pub among_held : (kept : List (ℕ × Triple)) (held : PairAccounts) (id : ℕ) → AreApart held
+    → list_any (nat_eq id) (ids_held held) ≡ true → (account : List ℕ) × (id_held kept held account ≡ Some id)
+among_held kept Empty id apart e = cc
+among_held kept (One only) id apart e =
+    let found = alone_found kept only in
+    (found.0, found.1 ∙ ap (λ n. Some n) (sym (same_number_is id only (one (nat_eq id only) e))))
+  where
+    one : (b : Bool) → (b || false) ≡ true → b ≡ true
+    one true f = refl
+    one false f = f
+among_held kept (Many ids) id apart e = among_list ids.value.entries id apart e
+
+-- where what is listed stands as before, the same is found
+pub stable : (kept later : List (ℕ × Triple)) (held : PairAccounts)
+    → ((account : List ℕ) (id : ℕ) → id_held kept held account ≡ Some id → lookup (nat_eq id) later ≡ lookup (nat_eq id) kept)
+    → (account : List ℕ) → id_held later held account ≡ id_held kept held account
+stable kept later Empty as_before account = refl
+stable kept later (Many ids) as_before account = refl
+stable kept later (One id) as_before account =
+    let found = alone_found kept id in
+    ap (λ o. if option_map_or (λ triple. bytes_eq triple.account account) o true then Some id else None)
+    (as_before found.0 id found.1)
+
+-- ---- the ids of all pairs
+
+pub stable_of : (kept later : List (ℕ × Triple)) (pairs : List (Pair × PairAccounts))
+    → ((pair : Pair) (account : List ℕ) (id : ℕ) → id_of kept pairs pair account ≡ Some id
+    → lookup (nat_eq id) later ≡ lookup (nat_eq id) kept)
+    → (pair : Pair) (account : List ℕ) → id_of later pairs pair account ≡ id_of kept pairs pair account
+stable_of kept later pairs as_before pair account = by (lookup (same_pair pair) pairs) refl
+  where
+    by : (o : Option PairAccounts) → lookup (same_pair pair) pairs ≡ o → id_in later o account ≡ id_in kept o account
+    by None e = refl
+    by (Some held) e =
+        stable kept later held
+        (λ a id f. as_before pair a id (ap (λ o. id_in kept o a) e ∙ f)) account
+
+-- where there are none of a pair, nothing goes
+pub lists_nothing : (pair : Pair) (old new : List (Pair × PairAccounts)) → is_some (slice_get (ids_of old pair) 0) ≡ false
+    → ListsNone pair old new → ListsSame old new
+lists_nothing pair old new none less = λ kept p a. less kept p a ∙ by kept p a (same_pair pair p) refl
+  where
+    is_empty : (ids : List ℕ) → is_some (slice_get ids 0) ≡ false → ids ≡ []
+    is_empty [] e = refl
+    is_empty (id ∷ ids) e = cc
+
+    no_id : (kept : List (ℕ × Triple)) (a : List ℕ) (o : Option PairAccounts) → ids_in o ≡ [] → id_in kept o a ≡ None
+    no_id kept a None e = refl
+    no_id kept a (Some held) e = ids_none kept held e a
+
+    by : (kept : List (ℕ × Triple)) (p : Pair) (a : List ℕ) (b : Bool) → same_pair pair p ≡ b
+        → cond b None (id_of kept old p a) ≡ id_of kept old p a
+    by kept p a true t =
+        sym (ap (λ q. id_of kept old q a) (sym (same_pair_is pair p t))
+        ∙ no_id kept a (lookup (same_pair pair) old) (is_empty (ids_of old pair) none))
+    by kept p a false t = refl
+
+-- the accounts of one pair change
+module _ (pair : Pair) (old new : List (Pair × PairAccounts)) (before after : PairAccounts)
+    (there : lookup (same_pair pair) old ≡ Some before)
+    (updates : (p : Pair) → lookup (same_pair p) new ≡ cond (same_pair pair p) (Some after) (lookup (same_pair p) old)) where
+  lists_one : (kept : List (ℕ × Triple)) (account : List ℕ) (id : Option ℕ) → HoldsOne kept account id before after
+      → ListsOne kept pair account id old new
+  lists_one kept account id h = λ p a. ap (λ o. id_in kept o a) (updates p) ∙ by p a (same_pair pair p) refl
     where
-      pick : (b : Bool) → is_at_pair pair e.0 ≡ b → list_any (is_at_pair pair) (keys_of ds) ≡ false
-          → (b || list_any (is_at_pair pair) (keys_of ds)) ≡ false
-      pick true t h =
-          let listed : is_listed old e.0 ≡ false = ap (list_any (nat_eq e.0.account)) (same_accounts pair old e.0 t ∙ none) in
-          let wrong : true ≡ false = sym all.0 ∙ sym (are e.0) ∙ listed in
-          cc
-      pick false t h = h
+      by : (p : Pair) (a : List ℕ) (b : Bool) → same_pair pair p ≡ b
+          → id_in kept (cond b (Some after) (lookup (same_pair p) old)) a
+          ≡ cond (b && bytes_eq account a) id (id_of kept old p a)
+      by p a true t =
+          h a ∙ ap (λ o. cond (bytes_eq account a) id o)
+          (sym (ap (λ q. id_of kept old q a) (sym (same_pair_is pair p t)) ∙ ap (λ o. id_in kept o a) there))
+      by p a false t = refl
 
-  some_at_pair : (account : ℕ) (ds : List (Place × Triple)) → is_some (lookup (same_place (place_in pair account)) ds) ≡ true
-      → list_any (is_at_pair pair) (keys_of ds) ≡ true
-  some_at_pair account [] h = cc
-  some_at_pair account (e ∷ ds) h = pick (same_place (place_in pair account) e.0) refl h (λ found. some_at_pair account ds found)
-    where
-      or_true : (a : Bool) → (a || true) ≡ true
-      or_true true = refl
-      or_true false = refl
+  pub lists_new : (kept : List (ℕ × Triple)) (id : ℕ) → HoldsNew kept id before after → ListsNew kept pair id old new
+  lists_new kept id h = λ triple stands absent.
+      lists_one kept triple.account (Some id) (h triple stands (sym (ap (λ o. id_in kept o triple.account) there) ∙ absent))
 
-      pick : (b : Bool) → same_place (place_in pair account) e.0 ≡ b
-          → is_some (cond b (Some e.1) (lookup (same_place (place_in pair account)) ds)) ≡ true
-          → (is_some (lookup (same_place (place_in pair account)) ds) ≡ true → list_any (is_at_pair pair) (keys_of ds) ≡ true)
-          → (is_at_pair pair e.0 || list_any (is_at_pair pair) (keys_of ds)) ≡ true
-      pick true t f later = ap (λ b. b || list_any (is_at_pair pair) (keys_of ds)) (sym (pair_of_same pair
-          (place_in pair account) e.0 t) ∙ pair_laws.refl pair)
-      pick false t f later = ap (λ b. is_at_pair pair e.0 || b) (later f) ∙ or_true (is_at_pair pair e.0)
-
-  pub pair_listed : is_some (slice_get (accounts_of old pair) 0) ≡ list_any (is_at_pair pair) (keys_of es)
-  pair_listed = by (accounts_of old pair) refl
-    where
-      by : (accounts : List ℕ) → accounts_of old pair ≡ accounts
-          → is_some (slice_get accounts 0) ≡ list_any (is_at_pair pair) (keys_of es)
-      by [] e = sym (none_at_pair e es (all_found es es (λ place h. h)))
-      by (account ∷ accounts) e =
-          let listed : is_listed old (place_in pair account) ≡ true =
-          ap (list_any (nat_eq account)) (same_accounts pair old (place_in pair account) (pair_laws.refl pair) ∙ e)
-          ∙ ap (λ b. b || list_any (nat_eq account) accounts) (eq-eqb account account refl) in
-          sym (some_at_pair account es (sym (are (place_in pair account)) ∙ listed))
+  pub lists_less : (account : List ℕ) → HoldsLess account before after → ListsLess pair account old new
+  lists_less account h = λ kept id stands found.
+      lists_one kept account None (h kept id stands (sym (ap (λ o. id_in kept o account) there) ∙ found))

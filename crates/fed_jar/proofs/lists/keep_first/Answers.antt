@@ -1,5 +1,6 @@
-use Rattle.std.proofs.Common.{◌≡◌, not, sym, ap, ◌∙◌, rules}
+use Rattle.std.proofs.Common.{◌≡◌, not, sym, refl, ap, ◌∙◌, rules}
 use Rattle.std.specs.List.{list_any}
+use Rattle.fed_jar.specs.declared.party_cookies.PartyCookies.TheVariants.{One}
 use Rattle.fed_jar.specs.Parts.{same_numbered, lists_of}
 use Rattle.fed_jar.proofs.parts.Lists.{put_first, listed_none}
 use Rattle.fed_jar.proofs.parts.Places.{none_placed}
@@ -8,9 +9,9 @@ use Rattle.fed_jar.proofs.lists.keep_first.Goals as goal
 pub returns-clause-ok : goal.returns-clause-ok
 returns-clause-ok c =
     let named : c.in_ok-name.name.items ≡ c.args.party.now = search rules in
-    ap (lists_of (λ key. key.items)) c.in_ok-insert-2.ensures.entries
-    ∙ put_first (λ key. key.items) c.args.party.now c.args.new c.args.parties.now.entries c.in_ok-name.name c.insert.new.self
-    (none_placed (λ key. key.items) c.args.party.now c.args.parties.now.entries c.requires) named (search rules)
+    ap (lists_of (λ key. key.items)) c.in_ok-insert.ensures.entries
+    ∙ put_first (λ key. key.items) c.args.party.now c.args.new c.args.parties.now.entries c.in_ok-name.name (One c.args.new)
+    (none_placed (λ key. key.items) c.args.party.now c.args.parties.now.entries c.requires) named refl
 
 pub returns-clause-fresh : goal.returns-clause-fresh
 returns-clause-fresh c =

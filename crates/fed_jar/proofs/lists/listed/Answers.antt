@@ -4,7 +4,7 @@ use Rattle.fed_jar.proofs.lists.listed.Goals as goal
 
 pub returns-in-Some : goal.returns-in-Some
 returns-in-Some c =
-    c.as_slice.ensures.keys
+    c.as_slice.ensures
     ∙ sym (listed_some (λ key. key.items) c.args.party.now c.args.parties.now.entries c.in-Some.cookies.now (sym c.in-Some.ensures.value))
 
 pub returns-in-None : goal.returns-in-None

@@ -15,18 +15,18 @@ use Rattle.fed_session.proofs.input.take_input.Goals as goal
 pub apply-requires : goal.apply-requires
 apply-requires g c =
     subst CanApplyAll (sym c.in_ok-kept.ensures.effects)
-    (brought_applies (world_of c.lent.result) (known_of c.in-Some-into_state.state) c.args.input.now)
+    (brought_applies (world_of c.lent.result) (known_of c.into_state-state.result) c.args.input.now)
 
 pub give_back-requires-clause-waits : goal.give_back-requires-clause-waits
 give_back-requires-clause-waits g c =
-    waits_lent c.args.call c.lend.new.self c.in-Some.kept (known_of c.in-Some-into_state.state) c.in-Some-page.page c.waits-waited.result
-    c.in-Some-into_state.ensures c.in-Some-page.ensures c.waits-waited.ensures c.in-Some.ensures.waits
+    waits_lent c.args.call c.lend.new.self c.in-Some.kept (known_of c.into_state-state.result) c.in-Some-page.page c.waits-waited.result
+    c.into_state-state.ensures c.in-Some-page.ensures c.waits-waited.ensures c.in-Some.ensures.waits
 
 pub returns-clause-outs : goal.returns-clause-outs
 returns-clause-outs g c =
     let same : c.learn.new.sight ≡ c.args.sight.now = c.in_ok-learn.ensures in
-    let known = known_of c.in-Some-into_state.state in
-    let found : known ≡ item_known c.args.tabs.now.table.items c.args.call = c.in-Some-into_state.ensures ∙ c.in-Some.ensures.known in
+    let known = known_of c.into_state-state.result in
+    let found : known ≡ item_known c.args.tabs.now.table.items c.args.call = c.into_state-state.ensures ∙ c.in-Some.ensures.known in
     subst (λ s. c.in_ok-outs.outs ≡ records_of c.args.line (input_effects (world_in s) (cookies_of s)
     (list_any (nat_eq c.args.call) c.args.tabs.now.taken) c.args.call (item_known c.args.tabs.now.table.items c.args.call)
     c.args.input.now)) same (
@@ -43,8 +43,8 @@ returns-clause-outs g c =
 pub returns-clause-sight : goal.returns-clause-sight
 returns-clause-sight g c =
     let same : c.learn.new.sight ≡ c.args.sight.now = c.in_ok-learn.ensures in
-    let known = known_of c.in-Some-into_state.state in
-    let found : known ≡ item_known c.args.tabs.now.table.items c.args.call = c.in-Some-into_state.ensures ∙ c.in-Some.ensures.known in
+    let known = known_of c.into_state-state.result in
+    let found : known ≡ item_known c.args.tabs.now.table.items c.args.call = c.into_state-state.ensures ∙ c.in-Some.ensures.known in
     subst (λ s. c.apply.new.sight ≡ sight_after (outcome_at (world_in s) (list_any (nat_eq c.args.call) c.args.tabs.now.taken)
     (item_known c.args.tabs.now.table.items c.args.call) c.args.input.now).effects s) same (
     c.in_ok-outs.ensures.sight ∙ ap (λ effects. sight_after effects c.learn.new.sight) c.in_ok-kept.ensures.effects
@@ -56,8 +56,8 @@ returns-clause-sight g c =
 pub returns-clause-tabs : goal.returns-clause-tabs
 returns-clause-tabs g c =
     let same : c.learn.new.sight ≡ c.args.sight.now = c.in_ok-learn.ensures in
-    let known = known_of c.in-Some-into_state.state in
-    let found : known ≡ item_known c.args.tabs.now.table.items c.args.call = c.in-Some-into_state.ensures ∙ c.in-Some.ensures.known in
+    let known = known_of c.into_state-state.result in
+    let found : known ≡ item_known c.args.tabs.now.table.items c.args.call = c.into_state-state.ensures ∙ c.in-Some.ensures.known in
     let next : c.in_ok-kept.kept ≡ kept_next (world_in c.learn.new.sight) (item_known c.args.tabs.now.table.items c.args.call)
     c.args.input.now = c.in_ok-kept.ensures.kept ∙ ap (λ w. kept_next w known c.args.input.now) c.lent.ensures
     ∙ ap (λ k. kept_next (world_in c.learn.new.sight) k c.args.input.now) found in

@@ -10,13 +10,13 @@ use Rattle.fed_session.proofs.resume.resume_one.Goals as goal
 
 pub give_back-requires-clause-waits : goal.give_back-requires-clause-waits
 give_back-requires-clause-waits g c =
-    waits_lent c.args.call c.lend.new.self c.in-Some.kept (known_of c.in-Some-into_state.state) c.in-Some-page.page c.waits-waited.result
-    c.in-Some-into_state.ensures c.in-Some-page.ensures c.waits-waited.ensures c.in-Some.ensures.waits
+    waits_lent c.args.call c.lend.new.self c.in-Some.kept (known_of c.into_state-state.result) c.in-Some-page.page c.waits-waited.result
+    c.into_state-state.ensures c.in-Some-page.ensures c.waits-waited.ensures c.in-Some.ensures.waits
 
 pub returns-clause-outs : goal.returns-clause-outs
 returns-clause-outs g c =
-    let known = known_of c.in-Some-into_state.state in
-    let found : known ≡ item_known c.args.tabs.now.table.items c.args.call = c.in-Some-into_state.ensures ∙ c.in-Some.ensures.known in
+    let known = known_of c.into_state-state.result in
+    let found : known ≡ item_known c.args.tabs.now.table.items c.args.call = c.into_state-state.ensures ∙ c.in-Some.ensures.known in
     c.in_ok-outs.ensures ∙ ap (call_records c.args.line (cookies_of c.args.sight.now) c.args.call c.in-Some-page.page)
     c.in_ok-kept.ensures.effects
     ∙ ap (λ w. call_records c.args.line (cookies_of c.args.sight.now) c.args.call c.in-Some-page.page
@@ -28,8 +28,8 @@ returns-clause-outs g c =
 
 pub returns-clause-tabs : goal.returns-clause-tabs
 returns-clause-tabs g c =
-    let known = known_of c.in-Some-into_state.state in
-    let found : known ≡ item_known c.args.tabs.now.table.items c.args.call = c.in-Some-into_state.ensures ∙ c.in-Some.ensures.known in
+    let known = known_of c.into_state-state.result in
+    let found : known ≡ item_known c.args.tabs.now.table.items c.args.call = c.into_state-state.ensures ∙ c.in-Some.ensures.known in
     let next : c.in_ok-kept.kept ≡ kept_next (world_in c.args.sight.now) (item_known c.args.tabs.now.table.items c.args.call) Resume =
     c.in_ok-kept.ensures.kept ∙ ap (λ w. kept_next w known Resume) c.lent.ensures
     ∙ ap (λ k. kept_next (world_in c.args.sight.now) k Resume) found in

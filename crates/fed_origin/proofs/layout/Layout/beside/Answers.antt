@@ -37,9 +37,7 @@ invariant_of-result c =
       ascii = subst IsAscii (sym spelled) (IsAscii-serialize url valid);
       valid = valid;
       web = web;
-      scheme = i.scheme;
-      host = c.in_ok-host.ensures ∙ i.host;
-      port = i.port;
+      origin = c.in_ok-origin.ensures ∙ i.origin;
       path = i.path ∙ beside_path base path query i.valid i.web;
       query = c.marked-query.ensures ∙ ap (λ n. option_map (λ _. n) query) (ap (λ n. n + length path) i.path
           ∙ beside_query base path query i.valid i.web);

@@ -3,7 +3,7 @@ use Rattle.std.specs.Prelude.{IsAscii, string_bytes}
 use Rattle.url.specs.Parser.{parse_url}
 use Rattle.url.proofs.ValidLemmas.{IsAscii-serialize}
 use Rattle.fed_origin.specs.Layout.{IsLayoutOf}
-use Rattle.fed_origin.proofs.urls.Reads.{reads_itself, parts_are}
+use Rattle.fed_origin.proofs.urls.Reads.{reads_itself, parts_are, same_parts}
 use Rattle.fed_origin.proofs.layout.Layout.of.Goals as goal
 
 pub invariant_of-result : goal.invariant_of-result
@@ -20,9 +20,8 @@ invariant_of-result c =
       ascii = subst IsAscii (sym c.from-text.ensures) (IsAscii-serialize url valid);
       valid = valid;
       web = c.requires;
-      scheme = c.scheme_of-scheme.ensures;
-      host = c.in_ok-host.ensures ∙ c.host_text.ensures.value;
-      port = c.unwrap_or-port.ensures ∙ rw (c.port.ensures.value, c.own_port.ensures, c.scheme_of-scheme.ensures);
+      origin = same_parts c.scheme_of-scheme.ensures (c.in_ok-host.ensures ∙ c.host_text.ensures.value)
+          (c.unwrap_or-port.ensures ∙ rw (c.port.ensures.value, c.own_port.ensures, c.scheme_of-scheme.ensures));
       path = c.index-path.ensures;
       query = c.query_mark-query.ensures;
       end = c.index-end.ensures;

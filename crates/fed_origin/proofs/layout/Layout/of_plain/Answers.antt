@@ -4,7 +4,7 @@ use Rattle.std.specs.Option.{option_copied}
 use Rattle.url.specs.Parser.{parse_url}
 use Rattle.fed_origin.specs.Layout.{IsLayoutOf}
 use Rattle.fed_origin.specs.Plain.{plain_parts}
-use Rattle.fed_origin.proofs.urls.Reads.{parts_are}
+use Rattle.fed_origin.proofs.urls.Reads.{parts_are, same_parts}
 use Rattle.fed_origin.proofs.urls.PlainUrl.{valid, ascii, room, reads_plain, spelled, path_place, query_place, end_place, host_place}
 use Rattle.fed_origin.proofs.layout.Layout.of_plain.Goals as goal
 
@@ -36,9 +36,7 @@ invariant_of-result c =
       ascii = subst IsAscii (sym same) (ascii _ host path query c.requires);
       valid = valid host path query _ c.requires;
       web = refl;
-      scheme = refl;
-      host = c.in_ok-host.ensures ∙ c.range.ensures.value ∙ host_place _ host path query _ c.requires refl;
-      port = refl;
+      origin = same_parts refl (c.in_ok-host.ensures ∙ c.range.ensures.value ∙ host_place _ host path query _ c.requires refl) refl;
       path = path_place host path query;
       query = c.marked-query.ensures ∙ ap (λ n. option_map (λ _. n) query) (query_place host path query);
       end = end_place _ host path query c.requires;

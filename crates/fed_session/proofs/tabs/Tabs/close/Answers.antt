@@ -5,7 +5,7 @@ use Rattle.fed_session.proofs.tabs.Tabs.close.Goals as goal
 
 pub invariant_of-self : goal.invariant_of-self
 invariant_of-self g c =
-    subst (λ pages. AreTabs pages c.self.inside.taken.keys c.self.inside.table c.self.inside.changes) (sym c.remove.ensures)
+    subst (λ pages. AreTabs pages c.self.inside.taken c.self.inside.table c.self.inside.changes) (sym c.remove.ensures)
     (tabs_closed c.self.invariant c.args.page)
 
 pub returns-clause-tabs : goal.returns-clause-tabs

@@ -6,18 +6,18 @@ use Rattle.fed_session.proofs.tabs.Tabs.load.Goals as goal
 
 pub invariant_of-self : goal.invariant_of-self
 invariant_of-self g c =
-    subst (λ table. AreTabs c.self.inside.pages c.self.inside.taken.keys table c.in-Some.changes) (sym c.in_err-add_page.ensures.err)
+    subst (λ table. AreTabs c.self.inside.pages c.self.inside.taken table c.in-Some.changes) (sym c.in_err-add_page.ensures.err)
     (tabs_room c.self.invariant c.in-Some.changes c.in-Some.ensures.1)
 
 pub invariant_of-self-in_err-insert : goal.invariant_of-self-in_err-insert
 invariant_of-self-in_err-insert g c =
-    subst (λ pages. AreTabs pages c.self.inside.taken.keys c.add_page.new.self c.in-Some.changes) (sym c.in_err-insert.ensures.err)
+    subst (λ pages. AreTabs pages c.self.inside.taken c.add_page.new.self c.in-Some.changes) (sym c.in_err-insert.ensures.err)
     (tabs_added c.self.invariant c.add_page.new.self c.args.page c.in-Some.changes c.in_ok-add_page.ensures.pages c.add_page.ensures.waits
     c.add_page.ensures.items c.in-Some.ensures.1)
 
 pub invariant_of-self-2 : goal.invariant_of-self-2
 invariant_of-self-2 g c =
-    subst (λ pages. AreTabs pages c.self.inside.taken.keys c.add_page.new.self c.in-Some.changes) (sym c.in_ok-insert.ensures.ok)
+    subst (λ pages. AreTabs pages c.self.inside.taken c.add_page.new.self c.in-Some.changes) (sym c.in_ok-insert.ensures.ok)
     (tabs_stands
     (tabs_added c.self.invariant c.add_page.new.self c.args.page c.in-Some.changes c.in_ok-add_page.ensures.pages c.add_page.ensures.waits
     c.add_page.ensures.items c.in-Some.ensures.1)

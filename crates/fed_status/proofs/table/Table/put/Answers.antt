@@ -1,44 +1,29 @@
-use Rattle.std.proofs.Common.{◌∙◌, sym, ap, refl}
-use Rattle.std.specs.Map.{values_of}
-use Rattle.fed_status.proofs.numbers.Listed.{found_listed, absent_unlisted, one_there, one_undone}
-use Rattle.fed_status.proofs.numbers.Tables.{present, put_last, with_one, undone}
+use Rattle.std.proofs.Common.{◌∙◌, ap, refl, is_some, nat_eq}
+use Rattle.std.specs.Map.{values_of, remove_entry}
+use Rattle.fed_status.proofs.numbers.Tables.{fresh, goes_again, put_last, undone, with_one}
 use Rattle.fed_status.proofs.table.Table.put.Goals as goal
 
-pub returns-then-not-branch-clause-ok : goal.returns-then-not-branch-clause-ok
-returns-then-not-branch-clause-ok c =
-    present c.args.self.now c.requires.table c.args.triple c.args.place c.requires.place
-    (found_listed c.args.self.now.kept c.args.self.now.pairs.entries c.requires.table.pairs c.args.place
-    (sym c.in_ok-list.ensures.fresh ∙ c.if-not-branch.true))
-
-pub returns-then-not-branch-clause-table : goal.returns-then-not-branch-clause-table
-returns-then-not-branch-clause-table c =
-    undone c.args.self.now c.requires.table _ refl refl
-    (one_there c.args.self.now.kept c.args.self.now.pairs.entries c.requires.table.pairs c.args.place c.list.new.pairs.entries
-    (found_listed c.args.self.now.kept c.args.self.now.pairs.entries c.requires.table.pairs c.args.place
-    (sym c.in_ok-list.ensures.fresh ∙ c.if-not-branch.true)) c.in_ok-list.ensures.ok)
-
-pub returns-in_err-list-clause-table : goal.returns-in_err-list-clause-table
-returns-in_err-list-clause-table c =
-    undone c.args.self.now c.requires.table _ refl refl (λ other. c.in_err-list.ensures.err other ∙ c.requires.table.pairs other)
+pub insert_new-requires : goal.insert_new-requires
+insert_new-requires c = ap is_some (fresh c.args.self.now c.requires.table)
 
 pub returns-in-Ok-clause-ok : goal.returns-in-Ok-clause-ok
 returns-in-Ok-clause-ok c =
-    ap values_of c.in-Ok.ensures.ok
-    ∙ put_last c.args.self.now c.requires.table c.args.triple c.args.place c.requires.place
-    (absent_unlisted c.args.self.now.kept c.args.self.now.pairs.entries c.requires.table.pairs c.args.place
-    (sym c.in_ok-list.ensures.fresh ∙ c.if-not-branch.false))
+    ap values_of c.in_ok-insert_new.ensures.ok
+    ∙ put_last c.args.self.now c.requires.table c.args.triple c.args.pair c.requires.pair c.requires.absent
 
 pub returns-in-Ok-clause-table : goal.returns-in-Ok-clause-table
 returns-in-Ok-clause-table c =
-    with_one c.args.self.now c.requires.table c.args.triple c.args.place c.requires.place
-    (absent_unlisted c.args.self.now.kept c.args.self.now.pairs.entries c.requires.table.pairs c.args.place
-    (sym c.in_ok-list.ensures.fresh ∙ c.if-not-branch.false))
-    _ refl c.in-Ok.ensures.ok c.in_ok-list.ensures.ok
+    with_one c.args.self.now c.requires.table c.args.triple c.args.pair c.requires.pair c.requires.absent
+    _ refl c.in_ok-insert_new.ensures.ok c.in-Ok.ensures.ok c.in-Some.ensures.1
+
+pub returns-in-Err-clause-err : goal.returns-in-Err-clause-err
+returns-in-Err-clause-err c =
+    ap values_of (c.remove.ensures ∙ ap (remove_entry (nat_eq c.args.self.now.next)) c.in_ok-insert_new.ensures.ok
+    ∙ goes_again c.args.self.now c.requires.table c.args.triple)
 
 pub returns-in-Err-clause-table : goal.returns-in-Err-clause-table
 returns-in-Err-clause-table c =
-    undone c.args.self.now c.requires.table _ refl c.in-Err.ensures.err
-    (one_undone c.args.self.now.kept c.args.self.now.pairs.entries c.requires.table.pairs c.args.place c.list.new.pairs.entries
-    c.unlist.new.pairs.entries
-    (absent_unlisted c.args.self.now.kept c.args.self.now.pairs.entries c.requires.table.pairs c.args.place
-    (sym c.in_ok-list.ensures.fresh ∙ c.if-not-branch.false)) c.in_ok-list.ensures.ok c.unlist.ensures)
+    undone c.args.self.now c.requires.table _ refl
+    (c.remove.ensures ∙ ap (remove_entry (nat_eq c.args.self.now.next)) c.in_ok-insert_new.ensures.ok
+    ∙ goes_again c.args.self.now c.requires.table c.args.triple)
+    refl c.in-Err.ensures.err

@@ -16,8 +16,8 @@ loop-call-init g c = record {
   waits = refl;
   items = λ q. refl;
   at = ap (λ (t : TableParts g.row.C.Denot). position (nat_eq c.args.page) (keys_of t.pages)) (sym c.self.view_is)
-      ∙ ap (position (nat_eq c.args.page)) (keyed_keys c.self.inside.pages.keys c.self.inside.calls.pages)
-      ∙ sym c.place_of.ensures.place ∙ c.in-Some.is;
+      ∙ ap (position (nat_eq c.args.page)) (keyed_keys c.self.inside.pages c.self.inside.calls.pages)
+      ∙ sym c.page_place.ensures.place ∙ c.in-Some.is;
   count = omega arith;
   few = (let all = total_within (nat_eq c.args.page) c.args.self.now.pages in let few = c.are_lists.ensures.few in omega (arith, all, few));
   steps = omega arith;
@@ -90,26 +90,26 @@ returns-clause-steps g c = let before = c.loop-call.invariant.steps in omega (ar
 pub returns-in_default-clause-count : goal.returns-in_default-clause-count
 returns-in_default-clause-count g c =
     ap length (sym (ap (λ (t : TableParts g.row.C.Denot). page_calls t.pages c.args.page) (sym c.self.view_is)
-    ∙ ap (λ o. unwrap_or o []) (no_place nat_eq c.args.page c.self.inside.pages.keys c.self.inside.calls.pages c.self.invariant.page_lists
-    (sym c.place_of.ensures.place ∙ c.in_default.is))))
+    ∙ ap (λ o. unwrap_or o []) (no_place nat_eq c.args.page c.self.inside.pages c.self.inside.calls.pages c.self.invariant.page_lists
+    (sym c.page_place.ensures.place ∙ c.in_default.is))))
 
 pub returns-in_default-clause-pages : goal.returns-in_default-clause-pages
 returns-in_default-clause-pages g c =
     emptied_none (nat_eq c.args.page) c.args.self.now.pages
     (ap (λ (t : TableParts g.row.C.Denot). page_calls t.pages c.args.page) (sym c.self.view_is)
-    ∙ ap (λ o. unwrap_or o []) (no_place nat_eq c.args.page c.self.inside.pages.keys c.self.inside.calls.pages c.self.invariant.page_lists
-    (sym c.place_of.ensures.place ∙ c.in_default.is)))
+    ∙ ap (λ o. unwrap_or o []) (no_place nat_eq c.args.page c.self.inside.pages c.self.inside.calls.pages c.self.invariant.page_lists
+    (sym c.page_place.ensures.place ∙ c.in_default.is)))
 
 pub returns-in_default-clause-waits : goal.returns-in_default-clause-waits
 returns-in_default-clause-waits g c =
     nothing_left c.args.self.now.waits ∙ ap (λ xs. all_without_calls xs c.args.self.now.waits) (sym
     (ap (λ (t : TableParts g.row.C.Denot). page_calls t.pages c.args.page) (sym c.self.view_is)
-    ∙ ap (λ o. unwrap_or o []) (no_place nat_eq c.args.page c.self.inside.pages.keys c.self.inside.calls.pages c.self.invariant.page_lists
-    (sym c.place_of.ensures.place ∙ c.in_default.is))))
+    ∙ ap (λ o. unwrap_or o []) (no_place nat_eq c.args.page c.self.inside.pages c.self.inside.calls.pages c.self.invariant.page_lists
+    (sym c.page_place.ensures.place ∙ c.in_default.is))))
 
 pub returns-in_default-clause-items : goal.returns-in_default-clause-items
 returns-in_default-clause-items g c =
     λ q. ap (λ xs. cond (has q xs) None (item_of c.args.self.now.items q))
     (sym (ap (λ (t : TableParts g.row.C.Denot). page_calls t.pages c.args.page) (sym c.self.view_is)
-    ∙ ap (λ o. unwrap_or o []) (no_place nat_eq c.args.page c.self.inside.pages.keys c.self.inside.calls.pages c.self.invariant.page_lists
-    (sym c.place_of.ensures.place ∙ c.in_default.is))))
+    ∙ ap (λ o. unwrap_or o []) (no_place nat_eq c.args.page c.self.inside.pages c.self.inside.calls.pages c.self.invariant.page_lists
+    (sym c.page_place.ensures.place ∙ c.in_default.is))))

@@ -7,8 +7,8 @@ use Rattle.fed_table.proofs.table.Table.drop_call.Goals as goal
 
 pub returns-clause-pages : goal.returns-clause-pages
 returns-clause-pages g c =
-    ap (keyed c.self.inside.pages.keys) c.drop_call.ensures.pages
-    ∙ keyed_without c.args.call c.self.inside.pages.keys c.self.inside.calls.pages
+    ap (keyed c.self.inside.pages) c.drop_call.ensures.pages
+    ∙ keyed_without c.args.call c.self.inside.pages c.self.inside.calls.pages
     ∙ ap (λ (t : TableParts g.row.C.Denot). all_without c.args.call t.pages) c.self.view_is
 
 pub returns-clause-waits : goal.returns-clause-waits

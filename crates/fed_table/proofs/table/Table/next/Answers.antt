@@ -6,6 +6,6 @@ use Rattle.fed_table.proofs.table.Table.next.Goals as goal
 
 pub returns : goal.returns
 returns g c = record {
-  value = c.next.ensures ∙ keyed_next c.args.call c.self.inside.pages.keys c.self.inside.calls.pages c.self.invariant.page_lists
+  value = c.next.ensures ∙ keyed_next c.args.call c.self.inside.pages c.self.inside.calls.pages c.self.invariant.page_lists
       ∙ ap (λ (t : TableParts g.row.C.Denot). next_in c.args.call t.pages) c.self.view_is;
 }

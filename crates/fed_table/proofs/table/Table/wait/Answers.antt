@@ -27,7 +27,7 @@ wait-requires-in-None-clause-idle g c =
 
 pub invariant_of-self-in-None : goal.invariant_of-self-in-None
 invariant_of-self-in-None g c =
-    origin_listed c.self.inside.pages.keys c.self.inside.origins.keys _ c.self.inside.calls c.wait-in-None.new.self _ c.args.origin.now
+    origin_listed c.self.inside.pages c.self.inside.origins.keys _ c.self.inside.calls c.wait-in-None.new.self _ c.args.origin.now
     c.in_ok-list-in-None.list c.args.call c.self.invariant
     (let few = subst (λ (t : TableParts g.row.C.Denot). length t.waits < 4294967295) (sym c.self.view_is) c.requires.few in
     let same = keyed_length c.self.inside.origins.keys c.self.inside.calls.waits in

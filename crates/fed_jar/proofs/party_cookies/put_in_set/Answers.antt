@@ -1,6 +1,6 @@
 use Rattle.std.proofs.Common.{sym, not, ap, ◌∙◌}
 use Rattle.fed_jar.proofs.parts.Lists.{replaced, added, none_found}
-use Rattle.fed_jar.proofs.lists.put.Goals as goal
+use Rattle.fed_jar.proofs.party_cookies.put_in_set.Goals as goal
 
 pub returns-in_ok-place-in-Some-clause-ok : goal.returns-in_ok-place-in-Some-clause-ok
 returns-in_ok-place-in-Some-clause-ok c =
@@ -12,4 +12,4 @@ returns-in_ok-place-in-None-clause-ok c =
 
 pub returns-in_ok-place-in-None-clause-fresh : goal.returns-in_ok-place-in-None-clause-fresh
 returns-in_ok-place-in-None-clause-fresh c =
-    c.at-in-None.ensures ∙ ap not (sym (none_found c.args.new c.args.cookies.now.keys (sym c.in-None.ensures)))
+    ap not (sym (none_found c.args.new c.args.cookies.now.keys (sym c.in-None.ensures)))

@@ -1,0 +1,2 @@
+-- Where the texts of a cookie stand.
+pub mod Texts
