@@ -2,3 +2,4 @@
 pub mod Firsts
 pub mod Distinct
 pub mod Kept
+pub mod Reading

@@ -1,2 +1,4 @@
--- Lists of texts in entries.
+-- Values and lists of entries.
+pub mod Kinds
+pub mod Stops
 pub mod Texts

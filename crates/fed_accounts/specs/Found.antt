@@ -1,92 +1,103 @@
 -- The members of an entry as one pass over them finds them, for private clauses.
-use Rattle.std.specs.Prelude.{◌≡◌, ℕ, Bool, List, codes, bytes_eq, Option, Some, None, option_map, Result, Ok, if◌then◌else◌}
-use Rattle.json.specs.Token.{Token}
+use Rattle.std.specs.Prelude.{ℕ, List, [], codes, bytes_eq, Option, Some, None, Result, Ok, if◌then◌else◌}
 use Rattle.serde_json.specs.Data.{Data, Items, Members}
 use Rattle.serde_json.specs.Find.{get_member, as_str, as_array}
-use Rattle.fed_json.specs.Part.{data_at, data_or}
 use Rattle.fed_reply.specs.declared.member.Member.{Member}
 use Rattle.fed_reply.specs.Members.{member_map, member_here, member_found}
 use Rattle.fed_reply.specs.Shape.{required, optional}
-use Rattle.fed_reply.specs.Steps.{◌>>=◌}
+use Rattle.fed_reply.specs.Steps.{◌>>=◌, with_ok}
 use Rattle.fed_accounts.specs.declared.account.Account.{Account}
-use Rattle.fed_accounts.specs.declared.members.Texts.{Texts}
-use Rattle.fed_accounts.specs.declared.members.Lists.{Lists}
 use Rattle.fed_accounts.specs.declared.members.Found.{Found}
 use Rattle.fed_accounts.specs.declared.step.AccountsStep.{AccountsStep}
 use Rattle.fed_accounts.specs.declared.step.AccountsStep.TheVariants.{Shape}
-use Rattle.fed_accounts.specs.Read.{AccountTexts, optional_list, list_or_empty}
+use Rattle.fed_accounts.specs.Entry.{list_seen}
+use Rattle.fed_accounts.specs.Read.{each, text_of, optional_list}
 
--- the text of a member, where it has the wanted name, or else what was found before
-abbrev pub text_if : Bool → Data → Member (List ℕ) → Member (List ℕ)
-text_if wanted d before = if wanted then member_here as_str d else before
+-- what an entry has under the names of an account
+pub record FoundParts : Type 0 where
+  pub id : Member (List ℕ)
+  pub name : Member (List ℕ)
+  pub email : Member (List ℕ)
+  pub given_name : Member (List ℕ)
+  pub picture : Member (List ℕ)
+  pub approved : Result (Option (List (List ℕ))) AccountsStep
+  pub login_hints : Result (Option (List (List ℕ))) AccountsStep
+  pub domain_hints : Result (Option (List (List ℕ))) AccountsStep
 
--- what was found before, unless a later member has the name too
-abbrev pub text_after : Option Data → Member (List ℕ) → Member (List ℕ)
-text_after None before = before
-text_after (Some d) before = member_here as_str d
+-- the same as the code has it
+abbrev pub parts : Found → FoundParts
+parts f =
+    record {
+      id = member_map (λ s. s.now) f.id;
+      name = member_map (λ s. s.now) f.name;
+      email = member_map (λ s. s.now) f.email;
+      given_name = member_map (λ s. s.now) f.given_name;
+      picture = member_map (λ s. s.now) f.picture;
+      approved = list_seen f.approved;
+      login_hints = list_seen f.login_hints;
+      domain_hints = list_seen f.domain_hints;
+    }
 
--- the lists, with the value of a member of that name
-abbrev pub lists_with : List ℕ → List Token → Lists → Lists
-lists_with name ts lists =
-    if bytes_eq name (codes "approved_clients") then record lists { approved = Some ts }
-    else (if bytes_eq name (codes "login_hints") then record lists { login_hints = Some ts }
-    else (if bytes_eq name (codes "domain_hints") then record lists { domain_hints = Some ts } else lists))
+-- the list of texts that items are, or the step
+abbrev pub texts_listed : Items → Result (Option (List (List ℕ))) AccountsStep
+texts_listed items = with_ok Some (each text_of items)
 
--- what was found, and then what is left, is what all members have under the name
-abbrev pub FindsText : List ℕ → Members → Members → Member (List ℕ) → Type 0
-FindsText name all left found = text_after (get_member name left) found ≡ member_found as_str (get_member name all)
+-- the same of a value, which may be left out
+abbrev pub listed : Data → Result (Option (List (List ℕ))) AccountsStep
+listed d = optional_list (member_here as_array d)
 
-abbrev pub FindsList : List ℕ → Members → Members → Option (List Token) → Type 0
-FindsList name all left found = data_or (get_member name left) (option_map data_at found) ≡ get_member name all
+-- the same of what stands under a name, if anything does
+abbrev pub list_found : Option Data → Result (Option (List (List ℕ))) AccountsStep
+list_found found = optional_list (member_found as_array found)
 
--- the same of each name
-pub record Finds (all left : Members) (texts : Texts) (lists : Lists) : Type 0 where
-  pub id : FindsText (codes "id") all left (member_map (λ s. s.now) texts.id)
-  pub name : FindsText (codes "name") all left (member_map (λ s. s.now) texts.name)
-  pub email : FindsText (codes "email") all left (member_map (λ s. s.now) texts.email)
-  pub given_name : FindsText (codes "given_name") all left (member_map (λ s. s.now) texts.given_name)
-  pub picture : FindsText (codes "picture") all left (member_map (λ s. s.now) texts.picture)
-  pub approved : FindsList (codes "approved_clients") all left lists.approved
-  pub login_hints : FindsList (codes "login_hints") all left lists.login_hints
-  pub domain_hints : FindsList (codes "domain_hints") all left lists.domain_hints
+-- what members have under the names
+abbrev pub parts_of : Members → FoundParts
+parts_of ms =
+    record {
+      id = member_found as_str (get_member (codes "id") ms);
+      name = member_found as_str (get_member (codes "name") ms);
+      email = member_found as_str (get_member (codes "email") ms);
+      given_name = member_found as_str (get_member (codes "given_name") ms);
+      picture = member_found as_str (get_member (codes "picture") ms);
+      approved = list_found (get_member (codes "approved_clients") ms);
+      login_hints = list_found (get_member (codes "login_hints") ms);
+      domain_hints = list_found (get_member (codes "domain_hints") ms);
+    }
 
--- ---- the account that is made of what was found
+-- the same with a member of that name
+abbrev pub parts_with : List ℕ → Data → FoundParts → FoundParts
+parts_with name d f =
+    if bytes_eq name (codes "id") then record f { id = member_here as_str d }
+    else (if bytes_eq name (codes "name") then record f { name = member_here as_str d }
+    else (if bytes_eq name (codes "email") then record f { email = member_here as_str d }
+    else (if bytes_eq name (codes "given_name") then record f { given_name = member_here as_str d }
+    else (if bytes_eq name (codes "picture") then record f { picture = member_here as_str d }
+    else (if bytes_eq name (codes "approved_clients") then record f { approved = listed d }
+    else (if bytes_eq name (codes "login_hints") then record f { login_hints = listed d }
+    else (if bytes_eq name (codes "domain_hints") then record f { domain_hints = listed d } else f)))))))
 
--- the texts of an entry that has these under their names
-abbrev pub texts_by : Member (List ℕ) → Member (List ℕ) → Member (List ℕ) → Member (List ℕ) → Member (List ℕ)
-    → Result AccountTexts AccountsStep
-texts_by id name email given_name picture = do
-  i ← required Shape id
-  n ← required Shape name
-  e ← required Shape email
-  g ← optional Shape given_name
-  p ← optional Shape picture
-  Ok (record { id = i; name = n; email = e; given_name = g; picture = p })
-
--- the account with those texts, of an entry that has these under the names of its lists
-abbrev pub lists_by : Member Items → Member Items → Member Items → AccountTexts → Result Account AccountsStep
-lists_by approved login_hints domain_hints texts = do
-  a ← optional_list approved
-  l ← list_or_empty login_hints
-  d ← list_or_empty domain_hints
-  Ok (record {
-    id = texts.id;
-    name = texts.name;
-    email = texts.email;
-    given_name = texts.given_name;
-    picture = texts.picture;
-    approved = a;
-    login_hints = l;
-    domain_hints = d;
-  })
-
--- a value that was found, as a list
-abbrev pub list_found : Option (List Token) → Member Items
-list_found found = member_found as_array (option_map data_at found)
+abbrev pub or_empty : Option (List (List ℕ)) → List (List ℕ)
+or_empty None = []
+or_empty (Some texts) = texts
 
 -- the account of what was found
-abbrev pub account_found : Found → Result Account AccountsStep
+abbrev pub account_found : FoundParts → Result Account AccountsStep
 account_found f = do
-  texts ← texts_by (member_map (λ s. s.now) f.texts.id) (member_map (λ s. s.now) f.texts.name)
-      (member_map (λ s. s.now) f.texts.email) (member_map (λ s. s.now) f.texts.given_name) (member_map (λ s. s.now) f.texts.picture)
-  lists_by (list_found f.lists.approved) (list_found f.lists.login_hints) (list_found f.lists.domain_hints) texts
+  id ← required Shape f.id
+  name ← required Shape f.name
+  email ← required Shape f.email
+  given_name ← optional Shape f.given_name
+  picture ← optional Shape f.picture
+  approved ← f.approved
+  login_hints ← with_ok or_empty f.login_hints
+  domain_hints ← with_ok or_empty f.domain_hints
+  Ok (record {
+    id = id;
+    name = name;
+    email = email;
+    given_name = given_name;
+    picture = picture;
+    approved = approved;
+    login_hints = login_hints;
+    domain_hints = domain_hints;
+  })

@@ -1,9 +1,10 @@
 //! Reading the accounts of a provider.
-ghost use Rattle.std.specs.Prelude.{◌≡◌, ◌++◌, ◌∷◌, [], filter, IfOk, OnOk};
+ghost use Rattle.std.specs.Prelude.{◌≡◌, ◌++◌, ◌∷◌, [], filter, OnOk};
 ghost use Rattle.std.specs.List.{IsDistinct};
 ghost use Rattle.std.specs.Option.{option_copied};
-ghost use Rattle.fed_json.specs.Part.{items_at};
+ghost use Rattle.serde_json.specs.Data.{no_members};
 ghost use Rattle.fed_io.specs.Fault.{Answers};
+ghost use Rattle.fed_json.specs.Values.{value_in, items_in, members_in, whole_in, Takes};
 ghost use Rattle.fed_accounts.specs.Accounts.{same_id};
 ghost use Rattle.fed_accounts.specs.Hints as hints;
 ghost use Rattle.fed_accounts.specs.Entry as seen;
@@ -13,8 +14,8 @@ ghost use Rattle.fed_accounts.specs.Read as spec;
 use crate::entry::{Entry, read_entry};
 use crate::{Account, Accounts, AccountsStep};
 use fed_io::{Fault, Items, NoRoom, Text};
-use fed_json::{Entries, Part};
-use fed_reply::{JsonBuffer, Member, list_member, read_json};
+use fed_json::{Begun, Invalid, LEVELS, Values};
+use fed_reply::{JsonBuffer, ReplyStep, open_json};
 use indexmap::IndexSet;
 use std::alloc::Global;
 
@@ -29,7 +30,6 @@ pub fn read_accounts(alloc: Global, raw: &[u8]) -> Result<Accounts, Fault<Accoun
 
 /// Reads the accounts in a reply of the accounts endpoint that the hints of a call ask for, as `read_accounts` and then
 /// `keep_hinted` do. Only accounts that are kept are copied.
-#[tactic(auto, unfolding(crate::specs::Hints::HintedOf, crate::specs::Read::AccountsOf))]
 pub fn read_hinted(
     alloc: Global,
     raw: &[u8],
@@ -39,17 +39,30 @@ pub fn read_hinted(
     ensures { Answers result (hints.HintedOf raw.now (option_copied login.entry) (option_copied domain.entry)) }
 {
     let mut buffer = JsonBuffer::new(alloc);
-    let tape = match read_json(alloc, raw, &mut buffer) {
-        Ok(tape) => tape,
+    hinted_in(alloc, raw, login, domain, &mut buffer)
+}
+
+// The same, with what is read from. The buffer is let go at one place: each place would take a copy of its 16 KB.
+#[tactic(auto, unfolding(crate::specs::Hints::HintedOf, crate::specs::Read::AccountsOf))]
+fn hinted_in(
+    alloc: Global,
+    raw: &[u8],
+    login: Option<&Text>,
+    domain: Option<&Text>,
+    buffer: &mut JsonBuffer,
+) -> Result<Accounts, Fault<AccountsStep>>
+    ensures { Answers result (hints.HintedOf raw.now (option_copied login.entry) (option_copied domain.entry)) }
+{
+    let mut values = match open_json(alloc, raw, buffer) {
+        Ok(values) => values,
         Err(Fault::Step(step)) => return Err(Fault::Step(AccountsStep::Reply(step))),
         Err(Fault::NoRoom) => return Err(Fault::NoRoom),
     };
-    match list_member(&Part::of(&tape), "accounts") {
-        Member::Is(entries) => match keep_entries(alloc, entries, login, domain) {
-            Ok(kept) => settled(kept),
-            Err(fault) => Err(fault),
-        },
-        Member::Absent | Member::Wrong => Err(Fault::Step(AccountsStep::Shape)),
+    match keep_whole(alloc, &mut values, login, domain) {
+        Ok(Ok(kept)) => settled(kept),
+        Ok(Err(step)) => Err(Fault::Step(step)),
+        Err(Fault::Step(_)) => Err(Fault::Step(AccountsStep::Reply(ReplyStep::Json))),
+        Err(Fault::NoRoom) => Err(Fault::NoRoom),
     }
 }
 
@@ -77,38 +90,135 @@ fn settled(kept: Kept) -> Result<Accounts, Fault<AccountsStep>>
     Ok(Accounts::new(accounts))
 }
 
-// What is kept of the entries. An id is looked up in a set, so that this takes linear time.
-fn keep_entries(
+// What is kept of the accounts in a text, or the step where it has no list of accounts. That is told after the whole text was read,
+// since a text that is no value has another step.
+fn keep_whole(
     alloc: Global,
-    mut entries: Entries<'_, '_>,
+    values: &mut Values<'_>,
     login: Option<&Text>,
     domain: Option<&Text>,
-) -> Result<Kept, Fault<AccountsStep>>
-    ensures answer { Answers result
-        (kept_spec.kept_entries (option_copied login.entry) (option_copied domain.entry) (items_at entries.entry)) }
-    ensures distinct { IfOk result (λ kept. IsDistinct same_id kept.accounts) }
+) -> Result<Result<Kept, AccountsStep>, Fault<Invalid>>
+    ensures answer { kept_spec.ReadsWhole (kept_spec.kept_in (option_copied login.entry) (option_copied domain.entry))
+        (whole_in values.old) result }
+    ensures distinct { kept_spec.AreDistinct result }
+{
+    let kept = match keep_file(alloc, values, login, domain) {
+        Ok(kept) => kept,
+        Err(fault) => return Err(fault),
+    };
+    if values.is_done() {
+        Ok(kept)
+    } else {
+        Err(Fault::Step(Invalid))
+    }
+}
+
+// The same of the value that the text begins with.
+fn keep_file(
+    alloc: Global,
+    values: &mut Values<'_>,
+    login: Option<&Text>,
+    domain: Option<&Text>,
+) -> Result<Result<Kept, AccountsStep>, Fault<Invalid>>
+    ensures answer { Takes (λ kept d. kept ≡ kept_spec.kept_in (option_copied login.entry) (option_copied domain.entry) d)
+        (value_in 127 values.old) result values.new }
+    ensures distinct { kept_spec.AreDistinct result }
+{
+    let first = values.begin(LEVELS)?;
+    match first {
+        Begun::Object(depth) => keep_members(alloc, values, depth, login, domain),
+        Begun::Null | Begun::Bool(_) | Begun::Number(_) | Begun::Text(_) | Begun::Array(_) => {
+            values.finish(&first)?;
+            Ok(Err(AccountsStep::Shape))
+        }
+    }
+}
+
+// The same of the members of an object, of several lists under the name the last.
+fn keep_members(
+    alloc: Global,
+    values: &mut Values<'_>,
+    depth: usize,
+    login: Option<&Text>,
+    domain: Option<&Text>,
+) -> Result<Result<Kept, AccountsStep>, Fault<Invalid>>
+    ensures answer { Takes (λ kept ms. kept ≡ kept_spec.kept_under (option_copied login.entry) (option_copied domain.entry) ms)
+        (members_in depth no_members values.old) result values.new }
+    ensures distinct { kept_spec.AreDistinct result }
+{
+    let mut kept = Err(AccountsStep::Shape);
+    while let Some(name) = values.next_name()? {
+        if name == "accounts" {
+            kept = match keep_list(alloc, values, depth, login, domain) {
+                Ok(list) => list,
+                Err(fault) => return Err(fault),
+            };
+        } else {
+            values.skip(depth)?;
+        }
+    }
+    Ok(kept)
+}
+
+// The same of the list that a value is.
+fn keep_list(
+    alloc: Global,
+    values: &mut Values<'_>,
+    depth: usize,
+    login: Option<&Text>,
+    domain: Option<&Text>,
+) -> Result<Result<Kept, AccountsStep>, Fault<Invalid>>
+    ensures answer { Takes (λ kept d. kept ≡ kept_spec.kept_list (option_copied login.entry) (option_copied domain.entry) d)
+        (value_in depth values.old) result values.new }
+    ensures distinct { kept_spec.AreDistinct result }
+{
+    let first = values.begin(depth)?;
+    match first {
+        Begun::Array(depth) => keep_entries(alloc, values, depth, login, domain),
+        Begun::Null | Begun::Bool(_) | Begun::Number(_) | Begun::Text(_) | Begun::Object(_) => {
+            values.finish(&first)?;
+            Ok(Err(AccountsStep::Shape))
+        }
+    }
+}
+
+// What is kept of the entries that are left of a list. An id is looked up in a set, so that this takes linear time.
+fn keep_entries(
+    alloc: Global,
+    values: &mut Values<'_>,
+    depth: usize,
+    login: Option<&Text>,
+    domain: Option<&Text>,
+) -> Result<Result<Kept, AccountsStep>, Fault<Invalid>>
+    ensures answer { Takes (λ kept ds. kept ≡ kept_spec.kept_entries (option_copied login.entry) (option_copied domain.entry) ds)
+        (items_in depth values.old) result values.new }
+    ensures distinct { kept_spec.AreDistinct result }
 {
     let mut ids = IndexSet::new(alloc);
     let mut accounts = Items::new(alloc);
-    while let Some(entry) = entries.next() {
-        let entry = match read_entry(&entry) {
-            Ok(entry) => entry,
-            Err(step) => return Err(Fault::Step(step)),
+    while !values.ends() {
+        let entry = match read_entry(alloc, values, depth) {
+            Ok(Ok(entry)) => entry,
+            Ok(Err(step)) => {
+                values.skip_items(depth)?;
+                return Ok(Err(step));
+            }
+            Err(fault) => return Err(fault),
         };
         if ids.insert(entry.id)? {
             keep(alloc, &entry, login, domain, &mut accounts)?;
         }
     }
-    Ok(Kept {
+    Ok(Ok(Kept {
         some: ids.len() != 0,
         accounts,
-    })
+    }))
 }
 
 // Keeps a copy of the account, where the hints ask for it.
 fn keep(
     alloc: Global,
-    entry: &Entry<'_, '_>,
+    entry: &Entry<'_>,
     login: Option<&Text>,
     domain: Option<&Text>,
     kept: &mut Items<Account>,

@@ -1,2 +1,4 @@
 pub mod Value
 pub mod Part
+pub mod Values
+pub mod Begun

@@ -1,3 +1,4 @@
 -- What is read in a provider's files.
 pub mod SiteText
 pub mod LastEndpoint
+pub mod Texts

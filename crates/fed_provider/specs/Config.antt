@@ -1,5 +1,6 @@
 -- The configuration of a provider (FedCM, "The config file").
 use Rattle.std.specs.Prelude.{ℕ, List, codes, Option, Some, None, Result, Ok, Err, if◌then◌else◌}
+use Rattle.std.specs.Borrow.{Bor}
 use Rattle.std.specs.Option.{option_copied}
 use Rattle.url.specs.Parts.{Parts}
 use Rattle.serde_json.specs.Data.{Data}
@@ -10,7 +11,8 @@ use Rattle.fed_origin.specs.Origin.{same_origin}
 use Rattle.fed_origin.specs.WebUrl.{joined_url, origin_of}
 use Rattle.fed_reply.specs.Steps.{◌>>=◌, with_ok, with_step}
 use Rattle.fed_reply.specs.Json.{ReplyJsonOf}
-use Rattle.fed_reply.specs.Members.{text_under}
+use Rattle.fed_reply.specs.declared.member.Member.{Member}
+use Rattle.fed_reply.specs.Members.{member_map, text_under}
 use Rattle.fed_provider.specs.declared.config.Config.{Config}
 use Rattle.fed_provider.specs.declared.config.Texts.{Texts}
 use Rattle.fed_provider.specs.declared.step.ProviderStep.{ProviderStep}
@@ -37,15 +39,27 @@ seen texts =
       disconnect = option_copied texts.disconnect;
     }
 
--- the texts of the members, or the step where one is missing or no text
-unfoldable pub texts_of : Data → Result ConfigTexts ProviderStep
-texts_of file = do
-  accounts ← required ConfigShape (text_under (codes "accounts_endpoint") file)
-  assertion ← required ConfigShape (text_under (codes "id_assertion_endpoint") file)
-  login ← required ConfigShape (text_under (codes "login_url") file)
-  metadata ← optional ConfigShape (text_under (codes "client_metadata_endpoint") file)
-  disconnect ← optional ConfigShape (text_under (codes "disconnect_endpoint") file)
+-- a member that the code found
+abbrev pub found : Member (Bor (List ℕ)) → Member (List ℕ)
+found text = member_map (λ s. s.now) text
+
+-- the texts of what is found under the names, or the step where one is missing or no text
+abbrev pub texts_by : Member (List ℕ) → Member (List ℕ) → Member (List ℕ) → Member (List ℕ) → Member (List ℕ)
+    → Result ConfigTexts ProviderStep
+texts_by accounts_endpoint id_assertion_endpoint login_url client_metadata_endpoint disconnect_endpoint = do
+  accounts ← required ConfigShape accounts_endpoint
+  assertion ← required ConfigShape id_assertion_endpoint
+  login ← required ConfigShape login_url
+  metadata ← optional ConfigShape client_metadata_endpoint
+  disconnect ← optional ConfigShape disconnect_endpoint
   Ok (record { accounts = accounts; assertion = assertion; login = login; metadata = metadata; disconnect = disconnect })
+
+-- the texts of the members
+unfoldable pub texts_of : Data → Result ConfigTexts ProviderStep
+texts_of file =
+    texts_by (text_under (codes "accounts_endpoint") file) (text_under (codes "id_assertion_endpoint") file)
+    (text_under (codes "login_url") file) (text_under (codes "client_metadata_endpoint") file)
+    (text_under (codes "disconnect_endpoint") file)
 
 -- ---- the endpoints
 

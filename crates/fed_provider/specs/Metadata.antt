@@ -5,6 +5,7 @@ use Rattle.url.specs.Parts.{Parts}
 use Rattle.serde_json.specs.Data.{Data}
 use Rattle.fed_origin.specs.WebUrl.{web_url}
 use Rattle.fed_reply.specs.declared.step.ReplyStep.{ReplyStep}
+use Rattle.fed_reply.specs.declared.member.Member.{Member}
 use Rattle.fed_reply.specs.Json.{ReplyJsonOf}
 use Rattle.fed_reply.specs.Members.{text_under}
 use Rattle.fed_provider.specs.declared.metadata.PolicyLinks.{PolicyLinks}
@@ -14,9 +15,13 @@ use Rattle.fed_reply.specs.Shape.{present}
 unfoldable pub url_in : List ℕ → Option Parts
 url_in text = result_ok (web_url text)
 
--- the link under the name: a text that is a URL
+-- the link that a member is: a text that is a URL
+abbrev pub link_by : Member (List ℕ) → Option Parts
+link_by text = option_and_then url_in (present text)
+
+-- the link under the name
 abbrev pub link_under : List ℕ → Data → Option Parts
-link_under name file = option_and_then url_in (present (text_under name file))
+link_under name file = link_by (text_under name file)
 
 -- the links of a file; what was not read gives none
 abbrev pub links_of : Result Data ReplyStep → PolicyLinks

@@ -54,11 +54,15 @@ abbrev pub names : Parts → Result Parts UrlRefusal → Result (Unit {0}) Provi
 names config (Ok url) = if bytes_eq (serialize url) (serialize config) then Ok tt else Err WellKnownOther
 names config (Err refusal) = Err WellKnownOther
 
+-- the one URL that is listed, if one is, is the configuration URL
+abbrev pub listed : Parts → Parts → Option (List ℕ) → Result (Unit {0}) ProviderStep
+listed base config only = do
+  text ← ok_or only WellKnownShape
+  names config (joined_url base text)
+
 -- the one URL that the file names is the configuration URL
 abbrev pub lists : Parts → Parts → Data → Result (Unit {0}) ProviderStep
-lists base config file = do
-  text ← ok_or (only_text (list_under (codes "provider_urls") file)) WellKnownShape
-  names config (joined_url base text)
+lists base config file = listed base config (only_text (list_under (codes "provider_urls") file))
 
 -- the well-known file in the reply `raw` of the URL `base` names the configuration URL, or the first step
 unfoldable pub WellKnownOf : List ℕ → Parts → Parts → Result (Unit {0}) ProviderStep

@@ -2,17 +2,14 @@
 ghost use Rattle.std.specs.Prelude.{◌≡◌, IfOk};
 ghost use Rattle.std.specs.Result.{result_map_both};
 ghost use Rattle.std.specs.Option.{option_copied};
-ghost use Rattle.fed_json.specs.Part.{data_at};
 ghost use Rattle.fed_io.specs.Fault.{Answers};
-ghost use Rattle.fed_reply.specs.Members.{text_under};
 ghost use Rattle.fed_provider.specs.Config as spec;
 ghost use Rattle.fed_reply.specs.Shape.{required, optional};
 
 use crate::ProviderStep;
 use fed_io::{Fault, NoRoom};
-use fed_json::Part;
 use fed_origin::{Endpoint, WebUrl};
-use fed_reply::{JsonBuffer, Member, read_json, text_member};
+use fed_reply::{Asked, JsonBuffer, Member, read_texts};
 use std::alloc::Global;
 use std::marker::Model;
 use std::rc::Rc;
@@ -95,7 +92,6 @@ impl SharedConfig {
 /// Reads the configuration in a reply of the configuration URL. The steps are `ConfigReply`,
 /// `ConfigShape` where a member is missing or no text, and `EndpointOrigin` of the first endpoint
 /// that, joined to the configuration URL, is refused or is not same-origin with it.
-#[tactic(auto, unfolding(crate::specs::Config::ConfigOf))]
 pub fn read_config(
     alloc: Global,
     raw: &[u8],
@@ -104,12 +100,38 @@ pub fn read_config(
     ensures { Answers result (spec.ConfigOf raw.now config.now) }
 {
     let mut buffer = JsonBuffer::new(alloc);
-    let tape = match read_json(alloc, raw, &mut buffer) {
-        Ok(tape) => tape,
+    config_of_reply(alloc, raw, config, &mut buffer)
+}
+
+// The same, with what is read from. The buffer is let go at one place: each place would take a copy of its 16 KB.
+#[tactic(auto, unfolding(crate::specs::Config::ConfigOf))]
+fn config_of_reply(
+    alloc: Global,
+    raw: &[u8],
+    config: &WebUrl,
+    buffer: &mut JsonBuffer,
+) -> Result<Config, Fault<ProviderStep>>
+    ensures { Answers result (spec.ConfigOf raw.now config.now) }
+{
+    let mut asked = [
+        Asked::new("accounts_endpoint"),
+        Asked::new("id_assertion_endpoint"),
+        Asked::new("login_url"),
+        Asked::new("client_metadata_endpoint"),
+        Asked::new("disconnect_endpoint"),
+    ];
+    match read_texts(alloc, raw, buffer, &mut asked) {
+        Ok(()) => (),
         Err(Fault::Step(step)) => return Err(Fault::Step(ProviderStep::ConfigReply(step))),
         Err(Fault::NoRoom) => return Err(Fault::NoRoom),
-    };
-    match read_texts(&Part::of(&tape)) {
+    }
+    match read_found(
+        asked[0].found,
+        asked[1].found,
+        asked[2].found,
+        asked[3].found,
+        asked[4].found,
+    ) {
         Ok(texts) => endpoints(alloc, config, &texts),
         Err(step) => Err(Fault::Step(step)),
     }
@@ -140,16 +162,23 @@ struct Texts<'a> {
     disconnect: Option<&'a str>,
 }
 
-// The texts of the members.
-#[tactic(auto, unfolding(crate::specs::Config::texts_of))]
-fn read_texts<'a>(file: &Part<'_, 'a>) -> Result<Texts<'a>, ProviderStep>
-    ensures { result_map_both spec.seen (λ e. e) result ≡ spec.texts_of (data_at file.now) }
+// The texts of what was found under the names.
+fn read_found<'a>(
+    accounts: Member<&'a str>,
+    assertion: Member<&'a str>,
+    login: Member<&'a str>,
+    metadata: Member<&'a str>,
+    disconnect: Member<&'a str>,
+) -> Result<Texts<'a>, ProviderStep>
+    ensures { result_map_both spec.seen (λ e. e) result
+        ≡ spec.texts_by (spec.found accounts.entry) (spec.found assertion.entry) (spec.found login.entry) (spec.found metadata.entry)
+        (spec.found disconnect.entry) }
 {
-    let accounts = required_text(file, "accounts_endpoint")?;
-    let assertion = required_text(file, "id_assertion_endpoint")?;
-    let login = required_text(file, "login_url")?;
-    let metadata = optional_text(file, "client_metadata_endpoint")?;
-    let disconnect = optional_text(file, "disconnect_endpoint")?;
+    let accounts = required_text(accounts)?;
+    let assertion = required_text(assertion)?;
+    let login = required_text(login)?;
+    let metadata = optional_text(metadata)?;
+    let disconnect = optional_text(disconnect)?;
     Ok(Texts {
         accounts,
         assertion,
@@ -160,22 +189,22 @@ fn read_texts<'a>(file: &Part<'_, 'a>) -> Result<Texts<'a>, ProviderStep>
 }
 
 // A text that has to be there.
-fn required_text<'a>(file: &Part<'_, 'a>, name: &str) -> Result<&'a str, ProviderStep>
+fn required_text(found: Member<&str>) -> Result<&str, ProviderStep>
     ensures { result_map_both (λ text. text.now) (λ e. e) result
-        ≡ required ProviderStep.ConfigShape (text_under name.now (data_at file.now)) }
+        ≡ required ProviderStep.ConfigShape (spec.found found.entry) }
 {
-    match text_member(file, name) {
+    match found {
         Member::Is(text) => Ok(text),
         Member::Absent | Member::Wrong => Err(ProviderStep::ConfigShape),
     }
 }
 
 // A text that may be left out.
-fn optional_text<'a>(file: &Part<'_, 'a>, name: &str) -> Result<Option<&'a str>, ProviderStep>
+fn optional_text(found: Member<&str>) -> Result<Option<&str>, ProviderStep>
     ensures { result_map_both option_copied (λ e. e) result
-        ≡ optional ProviderStep.ConfigShape (text_under name.now (data_at file.now)) }
+        ≡ optional ProviderStep.ConfigShape (spec.found found.entry) }
 {
-    match text_member(file, name) {
+    match found {
         Member::Is(text) => Ok(Some(text)),
         Member::Absent => Ok(None),
         Member::Wrong => Err(ProviderStep::ConfigShape),

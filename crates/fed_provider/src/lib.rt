@@ -4,6 +4,7 @@
 mod config;
 mod first_replies;
 pub mod laws;
+mod listed;
 mod metadata;
 mod rules;
 mod step;

@@ -1,12 +1,11 @@
 //! The metadata of a client.
 ghost use Rattle.std.specs.Prelude.{◌≡◌, IfOk};
-ghost use Rattle.fed_json.specs.Part.{data_at};
+ghost use Rattle.fed_reply.specs.Members.{member_map};
 ghost use Rattle.fed_provider.specs.Metadata as spec;
 
 use fed_io::{Fault, NoRoom};
-use fed_json::Part;
 use fed_origin::WebUrl;
-use fed_reply::{JsonBuffer, Member, read_json, text_member};
+use fed_reply::{Asked, JsonBuffer, Member, read_texts};
 use std::alloc::Global;
 
 /// The links of a client's metadata (FedCM, "The client metadata endpoint").
@@ -50,16 +49,26 @@ fn copy_url(alloc: Global, url: &Option<WebUrl>) -> Result<Option<WebUrl>, NoRoo
 }
 
 /// Reads the links in a reply of the client metadata endpoint. What is not read gives no link.
-#[tactic(auto, unfolding(crate::specs::Metadata::MetadataOf))]
 pub fn read_metadata(alloc: Global, raw: &[u8]) -> Result<PolicyLinks, NoRoom>
     ensures { IfOk result (λ links. links ≡ spec.MetadataOf raw.now) }
 {
     let mut buffer = JsonBuffer::new(alloc);
-    match read_json(alloc, raw, &mut buffer) {
-        Ok(tape) => {
-            let file = Part::of(&tape);
-            let privacy = link(alloc, &file, "privacy_policy_url")?;
-            let terms = link(alloc, &file, "terms_of_service_url")?;
+    links_of_reply(alloc, raw, &mut buffer)
+}
+
+// The same, with what is read from. The buffer is let go at one place: each place would take a copy of its 16 KB.
+#[tactic(auto, unfolding(crate::specs::Metadata::MetadataOf))]
+fn links_of_reply(alloc: Global, raw: &[u8], buffer: &mut JsonBuffer) -> Result<PolicyLinks, NoRoom>
+    ensures { IfOk result (λ links. links ≡ spec.MetadataOf raw.now) }
+{
+    let mut asked = [
+        Asked::new("privacy_policy_url"),
+        Asked::new("terms_of_service_url"),
+    ];
+    match read_texts(alloc, raw, buffer, &mut asked) {
+        Ok(()) => {
+            let privacy = link(alloc, asked[0].found)?;
+            let terms = link(alloc, asked[1].found)?;
             Ok(PolicyLinks { privacy, terms })
         }
         Err(Fault::Step(_)) => Ok(PolicyLinks {
@@ -70,11 +79,11 @@ pub fn read_metadata(alloc: Global, raw: &[u8]) -> Result<PolicyLinks, NoRoom>
     }
 }
 
-// The link under the name: a text that is a URL.
-fn link(alloc: Global, file: &Part<'_, '_>, name: &str) -> Result<Option<WebUrl>, NoRoom>
-    ensures { IfOk result (λ link. link ≡ spec.link_under name.now (data_at file.now)) }
+// The link that is found under a name: a text that is a URL.
+fn link(alloc: Global, found: Member<&str>) -> Result<Option<WebUrl>, NoRoom>
+    ensures { IfOk result (λ link. link ≡ spec.link_by (member_map (λ text. text.now) found.entry)) }
 {
-    match text_member(file, name) {
+    match found {
         Member::Is(text) => url_in(alloc, text),
         Member::Absent | Member::Wrong => Ok(None),
     }

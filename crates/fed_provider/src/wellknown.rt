@@ -1,16 +1,15 @@
 //! The well-known file of a site.
-ghost use Rattle.std.specs.Prelude.{◌≡◌, Some, IfOk, IsAscii, option_map, string_bytes};
-ghost use Rattle.fed_json.specs.Part.{data_at, items_at};
+ghost use Rattle.std.specs.Prelude.{◌≡◌, Some, IfOk, IsAscii, string_bytes};
+ghost use Rattle.std.specs.Option.{option_copied};
 ghost use Rattle.fed_io.specs.Fault.{Answers};
 ghost use Rattle.fed_origin.specs.WebUrl.{scheme_of};
-ghost use Rattle.fed_reply.specs.Members.{member_map};
 ghost use Rattle.fed_provider.specs.WellKnown as spec;
 
 use crate::ProviderStep;
+use crate::listed::whole_listed;
 use fed_io::{Fault, NoRoom};
-use fed_json::{Entries, Part};
 use fed_origin::{Scheme, WebUrl};
-use fed_reply::{JsonBuffer, Member, list_member, read_json};
+use fed_reply::{JsonBuffer, ReplyStep, open_json};
 use fed_suffix::Suffixes;
 use std::alloc::Global;
 use std::str;
@@ -101,7 +100,6 @@ fn wellknown_text(alloc: Global, site: &str) -> Result<String, NoRoom>
 /// configuration URL. The steps are `WellKnownReply`, `WellKnownShape` where the file does not list
 /// exactly one text under `provider_urls`, and `WellKnownOther` where that text, joined to `base`,
 /// is not the configuration URL by their serialized texts.
-#[tactic(auto, unfolding(crate::specs::WellKnown::WellKnownOf))]
 pub fn read_wellknown(
     alloc: Global,
     raw: &[u8],
@@ -111,10 +109,28 @@ pub fn read_wellknown(
     ensures { Answers result (spec.WellKnownOf raw.now base.now config.now) }
 {
     let mut buffer = JsonBuffer::new(alloc);
-    match read_json(alloc, raw, &mut buffer) {
-        Ok(tape) => lists(alloc, &Part::of(&tape), base, config),
-        Err(Fault::Step(step)) => Err(Fault::Step(ProviderStep::WellKnownReply(step))),
-        Err(Fault::NoRoom) => Err(Fault::NoRoom),
+    reply_lists(alloc, raw, base, config, &mut buffer)
+}
+
+// The same, with what is read from. The buffer is let go at one place: each place would take a copy of its 16 KB.
+#[tactic(auto, unfolding(crate::specs::WellKnown::WellKnownOf))]
+fn reply_lists(
+    alloc: Global,
+    raw: &[u8],
+    base: &WebUrl,
+    config: &WebUrl,
+    buffer: &mut JsonBuffer,
+) -> Result<(), Fault<ProviderStep>>
+    ensures { Answers result (spec.WellKnownOf raw.now base.now config.now) }
+{
+    let mut values = match open_json(alloc, raw, buffer) {
+        Ok(values) => values,
+        Err(Fault::Step(step)) => return Err(Fault::Step(ProviderStep::WellKnownReply(step))),
+        Err(Fault::NoRoom) => return Err(Fault::NoRoom),
+    };
+    match whole_listed(&mut values) {
+        Ok(text) => lists(alloc, text, base, config),
+        Err(_) => Err(Fault::Step(ProviderStep::WellKnownReply(ReplyStep::Json))),
     }
 }
 
@@ -134,16 +150,16 @@ pub fn wellknown_answer(
     }
 }
 
-// Whether the file lists the configuration URL alone.
+// Whether the one text that a file lists, if it lists one, is the configuration URL.
 fn lists(
     alloc: Global,
-    file: &Part<'_, '_>,
+    listed: Option<&str>,
     base: &WebUrl,
     config: &WebUrl,
 ) -> Result<(), Fault<ProviderStep>>
-    ensures { Answers result (spec.lists base.now config.now (data_at file.now)) }
+    ensures { Answers result (spec.listed base.now config.now (option_copied listed.entry)) }
 {
-    let Some(text) = only_text(list_member(file, "provider_urls")) else {
+    let Some(text) = listed else {
         return Err(Fault::Step(ProviderStep::WellKnownShape));
     };
     if config.is_text(text) {
@@ -159,26 +175,5 @@ fn lists(
         }
         Err(Fault::Step(_)) => Err(Fault::Step(ProviderStep::WellKnownOther)),
         Err(Fault::NoRoom) => Err(Fault::NoRoom),
-    }
-}
-
-// The text that is the only item of a list.
-fn only_text<'a>(list: Member<Entries<'_, 'a>>) -> Option<&'a str>
-    ensures { option_map (λ text. text.now) result ≡ spec.only_text (member_map items_at list.entry) }
-{
-    match list {
-        Member::Is(items) => only_item(items)?.as_str(),
-        Member::Absent | Member::Wrong => None,
-    }
-}
-
-// The only item of a list.
-fn only_item<'t, 'a>(mut items: Entries<'t, 'a>) -> Option<Part<'t, 'a>>
-    ensures { option_map data_at result ≡ spec.only_item (items_at items.entry) }
-{
-    let only = items.next()?;
-    match items.next() {
-        Some(_) => None,
-        None => Some(only),
     }
 }

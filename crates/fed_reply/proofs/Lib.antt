@@ -1,3 +1,4 @@
+pub mod asked
 pub mod body
 pub mod head
 pub mod value

@@ -6,8 +6,12 @@ use Rattle.std.specs.Borrow.{Bor}
 use Rattle.std.specs.List.{before_first, after_first, list_all}
 use Rattle.std.specs.Cmp.Lexicographic.{pointwise}
 use Rattle.httparse.specs.Grammar.{is_token, trim_ows}
+use Rattle.json.specs.Token.{Token}
 use Rattle.serde_json.specs.Data.{Data}
+use Rattle.fed_io.specs.declared.error.Fault.{Fault}
+use Rattle.fed_io.specs.Fault.{Refuses}
 use Rattle.fed_json.specs.Value.{value_of}
+use Rattle.fed_json.specs.Values.{whole_in}
 use Rattle.fed_reply.specs.declared.step.ReplyStep.{ReplyStep}
 use Rattle.fed_reply.specs.declared.step.ReplyStep.TheVariants.{Status, Mime, Json}
 use Rattle.fed_reply.specs.Parts.{ReplyParts}
@@ -84,6 +88,21 @@ json_with only reply = if has_each only reply.fields then with_ok Some (JsonOf r
 -- the same, by the bytes of the reply
 abbrev pub ReplyJsonWith : List FieldPair → List ℕ → Result (Option Data) ReplyStep
 ReplyJsonWith only raw = and_then (json_with only) (ReplyOf raw)
+
+-- the value that is expected is the one that the tokens hold, unless it is refused before
+abbrev pub Opens : Result (List Token) (Fault ReplyStep) → Result Data ReplyStep → Type 0
+Opens (Ok values) expected = expected ≡ ok_or (whole_in values) Json
+Opens (Err fault) expected = Refuses fault expected
+
+-- the value that the tokens hold, if the reply has the fields
+abbrev pub opened : Option (List Token) → Result (Option Data) ReplyStep
+opened None = Ok None
+opened (Some values) = with_ok Some (ok_or (whole_in values) Json)
+
+-- the value that is expected is that one, unless it is refused before
+abbrev pub OpensWith : Result (Option (List Token)) (Fault ReplyStep) → Result (Option Data) ReplyStep → Type 0
+OpensWith (Ok values) expected = expected ≡ opened values
+OpensWith (Err fault) expected = Refuses fault expected
 
 -- ---- for private clauses
 

@@ -8,3 +8,4 @@ pub mod Parts
 pub mod Reply
 pub mod Shape
 pub mod Steps
+pub mod Texts

@@ -1,5 +1,5 @@
 //! The JSON value of a reply.
-ghost use Rattle.std.specs.Prelude.{◌≡◌, option_map};
+ghost use Rattle.std.specs.Prelude.{◌≡◌};
 ghost use Rattle.std.specs.List.{list_all};
 ghost use Rattle.std.specs.Option.{option_copied};
 ghost use Rattle.httparse.specs.Grammar as grammar;
@@ -8,11 +8,11 @@ ghost use Rattle.fed_io.specs.Fault.{AnswersBy};
 ghost use Rattle.fed_reply.specs.Json as spec;
 
 use crate::fields::is_in_any_case;
-use crate::json_head::{JsonHead, read_json_head};
+use crate::json_head::read_json_head;
 use crate::read::find_body;
 use crate::{Reply, ReplyStep};
 use fed_io::{Bytes, Fault, NoRoom, place_of, trim};
-use fed_json::tape_of;
+use fed_json::{Values, tape_of};
 use json::{Scratch, Tape};
 use std::alloc::Global;
 
@@ -20,7 +20,7 @@ use std::alloc::Global;
 const MARK: [u8; 3] = [0xEF, 0xBB, 0xBF];
 
 /// What a value is read from: the body of its reply where that does not stand in the bytes, and memory for the reading. Both are lent
-/// to the tape.
+/// to the values, or to a tape.
 pub struct JsonBuffer {
     body: Option<Bytes>,
     scratch: Scratch,
@@ -48,9 +48,74 @@ impl JsonBuffer {
     }
 }
 
-/// The tape of the JSON value of a reply of the class 2xx whose first content type is JSON (WHATWG
-/// MIME Sniffing, 4.6); one byte order mark before it is dropped. The steps are `Status`, `Mime` and
-/// `Json`, in this order.
+/// The values of the JSON text that the bytes of a reply of the class 2xx carry whose first content type is JSON (WHATWG MIME Sniffing,
+/// 4.6), to be read from left to right; one byte order mark before it is dropped. The steps are those of `read_reply`, and then `Status`,
+/// `Mime` and `Json`, in this order; a text that is no value is still to be told by the reading.
+pub fn open_json<'a>(
+    alloc: Global,
+    raw: &'a [u8],
+    buffer: &'a mut JsonBuffer,
+) -> Result<Values<'a>, Fault<ReplyStep>>
+    ensures { spec.Opens result (spec.ReplyJsonOf raw.now) }
+{
+    let head = match read_json_head(raw, &[]) {
+        Ok(head) => head,
+        Err(step) => return Err(Fault::Step(step)),
+    };
+    let JsonBuffer { body, scratch } = buffer;
+    let body = match find_body(alloc, head.framing, &raw[head.len..], body) {
+        Ok(body) => body,
+        Err(fault) => return Err(fault),
+    };
+    match refusal(head.status, head.is_json) {
+        Some(step) => Err(Fault::Step(step)),
+        None => open_body(body, scratch),
+    }
+}
+
+/// What `open_json` gives of a reply in which each field of these names, in any case, stands exactly once, with the value beside its name;
+/// None where one does not. That is told after the steps of `read_reply`, and before `Status`, `Mime` and `Json`.
+pub fn open_json_with<'a>(
+    alloc: Global,
+    raw: &'a [u8],
+    only: &[(&str, &[u8])],
+    buffer: &'a mut JsonBuffer,
+) -> Result<Option<Values<'a>>, Fault<ReplyStep>>
+    ensures { spec.OpensWith result (spec.ReplyJsonWith (spec.asked only.now) raw.now) }
+{
+    let head = match read_json_head(raw, only) {
+        Ok(head) => head,
+        Err(step) => return Err(Fault::Step(step)),
+    };
+    let JsonBuffer { body, scratch } = buffer;
+    let body = match find_body(alloc, head.framing, &raw[head.len..], body) {
+        Ok(body) => body,
+        Err(fault) => return Err(fault),
+    };
+    if !head.has_each {
+        return Ok(None);
+    }
+    if let Some(step) = refusal(head.status, head.is_json) {
+        return Err(Fault::Step(step));
+    }
+    match open_body(body, scratch) {
+        Ok(values) => Ok(Some(values)),
+        Err(fault) => Err(fault),
+    }
+}
+
+// The step at which a reply of that status is refused, whose first content type is JSON or not.
+fn refusal(status: u16, is_json: bool) -> Option<ReplyStep>
+    ensures { result ≡ spec.refusal status is_json }
+{
+    if !(200..300).contains(&status) {
+        return Some(ReplyStep::Status);
+    }
+    if is_json { None } else { Some(ReplyStep::Mime) }
+}
+
+/// The tape of the JSON value of a reply that was read, for looks into it in any order, as `text_member` and its like take them. The steps
+/// are `Status`, `Mime` and `Json`, in this order.
 #[tactic(auto, unfolding(crate::specs::Json::JsonOf))]
 pub fn json_of<'a>(
     alloc: Global,
@@ -69,80 +134,6 @@ pub fn json_of<'a>(
     }
 }
 
-/// The tape of the JSON value that the bytes of a reply carry. The steps are those of `read_reply`,
-/// and then those of `json_of`.
-pub fn read_json<'a>(
-    alloc: Global,
-    raw: &'a [u8],
-    buffer: &'a mut JsonBuffer,
-) -> Result<Tape<'a>, Fault<ReplyStep>>
-    ensures { AnswersBy data_at result (spec.ReplyJsonOf raw.now) }
-{
-    let head = match read_json_head(raw, &[]) {
-        Ok(head) => head,
-        Err(step) => return Err(Fault::Step(step)),
-    };
-    let JsonBuffer { body, scratch } = buffer;
-    let body = match find_body(alloc, head.framing, &raw[head.len..], body) {
-        Ok(body) => body,
-        Err(fault) => return Err(fault),
-    };
-    unless_refused(alloc, &head, body, scratch)
-}
-
-/// The same of a reply in which each field of these names, in any case, stands exactly once, with the value beside its name; None where
-/// one does not. That is told after the steps of `read_reply`, and before those of `json_of`.
-pub fn read_json_with<'a>(
-    alloc: Global,
-    raw: &'a [u8],
-    only: &[(&str, &[u8])],
-    buffer: &'a mut JsonBuffer,
-) -> Result<Option<Tape<'a>>, Fault<ReplyStep>>
-    ensures { AnswersBy (option_map data_at) result (spec.ReplyJsonWith (spec.asked only.now) raw.now) }
-{
-    let head = match read_json_head(raw, only) {
-        Ok(head) => head,
-        Err(step) => return Err(Fault::Step(step)),
-    };
-    let JsonBuffer { body, scratch } = buffer;
-    let body = match find_body(alloc, head.framing, &raw[head.len..], body) {
-        Ok(body) => body,
-        Err(fault) => return Err(fault),
-    };
-    if !head.has_each {
-        return Ok(None);
-    }
-    match unless_refused(alloc, &head, body, scratch) {
-        Ok(tape) => Ok(Some(tape)),
-        Err(fault) => Err(fault),
-    }
-}
-
-// The tape of a reply with that head and that body, unless it is refused.
-fn unless_refused<'a>(
-    alloc: Global,
-    head: &JsonHead,
-    body: &'a [u8],
-    scratch: &'a mut Scratch,
-) -> Result<Tape<'a>, Fault<ReplyStep>>
-    ensures { AnswersBy data_at result (spec.unless_refused (spec.refusal head.now.status head.now.is_json) body.now) }
-{
-    match refusal(head.status, head.is_json) {
-        Some(step) => Err(Fault::Step(step)),
-        None => body_tape(alloc, body, scratch),
-    }
-}
-
-// The step at which a reply of that status is refused, whose first content type is JSON or not.
-fn refusal(status: u16, is_json: bool) -> Option<ReplyStep>
-    ensures { result ≡ spec.refusal status is_json }
-{
-    if !(200..300).contains(&status) {
-        return Some(ReplyStep::Status);
-    }
-    if is_json { None } else { Some(ReplyStep::Mime) }
-}
-
 // The tape of the JSON value that a body is.
 fn body_tape<'a>(
     alloc: Global,
@@ -153,6 +144,17 @@ fn body_tape<'a>(
 {
     match tape_of(alloc, scratch, after_mark(body)) {
         Ok(Some(tape)) => Ok(tape),
+        Ok(None) => Err(Fault::Step(ReplyStep::Json)),
+        Err(NoRoom) => Err(Fault::NoRoom),
+    }
+}
+
+// The values of the JSON text that a body is.
+fn open_body<'a>(body: &'a [u8], scratch: &'a mut Scratch) -> Result<Values<'a>, Fault<ReplyStep>>
+    ensures { spec.Opens result (spec.body_value body.now) }
+{
+    match Values::of(scratch, after_mark(body)) {
+        Ok(Some(values)) => Ok(values),
         Ok(None) => Err(Fault::Step(ReplyStep::Json)),
         Err(NoRoom) => Err(Fault::NoRoom),
     }

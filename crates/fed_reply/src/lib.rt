@@ -11,9 +11,11 @@ mod member;
 mod read;
 mod reply;
 mod step;
+mod texts;
 
-pub use json_value::{JsonBuffer, essence, json_of, read_json, read_json_with};
+pub use json_value::{JsonBuffer, essence, json_of, open_json, open_json_with};
 pub use member::{Member, list_member, object_member, text_member, value_member};
 pub use read::{read_head, read_reply};
 pub use reply::Reply;
 pub use step::ReplyStep;
+pub use texts::{Asked, read_texts, take_texts, text_of, whole_texts};

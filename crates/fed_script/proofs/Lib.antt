@@ -1,5 +1,6 @@
 pub mod events
 pub mod lines
+pub mod says
 pub mod plainly
 pub mod scripts
 pub mod halves

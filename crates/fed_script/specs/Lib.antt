@@ -1,5 +1,6 @@
 pub mod Cause
 pub mod Member
+pub mod Said
 pub mod Header
 pub mod Raw
 pub mod Status

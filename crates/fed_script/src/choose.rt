@@ -1,18 +1,18 @@
 //! Lines of the kind `choose`.
-ghost use Rattle.fed_json.specs.Part.{data_at};
+ghost use Rattle.fed_script.specs.Said.{shown};
 ghost use Rattle.fed_io.specs.Fault.{Answers};
 ghost use Rattle.fed_script.specs.Choose as spec;
 
 use crate::cause::{LineCause, MemberName};
 use crate::event::Event;
 use crate::member::{number, optional_number, text};
+use crate::said::Said;
 use fed_io::{Fault, Text};
-use fed_json::Part;
 use std::alloc::Global;
 
 /// The choice that a line names.
-pub(crate) fn choose(alloc: Global, d: &Part<'_, '_>) -> Result<Event, Fault<LineCause>>
-    ensures { Answers result (spec.choose_of (data_at d.now)) }
+pub(crate) fn choose(alloc: Global, d: &Said<'_>) -> Result<Event, Fault<LineCause>>
+    ensures { Answers result (spec.choose_of (shown d.now)) }
 {
     let call = number(d, MemberName::Call).map_err(Fault::Step)?;
     let provider = optional_number(d, MemberName::Provider).map_err(Fault::Step)?;

@@ -1,7 +1,7 @@
 //! Lines of the kind `disconnect`.
 ghost use Rattle.std.specs.Prelude.{◌≡◌};
 ghost use Rattle.std.specs.Result.{result_map_both};
-ghost use Rattle.fed_json.specs.Part.{data_at};
+ghost use Rattle.fed_script.specs.Said.{shown};
 ghost use Rattle.fed_io.specs.Fault.{Answers};
 ghost use Rattle.fed_script.specs.Disconnect as spec;
 
@@ -9,8 +9,8 @@ use crate::cause::{LineCause, MemberName};
 use crate::config::KeptConfigs;
 use crate::event::Event;
 use crate::member::{number, text};
+use crate::said::Said;
 use fed_io::{Fault, Placed, Text};
-use fed_json::Part;
 use std::alloc::Global;
 
 /// The members of a disconnect call, its URL as text.
@@ -23,8 +23,8 @@ pub(crate) struct DisconnectMembers<'a> {
     pub hint: &'a str,
 }
 
-fn disconnect_members<'a>(d: &Part<'_, 'a>) -> Result<DisconnectMembers<'a>, LineCause>
-    ensures { result_map_both spec.disconnect_seen (λ e. e) result ≡ spec.disconnect_members (data_at d.now) }
+fn disconnect_members<'a>(d: &Said<'a>) -> Result<DisconnectMembers<'a>, LineCause>
+    ensures { result_map_both spec.disconnect_seen (λ e. e) result ≡ spec.disconnect_members (shown d.now) }
 {
     Ok(DisconnectMembers {
         page: number(d, MemberName::Page)?,
@@ -39,9 +39,9 @@ fn disconnect_members<'a>(d: &Part<'_, 'a>) -> Result<DisconnectMembers<'a>, Lin
 pub(crate) fn disconnect(
     alloc: Global,
     kept: &mut KeptConfigs,
-    d: &Part<'_, '_>,
+    d: &Said<'_>,
 ) -> Result<Event, Fault<LineCause>>
-    ensures { Answers result (spec.disconnect_of (data_at d.now)) }
+    ensures { Answers result (spec.disconnect_of (shown d.now)) }
 {
     match disconnect_members(d) {
         Err(cause) => Err(Fault::Step(cause)),

@@ -1,19 +1,18 @@
 //! Lines of the kind `get`.
-ghost use Rattle.std.specs.Prelude.{◌≡◌, IfOk, option_map};
+ghost use Rattle.std.specs.Prelude.{◌≡◌, IfOk};
 ghost use Rattle.std.specs.Result.{result_map_both};
-ghost use Rattle.fed_json.specs.Part.{data_at};
+ghost use Rattle.fed_script.specs.Said.{shown, provider_shown, get_members_by, get_said};
 ghost use Rattle.fed_io.specs.Fault.{Answers};
 ghost use Rattle.fed_script.specs.Get as spec;
-ghost use Rattle.fed_script.specs.Member.{required};
-ghost use Rattle.fed_script.specs.declared.cause.MemberName.TheVariants as names;
 
 use crate::cause::{LineCause, MemberName};
 use crate::config::KeptConfigs;
 use crate::event::Event;
-use crate::member::{member, number, optional_text, text};
+use crate::member::{number, optional_text, text};
 use crate::options::{OptionMembers, option_members};
+use crate::said::Said;
+use crate::saying::SaidLine;
 use fed_io::{Fault, Items, NoRoom, Text, placed_text};
-use fed_json::Part;
 use fed_origin::{GetOptions, ProviderOptions, WebUrl};
 use std::alloc::Global;
 
@@ -37,33 +36,9 @@ pub(crate) struct GetMembers<'a> {
     pub provider: ProviderMembers<'a>,
 }
 
-// The entry of `providers`, of which there is exactly one.
-fn only_provider<'t, 'a>(d: &Part<'t, 'a>) -> Result<Part<'t, 'a>, LineCause>
-    ensures { result_map_both data_at (λ e. e) result
-        ≡ required spec.as_provider names.Providers (data_at d.now) }
-{
-    let Some(found) = member(d, MemberName::Providers) else {
-        return Err(LineCause::Member(MemberName::Providers));
-    };
-    match only_item(&found) {
-        Some(entry) => Ok(entry),
-        None => Err(LineCause::Member(MemberName::Providers)),
-    }
-}
-
-// The entry of a list of exactly one object.
-fn only_item<'t, 'a>(list: &Part<'t, 'a>) -> Option<Part<'t, 'a>>
-    ensures { option_map data_at result ≡ spec.as_provider (data_at list.now) }
-{
-    if list.at(1).is_some() {
-        return None;
-    }
-    let only = list.at(0)?;
-    if only.is_object() { Some(only) } else { None }
-}
-
-fn provider_members<'a>(d: &Part<'_, 'a>) -> Result<ProviderMembers<'a>, LineCause>
-    ensures { result_map_both spec.provider_seen (λ e. e) result ≡ spec.provider_members (data_at d.now) }
+/// The members of an entry.
+pub(crate) fn provider_members<'a>(d: &Said<'a>) -> Result<ProviderMembers<'a>, LineCause>
+    ensures { result_map_both spec.provider_seen (λ e. e) result ≡ spec.provider_members (shown d.now) }
 {
     Ok(ProviderMembers {
         config: text(d, MemberName::Config)?,
@@ -75,13 +50,17 @@ fn provider_members<'a>(d: &Part<'_, 'a>) -> Result<ProviderMembers<'a>, LineCau
     })
 }
 
-fn get_members<'a>(d: &Part<'_, 'a>) -> Result<GetMembers<'a>, LineCause>
-    ensures { result_map_both spec.get_seen (λ e. e) result ≡ spec.get_members (data_at d.now) }
+fn get_members<'a>(line: &SaidLine<'a>) -> Result<GetMembers<'a>, LineCause>
+    ensures { result_map_both spec.get_seen (λ e. e) result
+        ≡ get_members_by (shown line.now.members) (provider_shown line.now.provider) }
 {
-    let page = number(d, MemberName::Page)?;
-    let call = number(d, MemberName::Call)?;
-    let options = option_members(d)?;
-    let provider = provider_members(&only_provider(d)?)?;
+    let page = number(&line.members, MemberName::Page)?;
+    let call = number(&line.members, MemberName::Call)?;
+    let options = option_members(&line.members)?;
+    let Some(provider) = line.provider else {
+        return Err(LineCause::Member(MemberName::Providers));
+    };
+    let provider = provider?;
     Ok(GetMembers {
         page,
         call,
@@ -129,11 +108,11 @@ fn options_of(
 pub(crate) fn get(
     alloc: Global,
     kept: &mut KeptConfigs,
-    d: &Part<'_, '_>,
+    line: &SaidLine<'_>,
 ) -> Result<Event, Fault<LineCause>>
-    ensures { Answers result (spec.get_of (data_at d.now)) }
+    ensures { Answers result (get_said (shown line.now.members) (provider_shown line.now.provider)) }
 {
-    match get_members(d) {
+    match get_members(line) {
         Err(cause) => Err(Fault::Step(cause)),
         Ok(members) => get_by(alloc, kept, &members),
     }

@@ -1,5 +1,5 @@
 //! Lines of the kind `have`.
-ghost use Rattle.fed_json.specs.Part.{data_at};
+ghost use Rattle.fed_script.specs.Said.{shown};
 ghost use Rattle.fed_io.specs.Fault.{Answers};
 ghost use Rattle.fed_script.specs.Have as spec;
 
@@ -7,15 +7,15 @@ use crate::cause::{LineCause, MemberName};
 use crate::event::{Event, Have};
 use crate::member::{self, text, web_url};
 use crate::raw::required_bytes;
+use crate::said::Said;
 use crate::status::status;
 use fed_io::{Fault, Placed, Text};
-use fed_json::Part;
 use fed_origin::Triple;
 use std::alloc::Global;
 
 // A login status that a line names.
-fn login(alloc: Global, d: &Part<'_, '_>) -> Result<Have, Fault<LineCause>>
-    ensures { Answers result (spec.login_of (data_at d.now)) }
+fn login(alloc: Global, d: &Said<'_>) -> Result<Have, Fault<LineCause>>
+    ensures { Answers result (spec.login_of (shown d.now)) }
 {
     let origin = text(d, MemberName::Origin).map_err(Fault::Step)?;
     let status = status(d).map_err(Fault::Step)?;
@@ -24,8 +24,8 @@ fn login(alloc: Global, d: &Part<'_, '_>) -> Result<Have, Fault<LineCause>>
 }
 
 // A permission that a line names.
-fn kept(alloc: Global, d: &Part<'_, '_>) -> Result<Have, Fault<LineCause>>
-    ensures { Answers result (spec.kept_of (data_at d.now)) }
+fn kept(alloc: Global, d: &Said<'_>) -> Result<Have, Fault<LineCause>>
+    ensures { Answers result (spec.kept_of (shown d.now)) }
 {
     let page = text(d, MemberName::Page).map_err(Fault::Step)?;
     let provider = text(d, MemberName::Provider).map_err(Fault::Step)?;
@@ -41,8 +41,8 @@ fn kept(alloc: Global, d: &Part<'_, '_>) -> Result<Have, Fault<LineCause>>
 }
 
 // An origin that a line names, whose pages prevented silent access.
-fn silent(alloc: Global, d: &Part<'_, '_>) -> Result<Have, Fault<LineCause>>
-    ensures { Answers result (spec.silent_of (data_at d.now)) }
+fn silent(alloc: Global, d: &Said<'_>) -> Result<Have, Fault<LineCause>>
+    ensures { Answers result (spec.silent_of (shown d.now)) }
 {
     let origin = text(d, MemberName::Origin).map_err(Fault::Step)?;
     let origin = member::origin(alloc, origin)?;
@@ -50,8 +50,8 @@ fn silent(alloc: Global, d: &Part<'_, '_>) -> Result<Have, Fault<LineCause>>
 }
 
 // A cookie that a line names.
-fn cookie(alloc: Global, d: &Part<'_, '_>) -> Result<Have, Fault<LineCause>>
-    ensures { Answers result (spec.cookie_of (data_at d.now)) }
+fn cookie(alloc: Global, d: &Said<'_>) -> Result<Have, Fault<LineCause>>
+    ensures { Answers result (spec.cookie_of (shown d.now)) }
 {
     let url = text(d, MemberName::Url).map_err(Fault::Step)?;
     let field = required_bytes(alloc, d)?;
@@ -60,8 +60,8 @@ fn cookie(alloc: Global, d: &Part<'_, '_>) -> Result<Have, Fault<LineCause>>
 }
 
 // What a line of this `what` says.
-fn said(alloc: Global, what: &str, d: &Part<'_, '_>) -> Result<Have, Fault<LineCause>>
-    ensures { Answers result (spec.said what.now (data_at d.now)) }
+fn said(alloc: Global, what: &str, d: &Said<'_>) -> Result<Have, Fault<LineCause>>
+    ensures { Answers result (spec.said what.now (shown d.now)) }
 {
     match what {
         "login" => login(alloc, d),
@@ -73,8 +73,8 @@ fn said(alloc: Global, what: &str, d: &Part<'_, '_>) -> Result<Have, Fault<LineC
 }
 
 /// The have that a line names.
-pub(crate) fn have_named(alloc: Global, d: &Part<'_, '_>) -> Result<Event, Fault<LineCause>>
-    ensures { Answers result (spec.have_of (data_at d.now)) }
+pub(crate) fn have_named(alloc: Global, d: &Said<'_>) -> Result<Event, Fault<LineCause>>
+    ensures { Answers result (spec.have_of (shown d.now)) }
 {
     let what = text(d, MemberName::What).map_err(Fault::Step)?;
     let have = said(alloc, what, d)?;

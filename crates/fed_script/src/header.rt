@@ -1,23 +1,24 @@
 //! The first line of a script.
 ghost use Rattle.std.specs.Prelude.{◌≡◌};
 ghost use Rattle.std.specs.Result.{result_map_both};
-ghost use Rattle.fed_json.specs.Part.{data_at};
+ghost use Rattle.fed_script.specs.Said.{shown};
 ghost use Rattle.fed_io.specs.Fault.{Answers};
 ghost use Rattle.fed_script.specs.Header as spec;
 ghost use Rattle.fed_script.specs.Line.{header_of};
 
 use crate::cause::{LineCause, MemberName};
 use crate::event::Header;
-use crate::member::{tape_of, text, whole};
+use crate::member::{text, whole};
+use crate::said::Said;
+use crate::saying::{SaidLine, read_said};
 use fed_io::Fault;
-use fed_json::Part;
 use fed_suffix::{SuffixRefusal, Suffixes};
 use json::Scratch;
 use std::alloc::Global;
 
 // The time, and the text of the rules.
-fn header_members<'a>(d: &Part<'_, 'a>) -> Result<(u64, &'a str), LineCause>
-    ensures { result_map_both (λ m. (m.0, m.1.now)) (λ e. e) result ≡ spec.header_members (data_at d.now) }
+fn header_members<'a>(d: &Said<'a>) -> Result<(u64, &'a str), LineCause>
+    ensures { result_map_both (λ m. (m.0, m.1.now)) (λ e. e) result ≡ spec.header_members (shown d.now) }
 {
     let version = whole(d, MemberName::Fedcm)?;
     if version != 1 {
@@ -43,8 +44,8 @@ fn read_rules(alloc: Global, text: &str) -> Result<Suffixes, Fault<SuffixRefusal
 }
 
 // The header that a line names.
-fn header_named(alloc: Global, d: &Part<'_, '_>) -> Result<Header, Fault<LineCause>>
-    ensures { Answers result (spec.header_named (data_at d.now)) }
+fn header_named(alloc: Global, d: &Said<'_>) -> Result<Header, Fault<LineCause>>
+    ensures { Answers result (spec.header_named (shown d.now)) }
 {
     match header_members(d) {
         Err(cause) => Err(Fault::Step(cause)),
@@ -63,6 +64,7 @@ pub fn read_header(alloc: Global, line: &[u8]) -> Result<Header, Fault<LineCause
     ensures { Answers result (header_of line.now) }
 {
     let mut scratch = Scratch::new(alloc);
-    let tape = tape_of(alloc, &mut scratch, line)?;
-    header_named(alloc, &Part::of(&tape))
+    let mut said = SaidLine::nothing();
+    read_said(&mut scratch, line, &mut said)?;
+    header_named(alloc, &said.members)
 }

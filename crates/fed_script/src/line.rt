@@ -1,6 +1,6 @@
 //! Reading a line that names an event.
-ghost use Rattle.std.specs.Prelude.{◌≡◌, ◌<◌, IfOk, OnOk, OnErr};
-ghost use Rattle.fed_json.specs.Part.{data_at};
+ghost use Rattle.std.specs.Prelude.{◌≡◌, ◌≢◌, ◌<◌, codes, IfOk, OnOk, OnErr};
+ghost use Rattle.fed_script.specs.Said.{shown};
 ghost use Rattle.fed_io.specs.Fault.{Answers};
 ghost use Rattle.fed_script.specs.Line as spec;
 ghost use Rattle.fed_script.specs.Line.{event_of};
@@ -15,9 +15,11 @@ use crate::event::Event;
 use crate::get::{get, get_by};
 use crate::have::have_named;
 use crate::load::{load, load_by};
-use crate::member::{member, tape_of};
+use crate::member::member;
 use crate::plain::{PlainLine, load_line, plain_line, reply_line};
 use crate::reply::reply;
+use crate::said::Said;
+use crate::saying::{SaidLine, read_said};
 use crate::single::{
     abort, at, cancel, close_page, go_on, idp_close, prevent, shut_window, sign_in,
 };
@@ -25,13 +27,12 @@ use crate::status::set_status;
 use crate::texts::{LastTexts, text_bytes};
 use crate::used::Used;
 use fed_io::{Fault, NoRoom};
-use fed_json::Part;
 use json::Scratch;
 use std::alloc::Global;
 
 // The kind that a line names.
-fn kind_of<'a>(d: &Part<'_, 'a>) -> Result<&'a str, LineCause>
-    ensures { result_map_both (λ s. s.now) (λ e. e) result ≡ spec.kind_of (data_at d.now) }
+fn kind_of<'a>(d: &Said<'a>) -> Result<&'a str, LineCause>
+    ensures { result_map_both (λ s. s.now) (λ e. e) result ≡ spec.kind_of (shown d.now) }
 {
     let Some(found) = member(d, MemberName::Do) else {
         return Err(LineCause::NoKind);
@@ -42,21 +43,21 @@ fn kind_of<'a>(d: &Part<'_, 'a>) -> Result<&'a str, LineCause>
     }
 }
 
-// The event of a line of this kind.
+// The event of a line of this kind, which is no get.
 fn event_of_kind(
     alloc: Global,
     kept: &mut KeptConfigs,
     kind: &str,
-    d: &Part<'_, '_>,
+    d: &Said<'_>,
 ) -> Result<Event, Fault<LineCause>>
-    ensures { Answers result (spec.event_of_kind kind.now (data_at d.now)) }
+    requires { kind.now ≢ codes "get" }
+    ensures { Answers result (spec.event_of_kind kind.now (shown d.now)) }
 {
     match kind {
         "have" => have_named(alloc, d),
         "at" => at(d).map_err(Fault::Step),
         "load" => load(alloc, d),
         "closepage" => close_page(d).map_err(Fault::Step),
-        "get" => get(alloc, kept, d),
         "abort" => abort(d).map_err(Fault::Step),
         "continue" => go_on(d).map_err(Fault::Step),
         "cancel" => cancel(d).map_err(Fault::Step),
@@ -115,7 +116,7 @@ fn reply_named(
     ensures { Answers result (spec.event_named line.now) }
 {
     let Some((call, kind, escaped)) = reply_line(line) else {
-        return event_of_tape(alloc, memory, line);
+        return event_of_members(alloc, memory, line);
     };
     match memory.texts.read(alloc, kind, escaped) {
         Ok(Some(raw)) => Ok(Event::Reply {
@@ -124,7 +125,7 @@ fn reply_named(
             kind,
             raw,
         }),
-        Ok(None) => event_of_tape(alloc, memory, line),
+        Ok(None) => event_of_members(alloc, memory, line),
         Err(NoRoom) => Err(Fault::NoRoom),
     }
 }
@@ -138,14 +139,14 @@ fn load_named(
     ensures { Answers result (spec.event_named line.now) }
 {
     let Some((page, url, reply)) = load_line(line) else {
-        return event_of_tape(alloc, memory, line);
+        return event_of_members(alloc, memory, line);
     };
     let Some(escaped) = reply else {
         return load_by(alloc, page, url, None);
     };
     match text_bytes(alloc, escaped) {
         Ok(Some(raw)) => load_by(alloc, page, url, Some(raw)),
-        Ok(None) => event_of_tape(alloc, memory, line),
+        Ok(None) => event_of_members(alloc, memory, line),
         Err(NoRoom) => Err(Fault::NoRoom),
     }
 }
@@ -165,23 +166,24 @@ fn other_named(
         }
         Some(PlainLine::ClosePage(page)) => Ok(Event::ClosePage { page }),
         Some(PlainLine::GoOn(call)) => Ok(Event::GoOn { call }),
-        None => event_of_tape(alloc, memory, line),
+        None => event_of_members(alloc, memory, line),
     }
 }
 
-// The same by the tape of the line.
+// The same by the members of the line.
 #[inline(never)]
-fn event_of_tape(
+fn event_of_members(
     alloc: Global,
     memory: &mut LineMemory,
     line: &[u8],
 ) -> Result<Event, Fault<LineCause>>
     ensures { Answers result (spec.event_named line.now) }
 {
-    let tape = tape_of(alloc, &mut memory.scratch, line)?;
-    let d = Part::of(&tape);
-    match kind_of(&d) {
-        Ok(kind) => event_of_kind(alloc, &mut memory.config, kind, &d),
+    let mut said = SaidLine::nothing();
+    read_said(&mut memory.scratch, line, &mut said)?;
+    match kind_of(&said.members) {
+        Ok("get") => get(alloc, &mut memory.config, &said),
+        Ok(kind) => event_of_kind(alloc, &mut memory.config, kind, &said.members),
         Err(cause) => Err(Fault::Step(cause)),
     }
 }

@@ -1,5 +1,5 @@
 //! Lines of the kind `load`.
-ghost use Rattle.fed_json.specs.Part.{data_at};
+ghost use Rattle.fed_script.specs.Said.{shown};
 ghost use Rattle.fed_io.specs.Fault.{Answers};
 ghost use Rattle.fed_script.specs.Load as spec;
 
@@ -7,13 +7,13 @@ use crate::cause::{LineCause, MemberName};
 use crate::event::Event;
 use crate::member::{number, text, web_url};
 use crate::raw::optional_bytes;
+use crate::said::Said;
 use fed_io::{Bytes, Fault};
-use fed_json::Part;
 use std::alloc::Global;
 
 /// The load that a line names.
-pub(crate) fn load(alloc: Global, d: &Part<'_, '_>) -> Result<Event, Fault<LineCause>>
-    ensures { Answers result (spec.load_of (data_at d.now)) }
+pub(crate) fn load(alloc: Global, d: &Said<'_>) -> Result<Event, Fault<LineCause>>
+    ensures { Answers result (spec.load_of (shown d.now)) }
 {
     let page = number(d, MemberName::Page).map_err(Fault::Step)?;
     let url = text(d, MemberName::Url).map_err(Fault::Step)?;

@@ -3,43 +3,31 @@ ghost use Rattle.std.specs.Prelude.{◌≡◌, option_map};
 ghost use Rattle.std.specs.Option.{option_copied};
 ghost use Rattle.std.specs.Result.{result_map_both};
 ghost use Rattle.serde_json.specs.Find.{as_str};
-ghost use Rattle.fed_json.specs.Part.{data_at};
-ghost use Rattle.fed_io.specs.Fault.{Answers, AnswersBy};
+ghost use Rattle.fed_script.specs.Said.{shown};
+ghost use Rattle.fed_io.specs.Fault.{Answers};
+ghost use Rattle.fed_json.specs.Begun.{begun_data};
 ghost use Rattle.fed_script.specs.Member as spec;
 
 use crate::cause::{LineCause, MemberName};
-use fed_io::{Fault, NoRoom};
-use fed_json::Part;
+use crate::said::Said;
+use fed_io::Fault;
+use fed_json::Begun;
 use fed_origin::{Origin, WebUrl};
-use json::{Scratch, Tape};
 use std::alloc::Global;
 
-/// The value of a line; NotJson where it has none.
-pub(crate) fn tape_of<'a>(
-    alloc: Global,
-    scratch: &'a mut Scratch,
-    line: &'a [u8],
-) -> Result<Tape<'a>, Fault<LineCause>>
-    ensures { AnswersBy data_at result (spec.json_of line.now) }
+/// A member, which is absent where it is null.
+pub(crate) fn member<'a>(d: &Said<'a>, name: MemberName) -> Option<Begun<'a>>
+    ensures { option_map begun_data result ≡ spec.member_of name (shown d.now) }
 {
-    match fed_json::tape_of(alloc, scratch, line) {
-        Ok(Some(tape)) => Ok(tape),
-        Ok(None) => Err(Fault::Step(LineCause::NotJson)),
-        Err(NoRoom) => Err(Fault::NoRoom),
+    match d.under(name) {
+        Begun::Null => None,
+        found => Some(found),
     }
 }
 
-/// A member, which is absent where it is null.
-pub(crate) fn member<'t, 'a>(d: &Part<'t, 'a>, name: MemberName) -> Option<Part<'t, 'a>>
-    ensures { option_map data_at result ≡ spec.member_of name (data_at d.now) }
-{
-    let found = d.get(name.as_str())?;
-    if found.is_null() { None } else { Some(found) }
-}
-
 /// A whole number of 64 bits.
-pub(crate) fn whole(d: &Part<'_, '_>, name: MemberName) -> Result<u64, LineCause>
-    ensures { result ≡ spec.required spec.as_whole name (data_at d.now) }
+pub(crate) fn whole(d: &Said<'_>, name: MemberName) -> Result<u64, LineCause>
+    ensures { result ≡ spec.required spec.as_whole name (shown d.now) }
 {
     let Some(found) = member(d, name) else {
         return Err(LineCause::Member(name));
@@ -51,8 +39,8 @@ pub(crate) fn whole(d: &Part<'_, '_>, name: MemberName) -> Result<u64, LineCause
 }
 
 /// A whole number of 32 bits.
-pub(crate) fn number(d: &Part<'_, '_>, name: MemberName) -> Result<u32, LineCause>
-    ensures { result ≡ spec.required spec.as_u32 name (data_at d.now) }
+pub(crate) fn number(d: &Said<'_>, name: MemberName) -> Result<u32, LineCause>
+    ensures { result ≡ spec.required spec.as_u32 name (shown d.now) }
 {
     let Some(found) = member(d, name) else {
         return Err(LineCause::Member(name));
@@ -64,8 +52,8 @@ pub(crate) fn number(d: &Part<'_, '_>, name: MemberName) -> Result<u32, LineCaus
 }
 
 /// A text.
-pub(crate) fn text<'a>(d: &Part<'_, 'a>, name: MemberName) -> Result<&'a str, LineCause>
-    ensures { result_map_both (λ s. s.now) (λ e. e) result ≡ spec.required as_str name (data_at d.now) }
+pub(crate) fn text<'a>(d: &Said<'a>, name: MemberName) -> Result<&'a str, LineCause>
+    ensures { result_map_both (λ s. s.now) (λ e. e) result ≡ spec.required as_str name (shown d.now) }
 {
     let Some(found) = member(d, name) else {
         return Err(LineCause::Member(name));
@@ -78,11 +66,11 @@ pub(crate) fn text<'a>(d: &Part<'_, 'a>, name: MemberName) -> Result<&'a str, Li
 
 /// A text that may be absent.
 pub(crate) fn optional_text<'a>(
-    d: &Part<'_, 'a>,
+    d: &Said<'a>,
     name: MemberName,
 ) -> Result<Option<&'a str>, LineCause>
     ensures { result_map_both option_copied (λ e. e) result
-        ≡ spec.optional as_str name (spec.member_of name (data_at d.now)) }
+        ≡ spec.optional as_str name (spec.member_of name (shown d.now)) }
 {
     let Some(found) = member(d, name) else {
         return Ok(None);
@@ -94,8 +82,8 @@ pub(crate) fn optional_text<'a>(
 }
 
 /// A whole number of 32 bits that may be absent.
-pub(crate) fn optional_number(d: &Part<'_, '_>, name: MemberName) -> Result<Option<u32>, LineCause>
-    ensures { result ≡ spec.optional spec.as_u32 name (spec.member_of name (data_at d.now)) }
+pub(crate) fn optional_number(d: &Said<'_>, name: MemberName) -> Result<Option<u32>, LineCause>
+    ensures { result ≡ spec.optional spec.as_u32 name (spec.member_of name (shown d.now)) }
 {
     if member(d, name).is_none() {
         return Ok(None);

@@ -1,13 +1,15 @@
 //! The options of a get, but for its providers.
 ghost use Rattle.std.specs.Prelude.{◌≡◌};
-ghost use Rattle.fed_json.specs.Part.{data_at};
+ghost use Rattle.fed_json.specs.Begun.{begun_data};
+ghost use Rattle.fed_script.specs.Said.{shown};
 ghost use Rattle.fed_origin.specs.Words.{mediation_of_word, mode_of_word, context_of_word};
 ghost use Rattle.fed_script.specs.Member.{as_word};
 ghost use Rattle.fed_script.specs.Options as spec;
 
 use crate::cause::{LineCause, MemberName};
 use crate::member::member;
-use fed_json::Part;
+use crate::said::Said;
+use fed_json::Begun;
 use fed_origin::{Context, Mediation, Mode};
 
 /// The options of a get, but for its providers.
@@ -20,15 +22,15 @@ pub(crate) struct OptionMembers {
 }
 
 // The mediation that a value names.
-fn as_mediation(found: &Part<'_, '_>) -> Option<Mediation>
-    ensures { result ≡ as_word mediation_of_word (data_at found.now) }
+fn as_mediation(found: &Begun<'_>) -> Option<Mediation>
+    ensures { result ≡ as_word mediation_of_word (begun_data found.now) }
 {
     Mediation::of_word(found.as_str()?)
 }
 
 // The mediation that a line names; where it names none, optional.
-fn mediation(d: &Part<'_, '_>) -> Result<Mediation, LineCause>
-    ensures { result ≡ spec.mediation_of (data_at d.now) }
+fn mediation(d: &Said<'_>) -> Result<Mediation, LineCause>
+    ensures { result ≡ spec.mediation_of (shown d.now) }
 {
     let Some(found) = member(d, MemberName::Mediation) else {
         return Ok(Mediation::Optional);
@@ -37,15 +39,15 @@ fn mediation(d: &Part<'_, '_>) -> Result<Mediation, LineCause>
 }
 
 // The mode that a value names.
-fn as_mode(found: &Part<'_, '_>) -> Option<Mode>
-    ensures { result ≡ as_word mode_of_word (data_at found.now) }
+fn as_mode(found: &Begun<'_>) -> Option<Mode>
+    ensures { result ≡ as_word mode_of_word (begun_data found.now) }
 {
     Mode::of_word(found.as_str()?)
 }
 
 // The mode that a line names; where it names none, passive.
-fn mode(d: &Part<'_, '_>) -> Result<Mode, LineCause>
-    ensures { result ≡ spec.mode_of (data_at d.now) }
+fn mode(d: &Said<'_>) -> Result<Mode, LineCause>
+    ensures { result ≡ spec.mode_of (shown d.now) }
 {
     let Some(found) = member(d, MemberName::Mode) else {
         return Ok(Mode::Passive);
@@ -54,8 +56,8 @@ fn mode(d: &Part<'_, '_>) -> Result<Mode, LineCause>
 }
 
 // Whether a line says that the user acted at the page; where it says nothing of it, the user did not.
-fn activation(d: &Part<'_, '_>) -> Result<bool, LineCause>
-    ensures { result ≡ spec.activation_of (data_at d.now) }
+fn activation(d: &Said<'_>) -> Result<bool, LineCause>
+    ensures { result ≡ spec.activation_of (shown d.now) }
 {
     let Some(found) = member(d, MemberName::Activation) else {
         return Ok(false);
@@ -66,15 +68,15 @@ fn activation(d: &Part<'_, '_>) -> Result<bool, LineCause>
 }
 
 // The context that a value names.
-fn as_context(found: &Part<'_, '_>) -> Option<Context>
-    ensures { result ≡ as_word context_of_word (data_at found.now) }
+fn as_context(found: &Begun<'_>) -> Option<Context>
+    ensures { result ≡ as_word context_of_word (begun_data found.now) }
 {
     Context::of_word(found.as_str()?)
 }
 
 // The context that a line names; where it names none, signing in.
-fn context(d: &Part<'_, '_>) -> Result<Context, LineCause>
-    ensures { result ≡ spec.context_of (data_at d.now) }
+fn context(d: &Said<'_>) -> Result<Context, LineCause>
+    ensures { result ≡ spec.context_of (shown d.now) }
 {
     let Some(found) = member(d, MemberName::Context) else {
         return Ok(Context::SignIn);
@@ -83,8 +85,8 @@ fn context(d: &Part<'_, '_>) -> Result<Context, LineCause>
 }
 
 /// The options of a get, in their order.
-pub(crate) fn option_members(d: &Part<'_, '_>) -> Result<OptionMembers, LineCause>
-    ensures { result ≡ spec.option_members (data_at d.now) }
+pub(crate) fn option_members(d: &Said<'_>) -> Result<OptionMembers, LineCause>
+    ensures { result ≡ spec.option_members (shown d.now) }
 {
     Ok(OptionMembers {
         mediation: mediation(d)?,

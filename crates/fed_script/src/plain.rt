@@ -1,6 +1,6 @@
 //! Lines as JSON writers give them: no white space, no escape but in the bytes of replies, and their members in the order of the
-//! profile's table. They are told from others byte by byte and read without a tape, which spares some 2,500 instructions; each other
-//! line has its tape.
+//! profile's table. They are told from others byte by byte and read at once, which spares some 2,500 instructions; each other line
+//! is read by `saying`.
 ghost use Rattle.std.specs.Prelude.{◌≡◌, ◌<◌, ◌+◌, ◌++◌, ℕ, List, None, Some, Ok, IfSome, IsTrue, IsUtf8, cond, decimal, length, true};
 ghost use Rattle.std.specs.List.{list_all};
 ghost use Rattle.fed_script.specs.declared.event.Event.TheVariants as events;

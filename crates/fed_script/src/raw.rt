@@ -1,7 +1,8 @@
 //! Bytes that a line gives.
 ghost use Rattle.std.specs.Prelude.{◌≡◌, IfOk};
 ghost use Rattle.serde_json.specs.Find.{as_str};
-ghost use Rattle.fed_json.specs.Part.{data_at};
+ghost use Rattle.fed_json.specs.Begun.{begun_data};
+ghost use Rattle.fed_script.specs.Said.{shown};
 ghost use Rattle.fed_io.specs.Fault.{Answers};
 ghost use Rattle.fed_script.specs.Member.{or_cause};
 ghost use Rattle.fed_script.specs.Raw as spec;
@@ -10,10 +11,11 @@ ghost use Rattle.fed_script.specs.declared.cause.MemberName.TheVariants as names
 
 use crate::cause::{LineCause, MemberName};
 use crate::member::member;
+use crate::said::Said;
 use base64::DecodeAllocError;
 use base64::engine::general_purpose::STANDARD;
 use fed_io::{Bytes, Fault, NoRoom};
-use fed_json::Part;
+use fed_json::Begun;
 use std::alloc::Global;
 
 // The bytes of a text in base64, if it is one.
@@ -29,8 +31,8 @@ fn base64_bytes(alloc: Global, text: &str) -> Result<Option<Bytes>, NoRoom>
 }
 
 // The bytes of the member `text`.
-fn text_bytes(alloc: Global, text: &Part<'_, '_>) -> Result<Bytes, Fault<LineCause>>
-    ensures { Answers result (or_cause (Member names.Text) (as_str (data_at text.now))) }
+fn text_bytes(alloc: Global, text: &Begun<'_>) -> Result<Bytes, Fault<LineCause>>
+    ensures { Answers result (or_cause (Member names.Text) (as_str (begun_data text.now))) }
 {
     match text.as_str() {
         Some(text) => Ok(Bytes::of(alloc, text.as_bytes())?),
@@ -39,8 +41,8 @@ fn text_bytes(alloc: Global, text: &Part<'_, '_>) -> Result<Bytes, Fault<LineCau
 }
 
 // The bytes of the member `raw`.
-fn raw_bytes(alloc: Global, raw: &Part<'_, '_>) -> Result<Bytes, Fault<LineCause>>
-    ensures { Answers result (or_cause (Member names.Raw) (spec.as_base64 (data_at raw.now))) }
+fn raw_bytes(alloc: Global, raw: &Begun<'_>) -> Result<Bytes, Fault<LineCause>>
+    ensures { Answers result (or_cause (Member names.Raw) (spec.as_base64 (begun_data raw.now))) }
 {
     let Some(text) = raw.as_str() else {
         return Err(Fault::Step(LineCause::Member(MemberName::Raw)));
@@ -52,11 +54,8 @@ fn raw_bytes(alloc: Global, raw: &Part<'_, '_>) -> Result<Bytes, Fault<LineCause
 }
 
 /// The bytes that a line gives by at most one of `text` (its UTF-8) and `raw` (base64, RFC 4648, 4).
-pub(crate) fn optional_bytes(
-    alloc: Global,
-    d: &Part<'_, '_>,
-) -> Result<Option<Bytes>, Fault<LineCause>>
-    ensures { Answers result (spec.optional_bytes (data_at d.now)) }
+pub(crate) fn optional_bytes(alloc: Global, d: &Said<'_>) -> Result<Option<Bytes>, Fault<LineCause>>
+    ensures { Answers result (spec.optional_bytes (shown d.now)) }
 {
     match (member(d, MemberName::Text), member(d, MemberName::Raw)) {
         (None, None) => Ok(None),
@@ -67,8 +66,8 @@ pub(crate) fn optional_bytes(
 }
 
 /// The bytes that a line gives by exactly one of `text` and `raw`.
-pub(crate) fn required_bytes(alloc: Global, d: &Part<'_, '_>) -> Result<Bytes, Fault<LineCause>>
-    ensures { Answers result (spec.required_bytes (data_at d.now)) }
+pub(crate) fn required_bytes(alloc: Global, d: &Said<'_>) -> Result<Bytes, Fault<LineCause>>
+    ensures { Answers result (spec.required_bytes (shown d.now)) }
 {
     match optional_bytes(alloc, d)? {
         Some(bytes) => Ok(bytes),

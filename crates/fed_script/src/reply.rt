@@ -1,6 +1,7 @@
 //! Lines of the kind `reply`.
 ghost use Rattle.std.specs.Prelude.{◌≡◌};
-ghost use Rattle.fed_json.specs.Part.{data_at};
+ghost use Rattle.fed_json.specs.Begun.{begun_data};
+ghost use Rattle.fed_script.specs.Said.{shown};
 ghost use Rattle.fed_io.specs.Fault.{Answers};
 ghost use Rattle.fed_origin.specs.Words.{kind_of_word};
 ghost use Rattle.fed_script.specs.Member.{required, as_word};
@@ -11,21 +12,22 @@ use crate::cause::{LineCause, MemberName};
 use crate::event::Event;
 use crate::member::{member, number, optional_number};
 use crate::raw::required_bytes;
+use crate::said::Said;
 use fed_io::Fault;
-use fed_json::Part;
+use fed_json::Begun;
 use fed_origin::ReplyKind;
 use std::alloc::Global;
 
 // The kind of reply that a value names.
-fn as_kind(found: &Part<'_, '_>) -> Option<ReplyKind>
-    ensures { result ≡ as_word kind_of_word (data_at found.now) }
+fn as_kind(found: &Begun<'_>) -> Option<ReplyKind>
+    ensures { result ≡ as_word kind_of_word (begun_data found.now) }
 {
     ReplyKind::of_word(found.as_str()?)
 }
 
 // The member `to`.
-fn kind(d: &Part<'_, '_>) -> Result<ReplyKind, LineCause>
-    ensures { result ≡ required (as_word kind_of_word) names.To (data_at d.now) }
+fn kind(d: &Said<'_>) -> Result<ReplyKind, LineCause>
+    ensures { result ≡ required (as_word kind_of_word) names.To (shown d.now) }
 {
     let Some(found) = member(d, MemberName::To) else {
         return Err(LineCause::Member(MemberName::To));
@@ -34,8 +36,8 @@ fn kind(d: &Part<'_, '_>) -> Result<ReplyKind, LineCause>
 }
 
 /// The reply that a line names.
-pub(crate) fn reply(alloc: Global, d: &Part<'_, '_>) -> Result<Event, Fault<LineCause>>
-    ensures { Answers result (spec.reply_of (data_at d.now)) }
+pub(crate) fn reply(alloc: Global, d: &Said<'_>) -> Result<Event, Fault<LineCause>>
+    ensures { Answers result (spec.reply_of (shown d.now)) }
 {
     let call = number(d, MemberName::Call).map_err(Fault::Step)?;
     let provider = optional_number(d, MemberName::Provider).map_err(Fault::Step)?;

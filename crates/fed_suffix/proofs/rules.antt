@@ -1,2 +1,3 @@
 -- The longest rules that match.
 pub mod Most
+pub mod Packed

@@ -1,6 +1,6 @@
 -- The labels of names and of rules.
-use Rattle.std.specs.Prelude.{ℕ, Bool, not, ◌&&◌, ◌==◌, List, [], ◌∷◌, ◌++◌, length, reverse, nat_lt, Option, Some, None, option_map}
-use Rattle.std.specs.Prelude.{option_and_then, if◌then◌else◌}
+use Rattle.std.specs.Prelude.{◌≡◌, ℕ, Bool, true, false, not, ◌&&◌, ◌==◌, List, [], ◌∷◌, ◌++◌, length, reverse, nat_lt}
+use Rattle.std.specs.Prelude.{Option, Some, None, option_map, option_and_then, if◌then◌else◌}
 use Rattle.std.specs.List.{list_any, slice_split, join_with_byte}
 use Rattle.idna.specs.declared.deny_list.TheConstants.AsciiDenyList.{URL}
 use Rattle.idna.specs.Uts46.{domain_to_ascii}
@@ -22,6 +22,15 @@ abbrev pub joined : Option (List ℕ) → List ℕ → List ℕ
 joined None label = label
 joined (Some before) label = before ++ (46 ∷ label)
 
+-- the labels of a rule, by its text: they stand in it from the right, with dots between them
+abbrev pub labels_in : List ℕ → List (List ℕ)
+labels_in text = slice_split is_dot text
+
+-- the labels of what may stand behind a dot
+abbrev pub labels_after : Option (List ℕ) → List (List ℕ)
+labels_after None = []
+labels_after (Some text) = labels_in text
+
 -- the name of these labels, which are given from the right
 abbrev pub name_of : List (List ℕ) → List ℕ
 name_of labels = join_with_byte 46 (reverse labels)
@@ -42,3 +51,8 @@ abbrev pub ascii_labels : List (List ℕ) → Option (List (List ℕ))
 ascii_labels [] = Some []
 ascii_labels (label ∷ labels) =
     option_and_then (λ ascii. option_map (λ more. ascii ∷ more) (ascii_labels labels)) (ascii_label label)
+
+-- for private clauses: the label in ASCII form was added to a text, or it has none
+abbrev pub AddsLabel : List ℕ → List ℕ → List ℕ → Bool → Type 0
+AddsLabel label old new true = (ascii : List ℕ) × (ascii_label label ≡ Some ascii) × (new ≡ old ++ ascii)
+AddsLabel label old new false = ascii_label label ≡ None

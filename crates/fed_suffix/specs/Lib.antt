@@ -4,6 +4,9 @@ pub mod RuleOrder
 pub mod RuleLine
 pub mod Registrable
 pub mod Node
+pub mod Form
+pub mod StoredLabel
 pub mod NodeFalls
+pub mod Packed
 pub mod Opened
 pub mod Walk

@@ -68,7 +68,3 @@ pub record IsNode {X : Type 0} (labels : List X) (nodes : List RuleSet) : Type 0
 abbrev pub height : List Rule → ℕ
 height [] = 0
 height (rule ∷ rules) = max (length rule.0 + 1) (height rules)
-
--- the rules of a list are those of the tree
-abbrev pub AreIn : List Rule → RuleSet → Type 0
-AreIn rules top = set.from_list rules ≡ top

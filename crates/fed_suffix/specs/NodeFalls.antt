@@ -8,6 +8,10 @@ use Rattle.std.specs.FinSet as set
 use Rattle.fed_suffix.specs.Rule.{Rule, RuleSet, rule_cmp}
 use Rattle.fed_suffix.specs.RuleOrder.{rule_cmp_total, is_among, is_itself, same_rule, one_of, or_first, or_second}
 use Rattle.fed_suffix.specs.RuleOrder.{first_of_both, second_of_both}
+use Rattle.fed_suffix.specs.declared.form.Form.{Form}
+use Rattle.fed_suffix.specs.declared.form.Form.TheVariants.{Leaf, One, Many}
+use Rattle.fed_suffix.specs.declared.node.SuffixNode.TheDeep.{deep-Form}
+use Rattle.fed_suffix.specs.Form.{labels_below, nodes_below, rules_by}
 use Rattle.fed_suffix.specs.Node.{is_some_rule, has_rules, under, rules_under, ending, rules_of, IsNode, height}
 
 -- no rule has more labels than the longest
@@ -88,10 +92,10 @@ lower text bound (label ∷ labels) (node ∷ nodes) alike used within =
     (λ rule among. within rule (among_second (under (text label) (set.items node)) (rules_under text labels nodes) rule among)) in
     omega (arith, here, rest)
 
-pub lower_below : {X : Type 0} (text : X → List ℕ) (plain exception : Bool) (labels : List X) (nodes : List RuleSet)
+lower_by_list : {X : Type 0} (text : X → List ℕ) (plain exception : Bool) (labels : List X) (nodes : List RuleSet)
     → IsNode labels nodes
     → max (most (λ node. height (set.items node) + 1) nodes) 0 ≤ height (set.items (rules_of text plain exception labels nodes))
-lower_below text plain exception labels nodes is =
+lower_by_list text plain exception labels nodes is =
     let rules = rules_of text plain exception labels nodes in
     let bound : most (λ node. height (set.items node) + 1) nodes ≤ height (set.items rules) =
     lower text (height (set.items rules)) labels nodes is.alike is.used
@@ -100,3 +104,14 @@ lower_below text plain exception labels nodes is =
     ∙ set.contains-from_list rule_cmp_total (ending plain exception ++ rules_under text labels nodes) rule
     ∙ among_second (ending plain exception) (rules_under text labels nodes) rule among)) in
     omega (arith, bound)
+
+pub lower_below : (form : Form) → IsNode (labels_below form) (nodes_below form)
+    → max (deep-Form form) 0 ≤ height (set.items (rules_by form))
+lower_below (Leaf ends) is = omega arith
+lower_below (One ends child) is =
+    omega (arith, lower_by_list (λ label. label) ends.plain ends.exception (child.value.label ∷ []) (child.value.node ∷ []) is)
+lower_below (Many ends children) is =
+    omega (
+      arith,
+      lower_by_list (λ label. label) ends.plain ends.exception children.value.labels.keys children.value.nodes.items is,
+    )

@@ -1,5 +1,5 @@
 -- A node without one of the nodes below it, for private clauses.
-use Rattle.std.specs.Prelude.{◌≡◌, ℕ, zero, suc, ◌<◌, ◌≤◌, Bool, true, false, not, List, [], ◌∷◌, ◌++◌, length, take, set}
+use Rattle.std.specs.Prelude.{◌≡◌, ℕ, zero, suc, ◌<◌, Bool, true, false, not, List, [], ◌∷◌, ◌++◌, length, set}
 use Rattle.std.specs.Coded.{Coded, coded×, coded_ℕ, coded_list}
 use Rattle.std.specs.List.{list_all}
 use Rattle.std.specs.FinSet as finset
@@ -60,9 +60,8 @@ pub record IsOpening (whole : RuleSet) (label : List ℕ) (opened : Opened) (nod
   pub named : opened.0 ≡ label
   pub used : has_rules node ≡ true
 
--- the first of the labels lead through the opened nodes to the node
-pub record Leads (labels : List (List ℕ)) (whole : RuleSet) (above : List Opened) (node : RuleSet) : Type 0 where
+-- the labels lead through the opened nodes to the node, but for the rest of them
+pub record Leads (labels : List (List ℕ)) (whole : RuleSet) (above : List Opened) (node : RuleSet) (rest : List (List ℕ)) : Type 0 where
   pub same : all_closed above node ≡ whole
-  pub way : labels_to above ≡ take (length above) labels
-  pub short : length above ≤ length labels
+  pub way : labels_to above ++ rest ≡ labels
   pub used : fits above node ≡ true

@@ -1,11 +1,11 @@
 //! The labels of a name, from the right.
-ghost use Rattle.std.specs.Prelude.{◌≡◌, ◌+◌, ◌<◌, ◌∷◌, length, take, IfOk, Some, None, nat_lt, if◌then◌else◌};
+ghost use Rattle.std.specs.Prelude.{◌≡◌, ◌+◌, ◌<◌, ◌∷◌, length, take, option_map, IfOk, Some, None, nat_lt, if◌then◌else◌};
 ghost use Rattle.std.specs.List.{list_any};
 ghost use Rattle.std.specs.Option.{option_copied};
-ghost use Rattle.fed_suffix.specs.Label.{labels_of, labels_before, joined, name_of, is_empty, is_label as is_one_label};
-ghost use Rattle.fed_suffix.specs.Label.{ascii_label as ascii_label_of, ascii_labels};
+ghost use Rattle.fed_suffix.specs.Label.{labels_of, labels_before, labels_in, labels_after, joined, name_of, is_empty};
+ghost use Rattle.fed_suffix.specs.Label.{is_label as is_one_label, ascii_labels, AddsLabel};
 
-use fed_io::{Bytes, Items, NoRoom};
+use fed_io::{Bytes, NoRoom};
 use idna::{AsciiDenyList, Errors, domain_to_ascii_cow};
 use std::alloc::Global;
 
@@ -28,6 +28,28 @@ pub fn last_label(text: &[u8]) -> LastLabel<'_>
         None => LastLabel {
             before: None,
             label: text,
+        },
+    }
+}
+
+/// The first label of a rule's text, and what stands behind its dot.
+#[derive(Clone, Copy)]
+pub struct FirstLabel<'a> {
+    pub label: &'a [u8],
+    pub after: Option<&'a [u8]>,
+}
+
+pub fn first_label(text: &[u8]) -> FirstLabel<'_>
+    ensures { labels_in text.now ≡ result.label.now ∷ labels_after (option_copied result.after) }
+{
+    match text.iter().position(|b| *b == b'.') {
+        Some(dot) => FirstLabel {
+            label: &text[..dot],
+            after: Some(&text[dot + 1..]),
+        },
+        None => FirstLabel {
+            label: text,
+            after: None,
         },
     }
 }
@@ -59,35 +81,41 @@ fn is_label(text: &[u8]) -> bool
     !text.is_empty() && !text.contains(&b'.')
 }
 
-fn ascii_label(alloc: Global, label: &[u8]) -> Result<Option<Bytes>, NoRoom>
-    ensures { IfOk result (λ ascii. ascii ≡ ascii_label_of label.now) }
+// Adds the label in ASCII form to a text, and says whether it has one.
+fn push_ascii(alloc: Global, label: &[u8], text: &mut Vec<u8>) -> Result<bool, NoRoom>
+    ensures { IfOk result (AddsLabel label.now text.old.items text.new.items) }
 {
     let ascii = match domain_to_ascii_cow(alloc, label, AsciiDenyList::URL) {
         Ok(ascii) => ascii,
         Err(Errors::OutOfMemory) => return Err(NoRoom),
-        Err(Errors::Invalid) => return Ok(None),
+        Err(Errors::Invalid) => return Ok(false),
     };
-    let owned = ascii.into_owned(alloc)?;
-    if is_label(owned.as_bytes()) {
-        Ok(Some(Bytes::from_vec(owned.into_bytes())))
-    } else {
-        Ok(None)
+    let ascii = ascii.as_bytes();
+    if !is_label(ascii) {
+        return Ok(false);
     }
+    text.extend_from_slice(ascii)?;
+    Ok(true)
 }
 
-/// The labels of a text in ASCII form, from the right, or `None` where one has none.
-pub fn read_labels(alloc: Global, text: &[u8]) -> Result<Option<Items<Bytes>>, NoRoom>
-    ensures { IfOk result (λ labels. labels ≡ ascii_labels (labels_of text.now)) }
+/// The labels of a text in ASCII form, from the right, in one text with dots between them, or `None`
+/// where one has none.
+pub fn read_labels(alloc: Global, text: &[u8]) -> Result<Option<Bytes>, NoRoom>
+    ensures { IfOk result (λ labels. option_map labels_in labels ≡ ascii_labels (labels_of text.now)) }
 {
-    let mut labels = Items::new(alloc);
-    let mut rest = Some(text);
+    let mut labels = Vec::new(alloc);
+    let last = last_label(text);
+    if !push_ascii(alloc, last.label, &mut labels)? {
+        return Ok(None);
+    }
+    let mut rest = last.before;
     while let Some(text) = rest {
         let last = last_label(text);
-        match ascii_label(alloc, last.label)? {
-            Some(ascii) => labels.push(ascii)?,
-            None => return Ok(None),
+        labels.push(b'.')?;
+        if !push_ascii(alloc, last.label, &mut labels)? {
+            return Ok(None);
         }
         rest = last.before;
     }
-    Ok(Some(labels))
+    Ok(Some(Bytes::from_vec(labels)))
 }

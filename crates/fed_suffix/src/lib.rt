@@ -1,11 +1,13 @@
 //! Public suffix rules, registrable domains and parties.
 #![tactic(auto)]
 
+mod form;
 mod insertion;
 mod label;
 mod node;
 mod refusal;
 mod rule;
+mod stored_label;
 mod suffixes;
 mod walk;
 

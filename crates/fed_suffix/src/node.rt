@@ -1,26 +1,25 @@
 //! The nodes of the tree of rules.
-ghost use Rattle.std.specs.Prelude.{◌≡◌, ℕ, Bool, true, false, List, [], ◌∷◌, ◌++◌, bytes_eq, IfOk, IfErr, OnOk, OnErr};
-ghost use Rattle.std.specs.List.{list_any};
+ghost use Rattle.std.specs.Prelude.{◌≡◌, ℕ, Bool, true, false, List, [], ◌∷◌, IfOk, IfErr, OnOk, OnErr};
 ghost use Rattle.std.specs.Option.{option_copied};
 ghost use Rattle.std.specs.FinSet as set;
+ghost use Rattle.fed_suffix.specs.Label.{labels_after};
 ghost use Rattle.fed_suffix.specs.Node as spec;
 ghost use Rattle.fed_suffix.specs.Opened.{closed, goes_nowhere, IsOpening};
 
-use fed_io::{Bytes, NoRoom};
-use indexmap::IndexSet;
+use crate::form::{Child, Ends, Form};
+use crate::label::{first_label, last_label};
+use crate::stored_label::Label;
+use fed_io::NoRoom;
 use std::alloc::Global;
 use std::marker::Model;
 use std::mem;
 
 /// A node of the tree of rules, which contracts see as the set of what is left of the rules that
 /// lead through it (Public Suffix List, "Algorithm": labels are matched from the right).
+#[cycle(tree)]
 #[derive(Drop)]
 pub struct SuffixNode {
-    // A label of a node below this one has the place of that node.
-    labels: IndexSet<Vec<u8>>,
-    nodes: Vec<SuffixNode>,
-    plain: bool,
-    exception: bool,
+    form: Form,
 }
 
 impl Model for SuffixNode {
@@ -31,29 +30,27 @@ impl Model for SuffixNode {
 
     ghost coded = { set.code rule_code };
 
-    ghost use Rattle.fed_suffix.specs.Node.{rules_of, IsNode, height};
+    ghost use Rattle.fed_suffix.specs.Node.{IsNode, height};
+    ghost use Rattle.fed_suffix.specs.Form.{labels_below, nodes_below, rules_by};
 
-    ghost view = { λ a. rules_of (λ key. key.items) a.plain a.exception a.labels.keys a.nodes.items };
+    ghost view = { λ a. rules_by a.form };
 
-    ghost invariant = { λ a. IsNode a.labels.keys a.nodes.items };
+    ghost invariant = { λ a. IsNode (labels_below a.form) (nodes_below a.form) };
 
     ghost size = { λ rules. height (set.items rules) };
 
     ghost use Rattle.fed_suffix.specs.NodeFalls.{lower_below};
 
-    ghost size_decreases = { λ a h. lower_below (λ key. key.items) a.plain a.exception a.labels.keys a.nodes.items h };
+    ghost size_decreases = { λ a h. lower_below a.form h };
 }
 
 impl SuffixNode {
     /// No rules. It takes no memory.
-    pub(crate) fn new(alloc: Global) -> SuffixNode
+    pub(crate) fn new() -> SuffixNode
         ensures { result ≡ set.empty }
     {
         SuffixNode {
-            labels: IndexSet::new(alloc),
-            nodes: Vec::new(alloc),
-            plain: false,
-            exception: false,
+            form: Form::Leaf(Ends::none()),
         }
     }
 
@@ -62,20 +59,19 @@ impl SuffixNode {
     pub fn child(&self, label: &[u8]) -> Option<&SuffixNode>
         ensures { option_copied result ≡ spec.child self.now label.now }
     {
-        let place = self.labels.get_index_of(label)?;
-        // By its contract no label stands twice.
-        let _ = self.labels.len();
-        Some(&self.nodes[place])
+        let place = self.form.place(label)?;
+        Some(&self.form.nodes()[place])
     }
 
     /// Whether a rule ends at the node: an exception, or another rule. It takes no memory.
     pub fn has(&self, exception: bool) -> bool
         ensures { result ≡ spec.ends self.now exception }
     {
+        let ends = self.form.ends();
         if exception {
-            return self.exception;
+            return ends.exception;
         }
-        self.plain
+        ends.plain
     }
 
     /// Adds a rule with these labels, from the right, of which the first leads nowhere yet. After
@@ -83,19 +79,22 @@ impl SuffixNode {
     pub(crate) fn add_rest(
         &mut self,
         alloc: Global,
-        labels: &[Bytes],
+        labels: Option<&[u8]>,
         exception: bool,
     ) -> Result<(), NoRoom>
-        requires { goes_nowhere self.old labels.now ≡ true }
-        ensures ok { OnOk result (self.new ≡ set.insert self.old (labels.now, exception)) }
+        requires { goes_nowhere self.old (labels_after (option_copied labels)) ≡ true }
+        ensures ok { OnOk result (self.new ≡ set.insert self.old (labels_after (option_copied labels.entry), exception)) }
         ensures err { OnErr result (self.new ≡ self.old) }
     {
         match labels {
-            [] => {
+            None => {
                 self.set_end(exception);
                 Ok(())
             }
-            [label, rest @ ..] => self.add_below(alloc, label.as_slice(), rest, exception),
+            Some(text) => {
+                let first = first_label(text);
+                self.add_below(alloc, first.label, first.after, exception)
+            }
         }
     }
 
@@ -104,40 +103,48 @@ impl SuffixNode {
         &mut self,
         alloc: Global,
         label: &[u8],
-        rest: &[Bytes],
+        rest: Option<&[u8]>,
         exception: bool,
     ) -> Result<(), NoRoom>
         requires { spec.has_rules (spec.below self.old label.now) ≡ false }
-        ensures ok { OnOk result (self.new ≡ set.insert self.old (label.now ∷ rest.now, exception)) }
+        ensures ok { OnOk result (self.new ≡ set.insert self.old (label.now ∷ labels_after (option_copied rest.entry), exception)) }
         ensures err { OnErr result (self.new ≡ self.old) }
     {
-        let label = label.to_vec(alloc)?;
+        let label = Label::of(alloc, label)?;
         let node = SuffixNode::of_rule(alloc, rest, exception)?;
-        add_node(&mut self.labels, &mut self.nodes, label, node)?;
+        self.form.add(alloc, label, node)?;
         Ok(())
     }
 
     fn set_end(&mut self, exception: bool)
         ensures { self.new ≡ set.insert self.old ([], exception) }
     {
+        let ends = self.form.ends();
         if exception {
-            self.exception = true;
+            self.form.set_ends(Ends {
+                plain: ends.plain,
+                exception: true,
+            });
         } else {
-            self.plain = true;
+            self.form.set_ends(Ends {
+                plain: true,
+                exception: ends.exception,
+            });
         }
     }
 
     // A node with one rule alone. It begins with the last label, in a loop, since a rule may have
     // more labels than calls can be nested.
-    fn of_rule(alloc: Global, labels: &[Bytes], exception: bool) -> Result<SuffixNode, NoRoom>
-        ensures { IfOk result (λ node. node ≡ set.insert set.empty (labels.now, exception)) }
+    fn of_rule(alloc: Global, labels: Option<&[u8]>, exception: bool) -> Result<SuffixNode, NoRoom>
+        ensures { IfOk result (λ node. node ≡ set.insert set.empty (labels_after (option_copied labels.entry), exception)) }
     {
-        let mut node = SuffixNode::new(alloc);
+        let mut node = SuffixNode::new();
         node.set_end(exception);
-        let mut left = labels.len();
-        while left > 0 {
-            left -= 1;
-            node = node.under(alloc, labels[left].as_slice())?;
+        let mut left = labels;
+        while let Some(text) = left {
+            let last = last_label(text);
+            node = node.under(alloc, last.label)?;
+            left = last.before;
         }
         Ok(node)
     }
@@ -148,77 +155,62 @@ impl SuffixNode {
         ensures { IfOk result (λ node. (labels : List (List ℕ)) (exception : Bool) → self ≡ set.insert set.empty (labels, exception)
             → node ≡ set.insert set.empty (label.now ∷ labels, exception)) }
     {
-        let (Ok(label), Ok(mut labels), Ok(mut nodes)) = (
-            label.to_vec(alloc),
-            IndexSet::with_capacity(alloc, 1),
-            Vec::with_capacity(alloc, 1),
-        ) else {
-            self.let_go();
+        let Ok(label) = Label::of(alloc, label) else {
+            self.let_go(alloc);
             return Err(NoRoom);
         };
-        add_node(&mut labels, &mut nodes, label, self)?;
-        Ok(SuffixNode {
-            labels,
-            nodes,
-            plain: false,
-            exception: false,
-        })
+        let mut form = Form::Leaf(Ends::none());
+        form.add(alloc, label, self)?;
+        Ok(SuffixNode { form })
     }
 
     /// The node without the one to which a label leads, and that one, or this node again where no
     /// rule goes on with the label. It takes no memory.
-    pub(crate) fn open(
-        self,
-        alloc: Global,
-        label: &[u8],
-    ) -> Result<(Opened, SuffixNode), SuffixNode>
+    pub(crate) fn open(self, label: &[u8]) -> Result<(Opened, SuffixNode), SuffixNode>
         ensures ok { IfOk result (λ parts. IsOpening self label.now parts.0 parts.1) }
         ensures err { IfErr result (λ node. node ≡ self) }
         ensures err_absent { OnErr result (spec.has_rules (spec.below self label.now) ≡ false) }
     {
-        let Some(place) = self.labels.get_index_of(label) else {
+        let Some(place) = self.form.place(label) else {
             return Err(self);
         };
-        let SuffixNode {
-            labels,
-            mut nodes,
-            plain,
-            exception,
-        } = self;
-        let node = mem::replace(&mut nodes[place], SuffixNode::new(alloc));
-        let opened = Opened {
-            labels,
-            nodes,
-            plain,
-            exception,
-            place,
-        };
+        let SuffixNode { mut form } = self;
+        let node = form.put_at(place, SuffixNode::new());
+        let opened = Opened { form, place };
         Ok((opened, node))
     }
 
     /// Lets the node go, with those below it, from node to node in a loop: a derived drop calls
     /// itself once for each label of a rule.
-    pub(crate) fn let_go(self) {
-        let mut open = self.into_nodes();
+    pub(crate) fn let_go(self, alloc: Global) {
+        let mut open = Vec::new(alloc);
+        let mut form = self.into_form();
         for _ in 0..u64::MAX {
+            match form {
+                Form::Leaf(_) => {}
+                Form::One(_, child) => {
+                    let Child { label: _, node } = Box::into_inner(child);
+                    form = node.into_form();
+                    continue;
+                }
+                Form::Many(_, mut children) => {
+                    if open.is_empty() {
+                        mem::swap(&mut open, &mut children.nodes);
+                    } else if open.append(&mut children.nodes).is_err() {
+                        return;
+                    }
+                }
+            }
             let Some(node) = open.pop() else {
                 return;
             };
-            let mut nodes = node.into_nodes();
-            if open.append(&mut nodes).is_err() {
-                return;
-            }
+            form = node.into_form();
         }
     }
 
-    fn into_nodes(self) -> Vec<SuffixNode> {
-        let SuffixNode {
-            labels: _,
-            nodes,
-            plain: _,
-            exception: _,
-        } = self;
-        nodes
+    fn into_form(self) -> Form {
+        let SuffixNode { form } = self;
+        form
     }
 }
 
@@ -226,10 +218,7 @@ impl SuffixNode {
 /// the other rules.
 #[derive(Drop)]
 pub struct Opened {
-    labels: IndexSet<Vec<u8>>,
-    nodes: Vec<SuffixNode>,
-    plain: bool,
-    exception: bool,
+    form: Form,
     // Here stands a node without rules.
     place: usize,
 }
@@ -241,15 +230,12 @@ impl Model for Opened {
 
     ghost coded = { opened_code };
 
-    ghost use Rattle.fed_suffix.specs.Node.{rules_of};
+    ghost use Rattle.fed_suffix.specs.Form.{labels_below, nodes_below, rules_by};
     ghost use Rattle.fed_suffix.specs.Opened.{label_at, IsOpened};
 
-    ghost view = { λ a. (
-      label_at (λ key. key.items) a.labels.keys a.place,
-      rules_of (λ key. key.items) a.plain a.exception a.labels.keys a.nodes.items,
-    ) };
+    ghost view = { λ a. (label_at (λ label. label) (labels_below a.form) a.place, rules_by a.form) };
 
-    ghost invariant = { λ a. IsOpened a.labels.keys a.nodes.items a.place };
+    ghost invariant = { λ a. IsOpened (labels_below a.form) (nodes_below a.form) a.place };
 }
 
 impl Opened {
@@ -258,44 +244,8 @@ impl Opened {
         requires { spec.has_rules node ≡ true }
         ensures { result ≡ closed self.0 node self.1 }
     {
-        let Opened {
-            labels,
-            mut nodes,
-            plain,
-            exception,
-            place,
-        } = self;
-        nodes[place] = node;
-        SuffixNode {
-            labels,
-            nodes,
-            plain,
-            exception,
-        }
+        let Opened { mut form, place } = self;
+        form.put_at(place, node);
+        SuffixNode { form }
     }
-}
-
-// Adds a node under a new label.
-fn add_node(
-    labels: &mut IndexSet<Vec<u8>>,
-    nodes: &mut Vec<SuffixNode>,
-    label: Vec<u8>,
-    node: SuffixNode,
-) -> Result<(), NoRoom>
-    requires { list_any (λ key. bytes_eq label.items key.items) labels.old.keys ≡ false }
-    ensures ok_labels { OnOk result (labels.new.keys ≡ labels.old.keys ++ label ∷ []) }
-    ensures ok_nodes { OnOk result (nodes.new.items ≡ nodes.old.items ++ node ∷ []) }
-    ensures err_labels { OnErr result (labels.new.keys ≡ labels.old.keys) }
-    ensures err_nodes { OnErr result (nodes.new.items ≡ nodes.old.items) }
-{
-    let Ok(()) = nodes.reserve(1) else {
-        node.let_go();
-        return Err(NoRoom);
-    };
-    let Ok(_) = labels.insert(label) else {
-        node.let_go();
-        return Err(NoRoom);
-    };
-    nodes.push_reserved(node);
-    Ok(())
 }

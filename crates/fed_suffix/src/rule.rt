@@ -1,75 +1,95 @@
 //! Rules, and the lines that hold them.
-ghost use Rattle.std.specs.Prelude.{◌≡◌, IfOk, OnOk, OnErr, position, ◌||◌, ◌==◌};
+ghost use Rattle.std.specs.Prelude.{◌≡◌, ◌≤◌, IfOk, length, take, drop, position, ◌||◌, ◌==◌};
 ghost use Rattle.std.specs.List.{list_all};
 ghost use Rattle.std.specs.FinSet as set;
+ghost use Rattle.fed_suffix.specs.Label.{labels_in};
+ghost use Rattle.fed_suffix.specs.Packed.{texts_len, rules_in};
 ghost use Rattle.fed_suffix.specs.RuleLine as spec;
 
 use crate::SuffixNode;
-use crate::insertion::insert;
-use crate::label::read_labels;
+use crate::label::{first_label, read_labels};
 use crate::walk::has_rule;
-use fed_io::{Bytes, Items, NoRoom};
+use fed_io::{Bytes, NoRoom};
 use std::alloc::Global;
 use std::marker::Model;
 
 /// A rule.
 #[derive(Drop)]
 pub struct Rule {
-    /// Its labels in ASCII form, from the right.
-    pub labels: Items<Bytes>,
-    pub exception: bool,
+    // Its labels in ASCII form, from the right, with dots between them.
+    labels: Bytes,
+    exception: bool,
 }
 
 impl Model for Rule {
-    ghost use Rattle.fed_suffix.specs.Rule.{Rule as Value_};
+    ghost use Rattle.fed_suffix.specs.Rule.{Rule as Value_, rule_code};
 
     ghost Value = { Value_ };
 
-    ghost view = { λ rule. (rule.labels, rule.exception) };
+    ghost coded = { rule_code };
+
+    ghost use Rattle.fed_suffix.specs.Label.{labels_in};
+
+    ghost view = { λ rule. (labels_in rule.labels, rule.exception) };
 }
 
 impl Rule {
-    /// The same rule.
-    pub fn copy(&self, alloc: Global) -> Result<Rule, NoRoom>
-        ensures { IfOk result (λ copy. copy ≡ self.now) }
+    /// Its labels, from the right, with dots between them.
+    pub fn labels(&self) -> &[u8]
+        ensures { labels_in result.now ≡ self.now.0 }
     {
-        Ok(Rule {
-            labels: copy_labels(alloc, self.labels.as_slice())?,
-            exception: self.exception,
-        })
+        self.labels.as_slice()
     }
 
-    /// Adds the rule to the tree, which is unchanged where there is no memory.
-    pub fn put_in(&self, alloc: Global, top: &mut SuffixNode) -> Result<(), NoRoom>
-        ensures ok { OnOk result (top.new ≡ set.insert top.old self.now) }
-        ensures err { OnErr result (top.new ≡ top.old) }
+    pub fn is_exception(&self) -> bool
+        ensures { result ≡ self.now.1 }
     {
-        insert(top, alloc, self.labels.as_slice(), self.exception)
-    }
-
-    // Whether the tree has the rule.
-    fn is_in(&self, top: &SuffixNode) -> bool
-        ensures { result ≡ set.contains top.now self.now }
-    {
-        has_rule(top, self.labels.as_slice(), self.exception)
+        self.exception
     }
 }
 
-/// Whether the tree has each of the rules.
-pub fn are_within(rules: &[Rule], top: &SuffixNode) -> bool
-    ensures { result ≡ list_all (set.contains top.now) rules.now }
-{
-    rules.iter().all(|rule| rule.is_in(top))
+/// What a list of rules keeps of a rule beside its labels.
+#[derive(Clone, Copy)]
+pub struct Mark {
+    // How many bytes the labels take.
+    len: u32,
+    pub exception: bool,
 }
 
-fn copy_labels(alloc: Global, labels: &[Bytes]) -> Result<Items<Bytes>, NoRoom>
-    ensures { IfOk result (λ copy. copy ≡ labels.now) }
-{
-    let mut copy = Items::new(alloc);
-    for label in labels {
-        copy.push(label.copy(alloc)?)?;
+impl Mark {
+    /// The mark of a rule. It is want of memory too where the labels have 2^32 bytes.
+    pub fn of(labels: &[u8], exception: bool) -> Result<Mark, NoRoom>
+        ensures len { IfOk result (λ mark. mark.len ≡ length labels.now) }
+        ensures exception { IfOk result (λ mark. mark.exception ≡ exception) }
+    {
+        let len = u32::try_from(labels.len()).map_err(|_| NoRoom)?;
+        Ok(Mark { len, exception })
     }
-    Ok(copy)
+
+    /// The labels of this first rule of a list, and those of the others.
+    pub fn split<'a>(&self, texts: &'a [u8]) -> (&'a [u8], &'a [u8])
+        requires { self.now.len ≤ length texts.now }
+        ensures labels { result.0.now ≡ take self.now.len texts.now }
+        ensures others { result.1.now ≡ drop self.now.len texts.now }
+    {
+        texts.split_at(self.len as usize)
+    }
+}
+
+/// Whether the tree has each rule of a list.
+pub fn are_within(texts: &[u8], marks: &[Mark], top: &SuffixNode) -> bool
+    requires { texts_len marks.now ≡ length texts.now }
+    ensures { result ≡ list_all (set.contains top.now) (rules_in texts.now marks.now) }
+{
+    let mut rest = texts;
+    for mark in marks {
+        let (labels, others) = mark.split(rest);
+        if !has_rule(top, labels, mark.exception) {
+            return false;
+        }
+        rest = others;
+    }
+    true
 }
 
 fn first_blank(line: &[u8]) -> Option<usize>
@@ -124,7 +144,7 @@ fn read_exception(alloc: Global, text: &[u8]) -> Result<Option<Rule>, NoRoom>
 {
     match read_labels(alloc, text)? {
         Some(labels) => {
-            if labels.len() < 2 {
+            if first_label(labels.as_slice()).after.is_none() {
                 return Ok(None);
             }
             Ok(Some(Rule {

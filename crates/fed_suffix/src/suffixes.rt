@@ -3,13 +3,14 @@ ghost use Rattle.std.specs.Prelude.{◌≡◌, ◌↔◌, IsTrue, IfOk, OnOk, On
 ghost use Rattle.std.specs.Option.{option_copied};
 ghost use Rattle.std.specs.FinSet as set;
 ghost use Rattle.fed_io.specs.Fault.{AnswersBy};
-ghost use Rattle.fed_suffix.specs.Label.{name_of, labels_of};
+ghost use Rattle.fed_suffix.specs.Label.{name_of, labels_in, labels_of};
 ghost use Rattle.fed_suffix.specs.Rule.{same_rules};
 ghost use Rattle.fed_suffix.specs.RuleLine.{rules_after};
 ghost use Rattle.fed_suffix.specs.Registrable as spec;
 
+use crate::insertion::insert;
 use crate::label::{has_empty_label, one_label_more};
-use crate::rule::{Rule, are_within, is_skipped, read_rule, rule_text};
+use crate::rule::{Mark, are_within, is_skipped, read_rule, rule_text};
 use crate::walk::suffix_len;
 use crate::{SuffixNode, SuffixRefusal};
 use fed_io::{Fault, NoRoom};
@@ -21,8 +22,10 @@ use std::marker::Model;
 /// finite set. The rule `*` always stands and is none of them.
 pub struct Suffixes {
     top: SuffixNode,
-    // All rules in the order of reading, which a copy and `same` go through.
-    rules: Vec<Rule>,
+    // The labels of all rules in the order of reading, one after another, which a copy and `same`
+    // go through.
+    texts: Vec<u8>,
+    marks: Vec<Mark>,
     alloc: Global,
 }
 
@@ -36,19 +39,20 @@ impl Model for Suffixes {
 
     ghost view = { λ s. s.top };
 
-    ghost use Rattle.fed_suffix.specs.Node.{AreIn};
+    ghost use Rattle.fed_suffix.specs.Packed.{ArePacked};
 
-    ghost invariant = { λ s. AreIn s.rules.items s.top };
+    ghost invariant = { λ s. ArePacked s.texts.items s.marks.items s.top };
 }
 
 impl Drop for Suffixes {
     fn drop(self) {
         let Suffixes {
             top,
-            rules: _,
-            alloc: _,
+            texts: _,
+            marks: _,
+            alloc,
         } = self;
-        top.let_go();
+        top.let_go(alloc);
     }
 }
 
@@ -58,8 +62,9 @@ impl Suffixes {
         ensures { result ≡ set.empty }
     {
         Suffixes {
-            top: SuffixNode::new(alloc),
-            rules: Vec::new(alloc),
+            top: SuffixNode::new(),
+            texts: Vec::new(alloc),
+            marks: Vec::new(alloc),
             alloc,
         }
     }
@@ -79,7 +84,7 @@ impl Suffixes {
         }
         match read_rule(self.alloc, text)? {
             Some(rule) => {
-                self.add(rule)?;
+                self.add(rule.labels(), rule.is_exception())?;
                 Ok(())
             }
             None => Err(Fault::Step(SuffixRefusal::BadRule)),
@@ -135,9 +140,12 @@ impl Suffixes {
         ensures { IfOk result (λ copy. copy ≡ self.now) }
     {
         let mut copy = Suffixes::new(alloc);
-        let rules = self.rules.as_slice();
-        for rule in rules {
-            copy.add(rule.copy(alloc)?)?;
+        let mut rest = self.texts.as_slice();
+        let marks = self.marks.as_slice();
+        for mark in marks {
+            let (labels, others) = mark.split(rest);
+            copy.add(labels, mark.exception)?;
+            rest = others;
         }
         Ok(copy)
     }
@@ -149,20 +157,23 @@ impl Suffixes {
         &self.top
     }
 
-    fn add(&mut self, rule: Rule) -> Result<(), NoRoom>
-        ensures ok { OnOk result (self.new ≡ set.insert self.old rule) }
+    fn add(&mut self, labels: &[u8], exception: bool) -> Result<(), NoRoom>
+        ensures ok { OnOk result (self.new ≡ set.insert self.old (labels_in labels.now, exception)) }
         ensures err { OnErr result (self.new ≡ self.old) }
     {
-        self.rules.reserve(1)?;
-        rule.put_in(self.alloc, &mut self.top)?;
-        self.rules.push_reserved(rule);
+        let mark = Mark::of(labels, exception)?;
+        self.texts.reserve(labels.len())?;
+        self.marks.reserve(1)?;
+        insert(&mut self.top, self.alloc, labels, exception)?;
+        self.texts.extend_from_slice(labels).unwrap();
+        self.marks.push_reserved(mark);
         Ok(())
     }
 
     fn is_within(&self, other: &Suffixes) -> bool
         ensures { result ≡ set.is_subset self.now other.now }
     {
-        are_within(self.rules.as_slice(), &other.top)
+        are_within(self.texts.as_slice(), self.marks.as_slice(), &other.top)
     }
 
     // The registrable domain of a name that is no address.

@@ -2,14 +2,13 @@
 ghost use Rattle.std.specs.Prelude.{◌≡◌, max, length, ◌<◌, ◌+◌, ◌^◌, true, false, option_and_then};
 ghost use Rattle.std.specs.Option.{option_copied, option_map_or, option_or};
 ghost use Rattle.std.specs.FinSet as set;
-ghost use Rattle.fed_suffix.specs.Label.{labels_before, labels_of};
+ghost use Rattle.fed_suffix.specs.Label.{labels_before, labels_in, labels_of};
 ghost use Rattle.fed_suffix.specs.Registrable.{matching, suffix_len};
 ghost use Rattle.fed_suffix.specs.Node.{child};
 ghost use Rattle.fed_suffix.specs.Walk.{ending_at, child_by_star, longest_from, longest_by};
 
 use crate::SuffixNode;
-use crate::label::last_label;
-use fed_io::Bytes;
+use crate::label::{first_label, last_label};
 
 /// How many labels the longest exception and the longest other rule have, 0 where there is none.
 #[derive(Clone, Copy)]
@@ -38,15 +37,18 @@ pub fn suffix_len(top: &SuffixNode, name: &[u8]) -> usize
 }
 
 /// Whether the rule with these labels, from the right, was read.
-pub fn has_rule(top: &SuffixNode, labels: &[Bytes], exception: bool) -> bool
-    ensures { result ≡ set.contains top.now (labels.now, exception) }
+pub fn has_rule(top: &SuffixNode, labels: &[u8], exception: bool) -> bool
+    ensures { result ≡ set.contains top.now (labels_in labels.now, exception) }
 {
     let mut node = top;
-    for label in labels {
-        match node.child(label.as_slice()) {
-            Some(next) => node = next,
-            None => return false,
-        }
+    let mut rest = Some(labels);
+    while let Some(text) = rest {
+        let first = first_label(text);
+        let Some(next) = node.child(first.label) else {
+            return false;
+        };
+        node = next;
+        rest = first.after;
     }
     node.has(exception)
 }

@@ -1,2 +1,3 @@
 pub mod Cors
 pub mod Read
+pub mod Said

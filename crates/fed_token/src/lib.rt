@@ -3,6 +3,7 @@
 
 mod cors;
 mod read;
+mod said;
 mod step;
 
 pub use cors::cors_passes;

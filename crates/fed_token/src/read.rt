@@ -1,40 +1,35 @@
 //! Reading replies of the assertion and the disconnect endpoints.
 ghost use Rattle.std.specs.Prelude.{◌≡◌, IfOk, IfErr};
-ghost use Rattle.fed_json.specs.Part.{data_at};
-ghost use Rattle.fed_io.specs.Fault.{Answers, AnswersBy};
+ghost use Rattle.fed_io.specs.Fault.{Answers};
 ghost use Rattle.fed_origin.specs.Origin.{origin_text};
 ghost use Rattle.fed_reply.specs.Members.{member_map};
-ghost use Rattle.fed_reply.specs.Shape.{present};
+ghost use Rattle.fed_reply.specs.Shape.{present, required};
 ghost use Rattle.fed_token.specs.Read as spec;
+ghost use Rattle.fed_token.specs.Said as said;
 
 use crate::TokenStep;
 use crate::cors::{ALLOW_CREDENTIALS, ALLOW_ORIGIN};
+use crate::said::{ErrorTexts, Said, whole_said};
 use fed_io::{Fault, NoRoom, Text};
-use fed_json::Part;
+use fed_json::Values;
 use fed_origin::Origin;
-use fed_reply::{JsonBuffer, Member, object_member, read_json_with, text_member};
-use json::Tape;
+use fed_reply::{Asked, JsonBuffer, Member, ReplyStep, open_json_with, whole_texts};
 use std::alloc::Global;
 
 /// Reads the token in a reply of the identity assertion endpoint (FedCM, "The identity assertion
 /// endpoint") to a page of the origin. The steps are those of a reply, with `Cors` after `Short` and
 /// before `Status`; then `ProviderError` where there is no token and the value has an error, and
 /// `Shape` where it has neither.
-#[tactic(auto, unfolding(crate::specs::Read::AssertionOf))]
 pub fn read_assertion(alloc: Global, raw: &[u8], origin: &Origin) -> Result<Text, Fault<TokenStep>>
     ensures { Answers result (spec.AssertionOf raw.now (origin_text origin.now)) }
 {
     let mut buffer = JsonBuffer::new(alloc);
-    match checked_json(alloc, raw, origin, &mut buffer) {
-        Ok(tape) => token(alloc, &Part::of(&tape)),
-        Err(fault) => Err(fault),
-    }
+    token_of_reply(alloc, raw, origin, &mut buffer)
 }
 
 /// Reads the account id in a reply of the disconnect endpoint (FedCM, "The disconnect endpoint") to
 /// a page of the origin. The steps are those of `read_assertion` up to `Json`, and `Shape` where
 /// there is no id. An `error` in such a reply is not read, so the step is never `ProviderError`.
-#[tactic(auto, unfolding(crate::specs::Read::DisconnectOf))]
 pub fn read_disconnect(alloc: Global, raw: &[u8], origin: &Origin) -> Result<Text, Fault<TokenStep>>
     ensures answers { Answers result (spec.DisconnectOf raw.now (origin_text origin.now)) }
 
@@ -42,20 +37,59 @@ pub fn read_disconnect(alloc: Global, raw: &[u8], origin: &Origin) -> Result<Tex
     ensures never { IfErr result spec.IsDisconnectFault }
 {
     let mut buffer = JsonBuffer::new(alloc);
-    match checked_json(alloc, raw, origin, &mut buffer) {
-        Ok(tape) => account_id(alloc, &Part::of(&tape)),
-        Err(fault) => Err(fault),
+    account_id_of_reply(alloc, raw, origin, &mut buffer)
+}
+
+// The token in a reply, with what is read from. The buffer is let go at one place: each place would take a copy of its 16 KB.
+#[tactic(auto, unfolding(crate::specs::Read::AssertionOf))]
+fn token_of_reply(
+    alloc: Global,
+    raw: &[u8],
+    origin: &Origin,
+    buffer: &mut JsonBuffer,
+) -> Result<Text, Fault<TokenStep>>
+    ensures { Answers result (spec.AssertionOf raw.now (origin_text origin.now)) }
+{
+    let mut values = match checked_values(alloc, raw, origin, buffer) {
+        Ok(values) => values,
+        Err(fault) => return Err(fault),
+    };
+    match whole_said(&mut values) {
+        Ok(said) => token(alloc, &said),
+        Err(_) => Err(Fault::Step(TokenStep::Reply(ReplyStep::Json))),
     }
 }
 
-// The JSON value of a reply that a page of the origin may read: it has the two fields that `cors_passes` asks for.
-fn checked_json<'a>(
+// The account id in a reply, with what is read from.
+#[tactic(auto, unfolding(crate::specs::Read::DisconnectOf))]
+fn account_id_of_reply(
+    alloc: Global,
+    raw: &[u8],
+    origin: &Origin,
+    buffer: &mut JsonBuffer,
+) -> Result<Text, Fault<TokenStep>>
+    ensures answers { Answers result (spec.DisconnectOf raw.now (origin_text origin.now)) }
+    ensures never { IfErr result spec.IsDisconnectFault }
+{
+    let mut values = match checked_values(alloc, raw, origin, buffer) {
+        Ok(values) => values,
+        Err(fault) => return Err(fault),
+    };
+    let mut asked = [Asked::new("account_id")];
+    match whole_texts(&mut values, &mut asked) {
+        Ok(_) => account_id(alloc, asked[0].found),
+        Err(_) => Err(Fault::Step(TokenStep::Reply(ReplyStep::Json))),
+    }
+}
+
+// The values of a reply that a page of the origin may read: it has the two fields that `cors_passes` asks for.
+fn checked_values<'a>(
     alloc: Global,
     raw: &'a [u8],
     origin: &Origin,
     buffer: &'a mut JsonBuffer,
-) -> Result<Tape<'a>, Fault<TokenStep>>
-    ensures answers { AnswersBy data_at result (spec.CheckedJsonOf raw.now (origin_text origin.now)) }
+) -> Result<Values<'a>, Fault<TokenStep>>
+    ensures answers { said.Opens result (spec.CheckedJsonOf raw.now (origin_text origin.now)) }
     ensures never { IfErr result spec.IsDisconnectFault }
 {
     let origin = origin.serialize(alloc)?;
@@ -63,52 +97,52 @@ fn checked_json<'a>(
         (ALLOW_ORIGIN, origin.as_str().as_bytes()),
         (ALLOW_CREDENTIALS, b"true".as_slice()),
     ];
-    match read_json_with(alloc, raw, &allowed, buffer) {
-        Ok(Some(tape)) => Ok(tape),
+    match open_json_with(alloc, raw, &allowed, buffer) {
+        Ok(Some(values)) => Ok(values),
         Ok(None) => Err(Fault::Step(TokenStep::Cors)),
         Err(Fault::Step(step)) => Err(Fault::Step(TokenStep::Reply(step))),
         Err(Fault::NoRoom) => Err(Fault::NoRoom),
     }
 }
 
-// The token of a value.
-fn token(alloc: Global, value: &Part<'_, '_>) -> Result<Text, Fault<TokenStep>>
-    ensures { Answers result (spec.token_of (data_at value.now)) }
+// The token that a value says.
+fn token(alloc: Global, found: &Said<'_>) -> Result<Text, Fault<TokenStep>>
+    ensures { Answers result (said.token_by (said.parts found.now)) }
 {
-    match text_member(value, "token") {
+    match found.token {
         Member::Is(token) => Ok(Text::of(alloc, token)?),
         Member::Absent | Member::Wrong => {
-            let step = error_step(alloc, object_member(value, "error"))?;
+            let step = error_step(alloc, &found.error)?;
             Err(Fault::Step(step))
         }
     }
 }
 
-// The account id of a value.
-fn account_id(alloc: Global, value: &Part<'_, '_>) -> Result<Text, Fault<TokenStep>>
-    ensures answers { Answers result (spec.account_id_of (data_at value.now)) }
+// The account id that a value says.
+fn account_id(alloc: Global, found: Member<&str>) -> Result<Text, Fault<TokenStep>>
+    ensures answers { Answers result (required TokenStep.Shape (member_map (λ s. s.now) found.entry)) }
     ensures never { IfErr result spec.IsDisconnectFault }
 {
-    match text_member(value, "account_id") {
+    match found {
         Member::Is(id) => Ok(Text::of(alloc, id)?),
         Member::Absent | Member::Wrong => Err(Fault::Step(TokenStep::Shape)),
     }
 }
 
 // The step of a value without a token, by its error.
-fn error_step(alloc: Global, error: Member<Part<'_, '_>>) -> Result<TokenStep, NoRoom>
-    ensures { IfOk result (λ step. step ≡ spec.error_step (member_map data_at error.entry)) }
+fn error_step(alloc: Global, error: &Option<ErrorTexts<'_>>) -> Result<TokenStep, NoRoom>
+    ensures { IfOk result (λ step. step ≡ said.step_by error.now) }
 {
     match error {
-        Member::Is(error) => {
-            let code = match text_in(alloc, text_member(&error, "code"))? {
+        Some(error) => {
+            let code = match text_in(alloc, error.code)? {
                 Some(code) => code,
                 None => Text::of(alloc, "")?,
             };
-            let url = text_in(alloc, text_member(&error, "url"))?;
+            let url = text_in(alloc, error.url)?;
             Ok(TokenStep::ProviderError { code, url })
         }
-        Member::Absent | Member::Wrong => Ok(TokenStep::Shape),
+        None => Ok(TokenStep::Shape),
     }
 }
 

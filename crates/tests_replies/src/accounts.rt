@@ -52,7 +52,19 @@ shape | [{"id":"u1","name":"Ann","email":"a@x","login_hints":{}}]
 shape | [{"id":"u1","name":"Ann","email":"a@x","login_hints":[1]}]
 shape | [{"id":"u1","name":"Ann","email":"a@x","domain_hints":0}]
 shape | [{"id":"u1","name":"Ann","email":"a@x","domain_hints":[[]]}]
-shape | [{"id":"u1","name":"Ann","email":"a@x"},{"id":"u1"}]"#;
+shape | [{"id":"u1","name":"Ann","email":"a@x"},{"id":"u1"}]
+u2 | [{"id":"u1","name":"","email":""}],"accounts":[{"id":"u2","name":"","email":""}]
+u2 | [{"id":"u1"}],"accounts":[{"id":"u2","name":"","email":""}],"more":{"accounts":[]}
+u1 | [{"id":"u1","name":1,"email":"","login_hints":[1,{}],"more":[[1e300,{"id":2}],true],"name":"","login_hints":null}]
+shape | [{"id":"u1","name":"","email":""}],"accounts":null
+empty | [1],"accounts":[]
+shape | [{"id":"u1"},[{"more":[]}],1,"",null]
+json | [{"id":"u1"},[{"more":[}]]
+json | [{"id":"u1","name":"","email":"","more":1e999}]
+json | 1,"more":[-1e999]
+json | {},"more":tru
+json | [],"accounts"
+json | []}{"more":{}"#;
 
 // A line: the ids that are left, or `none`, a login hint and a domain hint (`-` for no hint).
 const HINTS: &str = "u1,u2,u3 | - | -

@@ -6,7 +6,7 @@ use crate::token::{origin_of, shown};
 use fed_io::{Fault, NoRoom};
 use fed_origin::{Origin, WebUrl};
 use fed_provider::read_config;
-use fed_reply::{JsonBuffer, Reply, json_of, read_reply};
+use fed_reply::{Asked, JsonBuffer, read_reply, read_texts};
 use fed_token::read_assertion;
 use std::alloc::{AllocError, Global};
 use std::process::Abort;
@@ -54,12 +54,22 @@ fn good_line(alloc: Global, body: &[u8]) -> Result<String, Fail> {
     Ok(format!(in alloc; "good {body}")?)
 }
 
-// `good` and the body of a reply, or the name of the step at which its value is refused.
-fn value_line(alloc: Global, reply: Reply) -> Result<String, Fail> {
-    let good = good_line(alloc, reply.body())?;
+// `good` and the body, or the name of the step at which the value of a reply is refused.
+fn value_line(alloc: Global, raw: &[u8], body: &[u8]) -> Result<String, Fail> {
     let mut buffer = JsonBuffer::new(alloc);
-    match json_of(alloc, reply, &mut buffer) {
-        Ok(_) => Ok(good),
+    line_by(alloc, raw, body, &mut buffer)
+}
+
+// The same, with what is read from.
+fn line_by(
+    alloc: Global,
+    raw: &[u8],
+    body: &[u8],
+    buffer: &mut JsonBuffer,
+) -> Result<String, Fail> {
+    let mut asked = [Asked::new("a")];
+    match read_texts(alloc, raw, buffer, &mut asked) {
+        Ok(()) => good_line(alloc, body),
         Err(Fault::Step(step)) => Ok(String::from_str(alloc, reply_name(step))?),
         Err(Fault::NoRoom) => Err(Fail::from(NoRoom)),
     }
@@ -68,7 +78,7 @@ fn value_line(alloc: Global, reply: Reply) -> Result<String, Fail> {
 // `good` and the body of a reply, or the name of the first step that refuses it.
 fn answer_line(alloc: Global, raw: &[u8]) -> Result<String, Fail> {
     match read_reply(alloc, raw) {
-        Ok(reply) => value_line(alloc, reply),
+        Ok(reply) => value_line(alloc, raw, reply.body()),
         Err(Fault::Step(step)) => Ok(String::from_str(alloc, reply_name(step))?),
         Err(Fault::NoRoom) => Err(Fail::from(NoRoom)),
     }

@@ -77,6 +77,22 @@ fn well_known_files(rt: HostRuntime) -> Result<(), Fail> {
             "well-known shape",
         ),
         ("[]", "well-known shape"),
+        (
+            "[],\"provider_urls\":[\"https://accounts.idp.example/fedcm.json\"]",
+            "good",
+        ),
+        (
+            "[\"https://accounts.idp.example/fedcm.json\"],\"provider_urls\":null",
+            "well-known shape",
+        ),
+        (
+            "[[\"https://accounts.idp.example/fedcm.json\"]]",
+            "well-known shape",
+        ),
+        (
+            "[\"https://accounts.idp.example/fedcm.json\"],\"x\":[1",
+            "well-known reply",
+        ),
     ];
     for (list, step) in rows {
         let found = list_step(rt.alloc(), list, &base, &config)?;

@@ -3,8 +3,8 @@ use fed_io::{Fault, NoRoom};
 use fed_json::Part;
 use fed_reply::ReplyStep::{Chunk, Coding, Head, Json, Length, Mime, Short, Status};
 use fed_reply::{
-    JsonBuffer, Member, Reply, ReplyStep, json_of, list_member, object_member, read_head,
-    read_reply, text_member,
+    Asked, JsonBuffer, Member, Reply, ReplyStep, json_of, list_member, object_member, read_head,
+    read_reply, read_texts, text_member,
 };
 use std::alloc::Global;
 use std::test::Fail;
@@ -214,5 +214,27 @@ fn members(rt: HostRuntime) -> Result<(), Fail> {
     assert!(rt; matches!(list_member(&value, "a"), Member::Wrong));
     assert!(rt; matches!(object_member(&value, "c"), Member::Is(_)));
     assert!(rt; matches!(object_member(&value, "a"), Member::Wrong));
+    Ok(())
+}
+
+#[test]
+fn texts_of_a_reply(rt: HostRuntime) -> Result<(), Fail> {
+    let raw =
+        b"HTTP/1.1 200 OK\r\nContent-Type: text/json\r\n\r\n{\"a\":\"s\",\"a\":\"t\",\"b\":[1],\"c\":{},\"d\":null}";
+    let mut buffer = JsonBuffer::new(rt.alloc());
+    let mut asked = [
+        Asked::new("a"),
+        Asked::new("b"),
+        Asked::new("c"),
+        Asked::new("d"),
+        Asked::new("e"),
+    ];
+    let read = settled(read_texts(rt.alloc(), raw.as_slice(), &mut buffer, &mut asked))?;
+    assert_eq!(rt; read, Ok(()));
+    assert!(rt; matches!(asked[0].found, Member::Is("t")));
+    assert!(rt; matches!(asked[1].found, Member::Wrong));
+    assert!(rt; matches!(asked[2].found, Member::Wrong));
+    assert!(rt; matches!(asked[3].found, Member::Absent));
+    assert!(rt; matches!(asked[4].found, Member::Absent));
     Ok(())
 }

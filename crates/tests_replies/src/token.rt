@@ -41,6 +41,12 @@ error  /why | {"error":{"url":"/why"}}
 error  - | {"error":{"code":1,"url":["/why"]}}
 error  - | {"token":null,"error":{"code":null}}
 error x - | {"token":["T1"],"error":{"code":"x"}}
+"T1" | {"x":[{"token":"no"},[[]],{}],"token":"T1"}
+error b - | {"error":{"code":"a"},"error":{"code":"c","code":"b"}}
+shape | {"error":{"code":"a"},"error":null}
+json | {"token":"T1"}x
+json | {"token":"T1","x":1e999}
+json | {"token":1,"error":{"code":"a",}}
 shape | {}
 shape | {"error":null}
 shape | {"error":"access_denied"}

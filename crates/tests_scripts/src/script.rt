@@ -201,6 +201,7 @@ ok | {"do": "load","page":1,"url":"https://a/"}
 ok | {"do":"get","page":1,"call":4,"providers":[{"config":"https://a/","client":"\u0063"}]}
 ok | {"do":"get","page":1,"call":5,"providers":[{"config":"https://a/","client":"ä"}]}
 ok | {"do":"get","page":1,"call":6,"providers":[{"config":"https://a/","client":""}]}
+ok | {"do":"get","page":1,"call":7,"providers":1,"providers":[{"config":"ws://a/","client":1,"config":"https://a/","client":"c"}]}
 ok | {"do":"closepage","page":4294967295}
 ok | {"do":"continue","call":0}"#
     )
@@ -208,7 +209,7 @@ ok | {"do":"continue","call":0}"#
 
 #[test]
 fn good_lines(rt: HostRuntime) -> Result<(), Fail> {
-    assert_eq!(rt; taken(rt.alloc(), 1_700_000_000, good_rows())?, ("", 17));
+    assert_eq!(rt; taken(rt.alloc(), 1_700_000_000, good_rows())?, ("", 18));
     Ok(())
 }
 
@@ -258,6 +259,11 @@ member.providers | {"do":"get","page":1,"call":1,"providers":{"config":"https://
 member.providers | {"do":"get","page":1,"call":1,"providers":[]}
 member.providers | {"do":"get","page":1,"call":1,"providers":["x"]}
 member.providers | {"do":"get","page":1,"call":1,"providers":[{},{}]}
+member.providers | {"do":"get","page":1,"call":1,"providers":[{"config":"https://a","client":"c"},1]}
+member.providers | {"do":"get","page":1,"call":1,"providers":[{"config":"https://a","client":"c"}],"providers":null}
+not-json | {"do":"get","page":1,"call":1,"providers":[{"config":"https://a","client":"c"},1e999]}
+not-json | {"do":"get","page":1,"call":1,"providers":[1,{"config":"https://a","client":"c"}}
+no-kind | [{"do":"closepage","page":1}]
 member.config | {"do":"get","page":1,"call":1,"providers":[{"client":1}]}
 member.client | {"do":"get","page":1,"call":1,"providers":[{"config":"","nonce":1}]}
 member.nonce | {"do":"get","page":1,"call":1,"providers":[{"config":"","client":"","nonce":1,"login_hint":1}]}

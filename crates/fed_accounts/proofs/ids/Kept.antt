@@ -2,7 +2,7 @@
 use Rattle.std.proofs.Common.{◌≡◌, ℕ, Bool, true, false, cond, not, List, [], ◌∷◌, ◌++◌, ◌||◌, ◌==◌, map, length}
 use Rattle.std.proofs.Common.{refl, sym, ap, ◌∙◌}
 use Rattle.std.proofs.Common.{append_assoc, append-nil, arith}
-use Rattle.std.specs.Prelude.{bytes_eq, filter, codes, Option, None, Result, Ok, Err, if◌then◌else◌}
+use Rattle.std.specs.Prelude.{bytes_eq, filter, codes, Option, Some, None, option_map, ok_or, Result, Ok, Err, if◌then◌else◌}
 use Rattle.std.specs.List.{list_any, IsDistinct}
 use Rattle.std.proofs.lemmas.List.{map-append}
 use Rattle.std.proofs.lemmas.List.Elements.{filter-append}
@@ -11,6 +11,7 @@ use Rattle.serde_json.specs.Data.{Data, Items, no_items, item}
 use Rattle.fed_reply.specs.declared.member.Member.{Member}
 use Rattle.fed_reply.specs.declared.member.Member.TheVariants.{Absent, Wrong, Is}
 use Rattle.fed_reply.specs.declared.step.ReplyStep.{ReplyStep}
+use Rattle.fed_reply.specs.declared.step.ReplyStep.TheVariants.{Json}
 use Rattle.fed_reply.specs.Json.{ReplyJsonOf}
 use Rattle.fed_reply.specs.Members.{list_under}
 use Rattle.fed_reply.specs.Shape.{required}
@@ -21,7 +22,7 @@ use Rattle.fed_accounts.specs.declared.step.AccountsStep.{AccountsStep}
 use Rattle.fed_accounts.specs.declared.step.AccountsStep.TheVariants.{Reply, Shape, Empty}
 use Rattle.fed_accounts.specs.Accounts.{same_id, first_of_each_id}
 use Rattle.fed_accounts.specs.Hints.{is_hinted, some_left, Hinted, HintedOf}
-use Rattle.fed_accounts.specs.Kept.{kept_of, kept_entries, settled}
+use Rattle.fed_accounts.specs.Kept.{kept_of, kept_entries, kept_in, settled}
 use Rattle.fed_accounts.specs.Read.{each, account_of, with_some, AccountsOf}
 use Rattle.fed_accounts.proofs.ids.Distinct.{some_distinct}
 use Rattle.fed_accounts.proofs.ids.Firsts.{firsts_more}
@@ -205,23 +206,52 @@ some_settled login domain (a ∷ accounts) =
     ap (λ b. if not b then some_left (filter (is_hinted login domain) (first_of_each_id (a ∷ accounts))) else Err Empty)
     (sym (not_none a accounts))
 
-settles : (login domain : Option (List ℕ)) (r : Result (List Account) AccountsStep) (kept : Kept)
-    → with_ok (kept_of login domain) r ≡ Ok kept
-    → ((r >>= with_some) >>= (λ some. Hinted some login domain)) ≡ settled kept
-settles login domain (Ok accounts) kept is = some_settled login domain accounts ∙ ap (and_then settled) is
-settles login domain (Err step) kept is = absurd (cc)
+settles : (login domain : Option (List ℕ)) (r : Result (List Account) AccountsStep)
+    → ((r >>= with_some) >>= (λ some. Hinted some login domain)) ≡ and_then settled (with_ok (kept_of login domain) r)
+settles login domain (Ok accounts) = some_settled login domain accounts
+settles login domain (Err step) = refl
 
--- what is kept of the entries of the list under `accounts` is the answer
-pub hinted_by : (raw : List ℕ) (login domain : Option (List ℕ)) (file : Data) (entries : Items) (kept : Kept)
-    → ReplyJsonOf raw ≡ Ok file
-    → Is entries ≡ list_under (codes "accounts") file → kept_entries login domain entries ≡ Ok kept
-    → HintedOf raw login domain ≡ settled kept
+settles_under : (login domain : Option (List ℕ)) (m : Member Items)
+    → ((required Shape m >>= (λ es. each account_of es >>= with_some)) >>= (λ some. Hinted some login domain))
+    ≡ and_then settled (required Shape m >>= kept_entries login domain)
+settles_under login domain Absent = refl
+settles_under login domain Wrong = refl
+settles_under login domain (Is entries) = settles login domain (each account_of entries)
+
+-- what is kept of a file is the answer
+pub hinted_by : (raw : List ℕ) (login domain : Option (List ℕ)) (file : Data) (kept : Result Kept AccountsStep)
+    → ReplyJsonOf raw ≡ Ok file → kept_in login domain file ≡ kept → HintedOf raw login domain ≡ and_then settled kept
 unfolding HintedOf AccountsOf
-hinted_by raw login domain file entries kept read there is =
+hinted_by raw login domain file kept read is =
     ap (λ r. (with_step Reply r >>= (λ f. required Shape (list_under (codes "accounts") f) >>= (λ es. each account_of es >>= with_some)))
     >>= (λ some. Hinted some login domain)) read
-    ∙ ap (λ m. (required Shape m >>= (λ es. each account_of es >>= with_some)) >>= (λ some. Hinted some login domain)) (sym there)
-    ∙ settles login domain (each account_of entries) kept is
+    ∙ settles_under login domain (list_under (codes "accounts") file) ∙ ap (and_then settled) is
+
+-- the step of the reply is the answer
+pub reply_refused : (raw : List ℕ) (login domain : Option (List ℕ)) (step : ReplyStep) → ReplyJsonOf raw ≡ Err step
+    → HintedOf raw login domain ≡ Err (Reply step)
+unfolding HintedOf AccountsOf
+reply_refused raw login domain step read =
+    ap (λ r. (with_step Reply r >>= (λ f. required Shape (list_under (codes "accounts") f) >>= (λ es. each account_of es >>= with_some)))
+    >>= (λ some. Hinted some login domain)) read
+
+some_whole : (login domain : Option (List ℕ)) (whole : Option Data) (kept : Result Kept AccountsStep)
+    → option_map (kept_in login domain) whole ≡ Some kept → (file : Data) × (whole ≡ Some file) × (kept_in login domain file ≡ kept)
+some_whole login domain None kept e = absurd (cc)
+some_whole login domain (Some file) kept e = (file, refl, cc)
+
+-- the same by the text that the reply opens
+pub hinted_whole : (raw : List ℕ) (login domain : Option (List ℕ)) (whole : Option Data) (kept : Result Kept AccountsStep)
+    → ReplyJsonOf raw ≡ ok_or whole Json → option_map (kept_in login domain) whole ≡ Some kept
+    → HintedOf raw login domain ≡ and_then settled kept
+hinted_whole raw login domain whole kept opened is =
+    let file = some_whole login domain whole kept is in
+    hinted_by raw login domain file.0 kept (opened ∙ ap (λ o. ok_or o Json) file.1) file.2
+
+pub hinted_none : (raw : List ℕ) (login domain : Option (List ℕ)) (whole : Option Data) → ReplyJsonOf raw ≡ ok_or whole Json
+    → whole ≡ None
+    → HintedOf raw login domain ≡ Err (Reply Json)
+hinted_none raw login domain whole opened none = reply_refused raw login domain Json (opened ∙ ap (λ o. ok_or o Json) none)
 
 -- ---- without hints
 

@@ -1,226 +1,222 @@
 -- One pass over the members of an entry finds under each name what the last of that name has.
-use Rattle.std.proofs.Common.{◌≡◌, ◌∙◌, ℕ, Bool, true, false, cond, true≢false, List, bytes_eq, Option, Some, None}
-use Rattle.std.proofs.Common.{option_map, refl, sym, ap}
-use Rattle.std.specs.Prelude.{codes, Err}
+use Rattle.std.proofs.Common.{◌≡◌, ◌∙◌, ℕ, Bool, true, false, cond, List, true≢false, bytes_eq, Option, Some, None, refl, sym, ap, ap₂}
+use Rattle.std.specs.Prelude.{codes, Result, Ok, Err}
 use Rattle.std.proofs.lemmas.Slice.Eq.{bytes_eq-Decides}
-use Rattle.json.specs.Token.{Token}
-use Rattle.serde_json.specs.Data.{Data, null, boolean, number, string, array, object, Items, Members, no_members}
+use Rattle.serde_json.specs.Data.{Data, null, boolean, number, string, array, object, Items, Members, put}
 use Rattle.serde_json.specs.Find.{get_member, as_str, as_array, as_object}
-use Rattle.fed_json.specs.Part.{data_at, data_or, if_named}
+use Rattle.serde_json.proofs.Views.{get_member-put, get_member-put_other}
 use Rattle.fed_reply.specs.declared.member.Member.{Member}
-use Rattle.fed_reply.specs.declared.member.Member.TheVariants.{Absent}
-use Rattle.fed_reply.specs.Members.{member_map, member_found, member_of, text_under, list_under}
-use Rattle.fed_reply.specs.Steps.{◌>>=◌}
-use Rattle.fed_accounts.specs.declared.members.Texts.{Texts}
-use Rattle.fed_accounts.specs.declared.members.Lists.{Lists}
+use Rattle.fed_reply.specs.declared.member.Member.TheVariants.{Absent, Wrong, Is}
+use Rattle.fed_reply.specs.Members.{member_here, member_found}
+use Rattle.fed_reply.specs.Shape.{required, optional}
+use Rattle.fed_reply.specs.Steps.{◌>>=◌, with_ok}
+use Rattle.fed_accounts.specs.declared.account.Account.{Account}
+use Rattle.fed_accounts.specs.declared.step.AccountsStep.{AccountsStep}
 use Rattle.fed_accounts.specs.declared.step.AccountsStep.TheVariants.{Shape}
-use Rattle.fed_accounts.specs.Found.{text_if, text_after, lists_with, FindsText, FindsList, Finds, texts_by, lists_by, list_found}
-use Rattle.fed_accounts.specs.Read.{texts_of, with_lists, account_of}
-
--- ---- nothing is found yet
-
-no_text : (o : Option Data) → text_after o Absent ≡ member_found as_str o
-no_text None = refl
-no_text (Some d) = refl
-
-no_list : (o : Option Data) → data_or o None ≡ o
-no_list None = refl
-no_list (Some d) = refl
-
-pub finds_begin : (all : Members)
-    → Finds all all (record { id = Absent; name = Absent; email = Absent; given_name = Absent; picture = Absent })
-    (record { approved = None; login_hints = None; domain_hints = None })
-finds_begin all =
-    record {
-      id = no_text (get_member (codes "id") all);
-      name = no_text (get_member (codes "name") all);
-      email = no_text (get_member (codes "email") all);
-      given_name = no_text (get_member (codes "given_name") all);
-      picture = no_text (get_member (codes "picture") all);
-      approved = no_list (get_member (codes "approved_clients") all);
-      login_hints = no_list (get_member (codes "login_hints") all);
-      domain_hints = no_list (get_member (codes "domain_hints") all);
-    }
+use Rattle.fed_accounts.specs.Found.{FoundParts, list_found, listed, parts_of, parts_with, or_empty, account_found}
+use Rattle.fed_accounts.specs.Read.{AccountTexts, each, text_of, optional_list, list_or_empty, account_of, texts_of, with_lists}
 
 -- ---- one member more
 
-next_text : (o : Option Data) (wanted : Bool) (d : Data) (before : Member (List ℕ))
-    → text_after (data_or o (cond wanted (Some d) None)) before ≡ text_after o (text_if wanted d before)
-next_text None true d before = refl
-next_text None false d before = refl
-next_text (Some e) wanted d before = refl
+same : (k : List ℕ) (d : Data) (ms : Members) → get_member k (put k d ms) ≡ Some d
+same k d ms = get_member-put k d ms
 
-next_list : (o : Option Data) (wanted : Bool) (d : Data) (before : Option Data)
-    → data_or (data_or o (cond wanted (Some d) None)) before ≡ data_or o (cond wanted (Some d) before)
-next_list None true d before = refl
-next_list None false d before = refl
-next_list (Some e) wanted d before = refl
+other : (name k : List ℕ) (d : Data) (ms : Members) → bytes_eq k name ≡ false → get_member name (put k d ms) ≡ get_member name ms
+other name k d ms differs =
+    get_member-put_other name k d ms (λ is. true≢false (sym ((bytes_eq-Decides k name).1 (sym is)) ∙ differs))
 
--- the member that was taken, of the name `key` and the value at `ts`, and those that are left have all under each name
-abbrev Takes : Members → List ℕ → List Token → Members → Type 0
-Takes old key ts new = (name : List ℕ) → get_member name old ≡ data_or (get_member name new) (if_named name (key, ts))
+-- what a member of that name, or another, leaves under the name
+abbrev Has : List ℕ → List ℕ → Data → Members → Type 0
+Has name k d ms = get_member name (put k d ms) ≡ cond (bytes_eq k name) (Some d) (get_member name ms)
 
-text_more : (name key : List ℕ) (ts : List Token) (all old new : Members) (before after : Member (List ℕ)) → Takes old key ts new
-    → after ≡ text_if (bytes_eq key name) (data_at ts) before → FindsText name all old before → FindsText name all new after
-text_more name key ts all old new before after takes kept here =
-    ap (text_after (get_member name new)) kept
-    ∙ sym (next_text (get_member name new) (bytes_eq key name) (data_at ts) before)
-    ∙ ap (λ o. text_after o before) (sym (takes name)) ∙ here
-
-list_more : (name key : List ℕ) (ts : List Token) (all old new : Members) (before after : Option (List Token)) → Takes old key ts new
-    → option_map data_at after ≡ cond (bytes_eq key name) (Some (data_at ts)) (option_map data_at before)
-    → FindsList name all old before → FindsList name all new after
-list_more name key ts all old new before after takes kept here =
-    ap (data_or (get_member name new)) kept
-    ∙ sym (next_list (get_member name new) (bytes_eq key name) (data_at ts) (option_map data_at before))
-    ∙ ap (λ o. data_or o (option_map data_at before)) (sym (takes name)) ∙ here
-
--- a name is one of two words at most
-one_word : (key a b : List ℕ) → bytes_eq key a ≡ true → bytes_eq key b ≡ true → bytes_eq a b ≡ true
-one_word key a b is also = ap (λ k. bytes_eq k b) (sym ((bytes_eq-Decides key a).0 is)) ∙ also
-
--- of the three names of lists a member has the one alone that it is kept under
-kept_approved : (key : List ℕ) (ts : List Token) (lists : Lists)
-    → option_map data_at (lists_with key ts lists).approved
-    ≡ cond (bytes_eq key (codes "approved_clients")) (Some (data_at ts)) (option_map data_at lists.approved)
-kept_approved key ts lists =
-    by (bytes_eq key (codes "approved_clients")) (bytes_eq key (codes "login_hints")) (bytes_eq key (codes "domain_hints"))
+has : (name k : List ℕ) (d : Data) (ms : Members) → Has name k d ms
+has name k d ms = by (bytes_eq k name) refl
   where
-    by : (a l d : Bool)
-        → option_map data_at (cond a (record lists { approved = Some ts }) (cond l (record lists { login_hints = Some ts })
-        (cond d (record lists { domain_hints = Some ts }) lists))).approved
-        ≡ cond a (Some (data_at ts)) (option_map data_at lists.approved)
-    by true l d = refl
-    by false true d = refl
-    by false false true = refl
-    by false false false = refl
+    by : (b : Bool) → bytes_eq k name ≡ b → get_member name (put k d ms) ≡ cond b (Some d) (get_member name ms)
+    by true is = ap (λ n. get_member n (put k d ms)) (sym ((bytes_eq-Decides k name).0 is)) ∙ same k d ms
+    by false is = other name k d ms is
 
-kept_login : (key : List ℕ) (ts : List Token) (lists : Lists)
-    → option_map data_at (lists_with key ts lists).login_hints
-    ≡ cond (bytes_eq key (codes "login_hints")) (Some (data_at ts)) (option_map data_at lists.login_hints)
-kept_login key ts lists =
-    by (bytes_eq key (codes "approved_clients")) (bytes_eq key (codes "login_hints")) (bytes_eq key (codes "domain_hints"))
-    (one_word key (codes "approved_clients") (codes "login_hints"))
+-- the same of the parts, each by itself
+abbrev text_if : Bool → Data → Member (List ℕ) → Member (List ℕ)
+text_if b d before = cond b (member_here as_str d) before
+
+abbrev list_if : Bool → Data → Result (Option (List (List ℕ))) AccountsStep → Result (Option (List (List ℕ))) AccountsStep
+list_if b d before = cond b (listed d) before
+
+text_has : (name k : List ℕ) (d : Data) (ms : Members)
+    → member_found as_str (get_member name (put k d ms)) ≡ text_if (bytes_eq k name) d (member_found as_str (get_member name ms))
+text_has name k d ms = ap (member_found as_str) (has name k d ms) ∙ by (bytes_eq k name)
   where
-    by : (a l d : Bool) → (a ≡ true → l ≡ true → bytes_eq (codes "approved_clients") (codes "login_hints") ≡ true)
-        → option_map data_at (cond a (record lists { approved = Some ts }) (cond l (record lists { login_hints = Some ts })
-        (cond d (record lists { domain_hints = Some ts }) lists))).login_hints
-        ≡ cond l (Some (data_at ts)) (option_map data_at lists.login_hints)
-    by true true d both = absurd (true≢false (sym (both refl refl)))
-    by true false d both = refl
-    by false true d both = refl
-    by false false true both = refl
-    by false false false both = refl
+    by : (b : Bool) → member_found as_str (cond b (Some d) (get_member name ms))
+        ≡ text_if b d (member_found as_str (get_member name ms))
+    by true = refl
+    by false = refl
 
-kept_domain : (key : List ℕ) (ts : List Token) (lists : Lists)
-    → option_map data_at (lists_with key ts lists).domain_hints
-    ≡ cond (bytes_eq key (codes "domain_hints")) (Some (data_at ts)) (option_map data_at lists.domain_hints)
-kept_domain key ts lists =
-    by (bytes_eq key (codes "approved_clients")) (bytes_eq key (codes "login_hints")) (bytes_eq key (codes "domain_hints"))
-    (one_word key (codes "approved_clients") (codes "domain_hints")) (one_word key (codes "login_hints") (codes "domain_hints"))
+list_has : (name k : List ℕ) (d : Data) (ms : Members)
+    → list_found (get_member name (put k d ms)) ≡ list_if (bytes_eq k name) d (list_found (get_member name ms))
+list_has name k d ms = ap list_found (has name k d ms) ∙ by (bytes_eq k name)
   where
-    by : (a l d : Bool) → (a ≡ true → d ≡ true → bytes_eq (codes "approved_clients") (codes "domain_hints") ≡ true)
-        → (l ≡ true → d ≡ true → bytes_eq (codes "login_hints") (codes "domain_hints") ≡ true)
-        → option_map data_at (cond a (record lists { approved = Some ts }) (cond l (record lists { login_hints = Some ts })
-        (cond d (record lists { domain_hints = Some ts }) lists))).domain_hints
-        ≡ cond d (Some (data_at ts)) (option_map data_at lists.domain_hints)
-    by true l true first second = absurd (true≢false (sym (first refl refl)))
-    by true l false first second = refl
-    by false true true first second = absurd (true≢false (sym (second refl refl)))
-    by false true false first second = refl
-    by false false true first second = refl
-    by false false false first second = refl
+    by : (b : Bool) → list_found (cond b (Some d) (get_member name ms)) ≡ list_if b d (list_found (get_member name ms))
+    by true = refl
+    by false = refl
 
--- the texts are those before, with the text of a member of that name
-pub record Keeps (key : List ℕ) (ts : List Token) (before after : Texts) : Type 0 where
-  pub id : member_map (λ s. s.now) after.id
-      ≡ text_if (bytes_eq key (codes "id")) (data_at ts) (member_map (λ s. s.now) before.id)
-  pub name : member_map (λ s. s.now) after.name
-      ≡ text_if (bytes_eq key (codes "name")) (data_at ts) (member_map (λ s. s.now) before.name)
-  pub email : member_map (λ s. s.now) after.email
-      ≡ text_if (bytes_eq key (codes "email")) (data_at ts) (member_map (λ s. s.now) before.email)
-  pub given_name : member_map (λ s. s.now) after.given_name
-      ≡ text_if (bytes_eq key (codes "given_name")) (data_at ts) (member_map (λ s. s.now) before.given_name)
-  pub picture : member_map (λ s. s.now) after.picture
-      ≡ text_if (bytes_eq key (codes "picture")) (data_at ts) (member_map (λ s. s.now) before.picture)
-
-pub finds_more : (key : List ℕ) (ts : List Token) (all old new : Members) (before after : Texts) (lists : Lists) → Takes old key ts new
-    → Keeps key ts before after → Finds all old before lists → Finds all new after (lists_with key ts lists)
-finds_more key ts all old new before after lists takes kept here =
+each_if : (k : List ℕ) (d : Data) (f : FoundParts) → FoundParts
+each_if k d f =
     record {
-      id = text_more (codes "id") key ts all old new (member_map (λ s. s.now) before.id) (member_map (λ s. s.now) after.id) takes kept.id
-          here.id;
-      name =
-          text_more (codes "name") key ts all old new (member_map (λ s. s.now) before.name) (member_map (λ s. s.now) after.name) takes
-          kept.name here.name;
-      email =
-          text_more (codes "email") key ts all old new (member_map (λ s. s.now) before.email) (member_map (λ s. s.now) after.email) takes
-          kept.email here.email;
-      given_name =
-          text_more (codes "given_name") key ts all old new (member_map (λ s. s.now) before.given_name)
-          (member_map (λ s. s.now) after.given_name) takes kept.given_name here.given_name;
-      picture =
-          text_more (codes "picture") key ts all old new (member_map (λ s. s.now) before.picture) (member_map (λ s. s.now) after.picture)
-          takes kept.picture here.picture;
-      approved =
-          list_more (codes "approved_clients") key ts all old new lists.approved (lists_with key ts lists).approved takes
-          (kept_approved key ts lists) here.approved;
-      login_hints =
-          list_more (codes "login_hints") key ts all old new lists.login_hints (lists_with key ts lists).login_hints takes
-          (kept_login key ts lists) here.login_hints;
-      domain_hints =
-          list_more (codes "domain_hints") key ts all old new lists.domain_hints (lists_with key ts lists).domain_hints takes
-          (kept_domain key ts lists) here.domain_hints;
+      id = text_if (bytes_eq k (codes "id")) d f.id;
+      name = text_if (bytes_eq k (codes "name")) d f.name;
+      email = text_if (bytes_eq k (codes "email")) d f.email;
+      given_name = text_if (bytes_eq k (codes "given_name")) d f.given_name;
+      picture = text_if (bytes_eq k (codes "picture")) d f.picture;
+      approved = list_if (bytes_eq k (codes "approved_clients")) d f.approved;
+      login_hints = list_if (bytes_eq k (codes "login_hints")) d f.login_hints;
+      domain_hints = list_if (bytes_eq k (codes "domain_hints")) d f.domain_hints;
     }
 
--- ---- no member is left
+each_has : (k : List ℕ) (d : Data) (ms : Members) → parts_of (put k d ms) ≡ each_if k d (parts_of ms)
+unfolding each_if
+each_has k d ms =
+    rw (
+      text_has (codes "id") k d ms,
+      text_has (codes "name") k d ms,
+      text_has (codes "email") k d ms,
+      text_has (codes "given_name") k d ms,
+      text_has (codes "picture") k d ms,
+      list_has (codes "approved_clients") k d ms,
+      list_has (codes "login_hints") k d ms,
+      list_has (codes "domain_hints") k d ms,
+    )
 
-last_text : (name : List ℕ) (all left : Members) (found : Member (List ℕ)) → get_member name left ≡ None → FindsText name all left found
-    → FindsText name all no_members found
-last_text name all left found none here = ap (λ o. text_after o found) (sym none) ∙ here
+-- a name is one of the words at most
+named : (word k : List ℕ) (d : Data) (f : FoundParts) → bytes_eq k word ≡ true → each_if word d f ≡ parts_with word d f
+    → each_if k d f ≡ parts_with k d f
+named word k d f is here =
+    let same_word = (bytes_eq-Decides k word).0 is in
+    ap (λ w. each_if w d f) same_word ∙ here ∙ ap (λ w. parts_with w d f) (sym same_word)
 
-last_list : (name : List ℕ) (all left : Members) (found : Option (List Token)) → get_member name left ≡ None
-    → FindsList name all left found
-    → FindsList name all no_members found
-last_list name all left found none here = ap (λ o. data_or o (option_map data_at found)) (sym none) ∙ here
+one_name : (k : List ℕ) (d : Data) (f : FoundParts) → each_if k d f ≡ parts_with k d f
+unfolding each_if
+one_name k d f =
+    by1 (bytes_eq k (codes "id")) refl
+  where
+    by8 : (b : Bool) → bytes_eq k (codes "domain_hints") ≡ b → bytes_eq k (codes "id") ≡ false → bytes_eq k (codes "name") ≡ false
+        → bytes_eq k (codes "email") ≡ false → bytes_eq k (codes "given_name") ≡ false → bytes_eq k (codes "picture") ≡ false
+        → bytes_eq k (codes "approved_clients") ≡ false → bytes_eq k (codes "login_hints") ≡ false
+        → each_if k d f ≡ parts_with k d f
+    by8 true is i n e g p a l = named (codes "domain_hints") k d f is refl
+    by8 false is i n e g p a l = rw (i, n, e, g, p, a, l, is)
 
-pub finds_end : (all left : Members) (texts : Texts) (lists : Lists) → ((name : List ℕ) → get_member name left ≡ None)
-    → Finds all left texts lists
-    → Finds all no_members texts lists
-finds_end all left texts lists none here =
-    record {
-      id = last_text (codes "id") all left (member_map (λ s. s.now) texts.id) (none (codes "id")) here.id;
-      name = last_text (codes "name") all left (member_map (λ s. s.now) texts.name) (none (codes "name")) here.name;
-      email = last_text (codes "email") all left (member_map (λ s. s.now) texts.email) (none (codes "email")) here.email;
-      given_name =
-          last_text (codes "given_name") all left (member_map (λ s. s.now) texts.given_name) (none (codes "given_name")) here.given_name;
-      picture = last_text (codes "picture") all left (member_map (λ s. s.now) texts.picture) (none (codes "picture")) here.picture;
-      approved = last_list (codes "approved_clients") all left lists.approved (none (codes "approved_clients")) here.approved;
-      login_hints = last_list (codes "login_hints") all left lists.login_hints (none (codes "login_hints")) here.login_hints;
-      domain_hints = last_list (codes "domain_hints") all left lists.domain_hints (none (codes "domain_hints")) here.domain_hints;
-    }
+    by7 : (b : Bool) → bytes_eq k (codes "login_hints") ≡ b → bytes_eq k (codes "id") ≡ false → bytes_eq k (codes "name") ≡ false
+        → bytes_eq k (codes "email") ≡ false → bytes_eq k (codes "given_name") ≡ false → bytes_eq k (codes "picture") ≡ false
+        → bytes_eq k (codes "approved_clients") ≡ false
+        → each_if k d f ≡ parts_with k d f
+    by7 true is i n e g p a = named (codes "login_hints") k d f is refl
+    by7 false is i n e g p a = by8 (bytes_eq k (codes "domain_hints")) refl i n e g p a is
 
--- ---- what an entry has
+    by6 : (b : Bool) → bytes_eq k (codes "approved_clients") ≡ b → bytes_eq k (codes "id") ≡ false → bytes_eq k (codes "name") ≡ false
+        → bytes_eq k (codes "email") ≡ false → bytes_eq k (codes "given_name") ≡ false → bytes_eq k (codes "picture") ≡ false
+        → each_if k d f ≡ parts_with k d f
+    by6 true is i n e g p = named (codes "approved_clients") k d f is refl
+    by6 false is i n e g p = by7 (bytes_eq k (codes "login_hints")) refl i n e g p is
 
-pub text_is : (name : List ℕ) (entry : Data) (all : Members) (found : Member (List ℕ)) → Some all ≡ as_object entry
-    → FindsText name all no_members found
-    → found ≡ text_under name entry
-text_is name entry all found there here = here ∙ ap (member_of as_str name) there
+    by5 : (b : Bool) → bytes_eq k (codes "picture") ≡ b → bytes_eq k (codes "id") ≡ false → bytes_eq k (codes "name") ≡ false
+        → bytes_eq k (codes "email") ≡ false → bytes_eq k (codes "given_name") ≡ false → each_if k d f ≡ parts_with k d f
+    by5 true is i n e g = named (codes "picture") k d f is refl
+    by5 false is i n e g = by6 (bytes_eq k (codes "approved_clients")) refl i n e g is
 
-pub list_is : (name : List ℕ) (entry : Data) (all : Members) (found : Option (List Token)) → Some all ≡ as_object entry
-    → FindsList name all no_members found
-    → list_found found ≡ list_under name entry
-list_is name entry all found there here = ap (member_found as_array) here ∙ ap (member_of as_array name) there
+    by4 : (b : Bool) → bytes_eq k (codes "given_name") ≡ b → bytes_eq k (codes "id") ≡ false → bytes_eq k (codes "name") ≡ false
+        → bytes_eq k (codes "email") ≡ false → each_if k d f ≡ parts_with k d f
+    by4 true is i n e = named (codes "given_name") k d f is refl
+    by4 false is i n e = by5 (bytes_eq k (codes "picture")) refl i n e is
 
-pub account_read : (entry : Data) (id name email given_name picture : Member (List ℕ)) (approved login_hints domain_hints : Member Items)
-    → id ≡ text_under (codes "id") entry → name ≡ text_under (codes "name") entry → email ≡ text_under (codes "email") entry
-    → given_name ≡ text_under (codes "given_name") entry → picture ≡ text_under (codes "picture") entry
-    → approved ≡ list_under (codes "approved_clients") entry → login_hints ≡ list_under (codes "login_hints") entry
-    → domain_hints ≡ list_under (codes "domain_hints") entry
-    → (texts_by id name email given_name picture >>= lists_by approved login_hints domain_hints) ≡ account_of entry
-unfolding account_of texts_of with_lists
-account_read entry id name email given_name picture approved login_hints domain_hints i n e g p a l d =
-    rw (i, n, e, g, p, a, l, d) refl
+    by3 : (b : Bool) → bytes_eq k (codes "email") ≡ b → bytes_eq k (codes "id") ≡ false → bytes_eq k (codes "name") ≡ false
+        → each_if k d f ≡ parts_with k d f
+    by3 true is i n = named (codes "email") k d f is refl
+    by3 false is i n = by4 (bytes_eq k (codes "given_name")) refl i n is
+
+    by2 : (b : Bool) → bytes_eq k (codes "name") ≡ b → bytes_eq k (codes "id") ≡ false → each_if k d f ≡ parts_with k d f
+    by2 true is i = named (codes "name") k d f is refl
+    by2 false is i = by3 (bytes_eq k (codes "email")) refl i is
+
+    by1 : (b : Bool) → bytes_eq k (codes "id") ≡ b → each_if k d f ≡ parts_with k d f
+    by1 true is = named (codes "id") k d f is refl
+    by1 false is = by2 (bytes_eq k (codes "name")) refl is
+
+pub parts_put : (k : List ℕ) (d : Data) (ms : Members) → parts_of (put k d ms) ≡ parts_with k d (parts_of ms)
+parts_put k d ms = each_has k d ms ∙ one_name k d (parts_of ms)
+
+-- ---- the account of an entry
+
+empty_where : (r : Result (List (List ℕ)) AccountsStep) → with_ok or_empty (with_ok Some r) ≡ r
+empty_where (Ok texts) = refl
+empty_where (Err step) = refl
+
+list_or : (m : Member Items) → with_ok or_empty (optional_list m) ≡ list_or_empty m
+list_or Absent = refl
+list_or Wrong = refl
+list_or (Is items) = empty_where (each text_of items)
+
+chained : (texts : Result AccountTexts AccountsStep) (approved : Result (Option (List (List ℕ))) AccountsStep)
+    (login_hints domain_hints : Result (List (List ℕ)) AccountsStep) → Result Account AccountsStep
+chained texts approved login_hints domain_hints = do
+  t ← texts
+  a ← approved
+  l ← login_hints
+  d ← domain_hints
+  Ok (record {
+    id = t.id;
+    name = t.name;
+    email = t.email;
+    given_name = t.given_name;
+    picture = t.picture;
+    approved = a;
+    login_hints = l;
+    domain_hints = d;
+  })
+
+flat : (id name email : Member (List ℕ)) (given_name picture : Member (List ℕ)) (approved : Result (Option (List (List ℕ))) AccountsStep)
+    (login_hints domain_hints : Result (Option (List (List ℕ))) AccountsStep)
+    → account_found (record {
+      id = id;
+      name = name;
+      email = email;
+      given_name = given_name;
+      picture = picture;
+      approved = approved;
+      login_hints = login_hints;
+      domain_hints = domain_hints;
+    })
+    ≡ chained (do
+      i ← required Shape id
+      n ← required Shape name
+      e ← required Shape email
+      g ← optional Shape given_name
+      p ← optional Shape picture
+      Ok (record { id = i; name = n; email = e; given_name = g; picture = p })
+    ) approved (with_ok or_empty login_hints) (with_ok or_empty domain_hints)
+unfolding chained
+flat Absent name email given_name picture a l d = refl
+flat Wrong name email given_name picture a l d = refl
+flat (Is i) Absent email given_name picture a l d = refl
+flat (Is i) Wrong email given_name picture a l d = refl
+flat (Is i) (Is n) Absent given_name picture a l d = refl
+flat (Is i) (Is n) Wrong given_name picture a l d = refl
+flat (Is i) (Is n) (Is e) Wrong picture a l d = refl
+flat (Is i) (Is n) (Is e) Absent Absent a l d = refl
+flat (Is i) (Is n) (Is e) Absent Wrong a l d = refl
+flat (Is i) (Is n) (Is e) Absent (Is p) a l d = refl
+flat (Is i) (Is n) (Is e) (Is g) Absent a l d = refl
+flat (Is i) (Is n) (Is e) (Is g) Wrong a l d = refl
+flat (Is i) (Is n) (Is e) (Is g) (Is p) a l d = refl
+
+pub account_read : (ms : Members) → account_found (parts_of ms) ≡ account_of (object ms)
+unfolding account_of texts_of with_lists chained
+account_read ms =
+    let found : (name : List ℕ) → Member Items = λ name. member_found as_array (get_member name ms) in
+    let f = parts_of ms in
+    flat f.id f.name f.email f.given_name f.picture f.approved f.login_hints f.domain_hints
+    ∙ ap₂ (chained (texts_of (object ms)) (optional_list (found (codes "approved_clients")))) (list_or (found (codes "login_hints")))
+    (list_or (found (codes "domain_hints")))
 
 pub no_account : (entry : Data) → as_object entry ≡ None → Err Shape ≡ account_of entry
 unfolding account_of texts_of with_lists

@@ -1,14 +1,29 @@
 -- The labels of a text and of its parts.
 use Rattle.std.proofs.Common.{◌≡◌, ◌≢◌, ℕ, ◌+◌, ◌-◌, ◌<◌, ◌≤◌, Bool, true, false, cond, ◌||◌, List, [], ◌∷◌, ◌++◌, length, get_or, take}
-use Rattle.std.proofs.Common.{drop, reverse, All, Option, Some, None, option_map, option_and_then, refl, sym, ap, ◌∙◌, subst, arith}
+use Rattle.std.proofs.Common.{drop, reverse, All, Option, Some, None, is_some, option_map, option_and_then, not, nat_lt, nat_le, refl, sym}
+use Rattle.std.proofs.Common.{ap, ◌∙◌, subst, arith}
 use Rattle.std.proofs.Common.{append_assoc, append-nil, take-append-drop, ne_eqb, length-append, length-drop}
 use mathlib.Core.List.{reverse_aux}
+use Rattle.std.specs.Borrow.{Bor}
+use Rattle.std.specs.Option.{option_copied}
 use Rattle.std.specs.List.{list_any, slice_split, onto_first, join_with_byte}
 use Rattle.std.proofs.lemmas.List.{reverse-reverse, reverse-append, length-reverse, length-take, drop_more}
-use Rattle.std.proofs.lemmas.List.Splits.{slice_split_none, length-slice_split, join_with_byte-slice_split}
+use Rattle.std.proofs.lemmas.Bool.Decides.{nat_tests}
+use Rattle.std.proofs.lemmas.List.Splits.{slice_split_none, slice_split_at, length-slice_split, join_with_byte-slice_split}
 use Rattle.std.proofs.Math.Seq.{drop-append-add}
-use Rattle.url.proofs.InputLemmas.{IsNot, split_around, All-drop_from_reads}
-use Rattle.fed_suffix.specs.Label.{is_dot, labels_of, labels_before, joined, name_of, ascii_label, ascii_labels}
+use Rattle.url.proofs.InputLemmas.{IsNot, split_around, All-take_from_reads, All-drop_from_reads}
+use Rattle.url.proofs.HostLemmas.{none_from_list_any}
+use Rattle.idna.specs.declared.deny_list.TheConstants.AsciiDenyList.{URL}
+use Rattle.idna.specs.Uts46.{domain_to_ascii}
+use Rattle.fed_suffix.specs.Label.{is_dot, labels_of, labels_before, labels_in, labels_after, joined, name_of, is_label, ascii_label}
+use Rattle.fed_suffix.specs.Label.{ascii_labels, AddsLabel}
+use Rattle.fed_suffix.specs.RuleOrder.{second_of_both}
+
+some_one : {A : Type 0} (x y : A) → Some x ≡ Some y → x ≡ y
+some_one x y e = cc
+
+none_some : {A : Type 0} (x : A) → None ≡ Some x → ⊥
+none_some x e = cc
 
 no_dots : (text : List ℕ) → All (IsNot 46) text → All (λ b. is_dot b ≡ false) text
 no_dots text none = λ k d l. ne_eqb _ 46 (none k d l)
@@ -23,14 +38,14 @@ cond_onto_first x (part ∷ parts) last true l = refl
 cond_onto_first x (part ∷ parts) last false l = refl
 
 -- the last part stands behind the last dot
-slice_split-last : (xs ys : List ℕ) → All (IsNot 46) ys → slice_split is_dot (xs ++ 46 ∷ ys) ≡ slice_split is_dot xs ++ ys ∷ []
-slice_split-last [] ys none = ap (λ parts. [] ∷ parts) (slice_split_none is_dot ys (no_dots ys none))
+slice_split-last : (xs ys : List ℕ) → All (λ b. is_dot b ≡ false) ys → slice_split is_dot (xs ++ 46 ∷ ys) ≡ slice_split is_dot xs ++ ys ∷ []
+slice_split-last [] ys none = ap (λ parts. [] ∷ parts) (slice_split_none is_dot ys none)
 slice_split-last (x ∷ xs) ys none =
     ap (λ parts. cond (is_dot x) ([] ∷ parts) (onto_first x parts)) (slice_split-last xs ys none)
     ∙ cond_onto_first x (slice_split is_dot xs) ys (is_dot x) (omega (arith, length-slice_split is_dot xs))
 
 labels_of-append : (xs ys : List ℕ) → All (IsNot 46) ys → labels_of (xs ++ 46 ∷ ys) ≡ ys ∷ labels_of xs
-labels_of-append xs ys none = ap reverse (slice_split-last xs ys none) ∙ reverse-append (slice_split is_dot xs) (ys ∷ [])
+labels_of-append xs ys none = ap reverse (slice_split-last xs ys (no_dots ys none)) ∙ reverse-append (slice_split is_dot xs) (ys ∷ [])
 
 -- the last dot stands at i
 pub labels_of-last : (text : List ℕ) (i : ℕ) → i < length text → get_or text i 0 ≡ 46
@@ -168,7 +183,57 @@ short_of labels passed count label e l =
     let lengths : length (drop passed labels) ≡ length (label ∷ []) = ap length e in
     omega (arith, lengths, length-drop passed labels)
 
+-- ---- the text of a rule
+
+pub labels_in-none : (text : List ℕ) → All (IsNot 46) text → labels_in text ≡ text ∷ []
+labels_in-none text none = slice_split_none is_dot text (no_dots text none)
+
+-- the first dot stands at i
+pub labels_in-first : (text : List ℕ) (i : ℕ) → i < length text → get_or text i 0 ≡ 46 → ((k : ℕ) → k < i → get_or text k 0 ≢ 46)
+    → labels_in text ≡ take i text ∷ labels_in (drop (i + 1) text)
+labels_in-first text i inside here before =
+    ap labels_in (split_around text i 46 inside here)
+    ∙ slice_split_at is_dot (take i text) 46 (drop (i + 1) text)
+    (no_dots (take i text) (All-take_from_reads (IsNot 46) text i (omega arith) before)) refl
+
+-- the last label, and those before it
+pub labels_in-last : (text label : List ℕ) (before : Option (List ℕ)) → labels_of text ≡ label ∷ labels_before before
+    → labels_in text ≡ labels_after before ++ label ∷ []
+labels_in-last text label None e = sym (reverse-reverse (labels_in text)) ∙ ap reverse e
+labels_in-last text label (Some before) e =
+    sym (reverse-reverse (labels_in text)) ∙ ap reverse e
+    ∙ reverse-append (label ∷ []) (labels_of before)
+    ∙ ap (λ ls. ls ++ label ∷ []) (reverse-reverse (labels_in before))
+
+pub more_than_one : (text label : List ℕ) (after : Option (Bor (List ℕ))) → labels_in text ≡ label ∷ labels_after (option_copied after)
+    → nat_le 2 (length (labels_in text)) ≡ is_some after
+more_than_one text label None e = ap (λ ls. nat_le 2 (length ls)) e
+more_than_one text label (Some after) e =
+    two (length (labels_in text)) (omega (arith, ap length e, length-slice_split is_dot after.now))
+  where
+    two : (n : ℕ) → 2 ≤ n → nat_le 2 n ≡ true
+    two n some = grind (arith, nat_tests)
+
 -- ---- ASCII labels
+
+label_of_cond : (label ascii : List ℕ) (b : Bool) → is_label label ≡ b → cond b (Some label) None ≡ Some ascii → is_label ascii ≡ true
+label_of_cond label ascii true e f = subst (λ l. is_label l ≡ true) (some_one label ascii f) e
+label_of_cond label ascii false e f = absurd (none_some ascii f)
+
+label_of : (text : Option (List ℕ)) (ascii : List ℕ) → option_and_then (λ a. cond (is_label a) (Some a) None) text ≡ Some ascii
+    → is_label ascii ≡ true
+label_of None ascii e = absurd (none_some ascii e)
+label_of (Some a) ascii e = label_of_cond a ascii (is_label a) refl e
+
+not_is : (b : Bool) → not b ≡ true → b ≡ false
+not_is true e = sym e
+not_is false e = refl
+
+-- an ASCII label holds no dot
+undotted : (label ascii : List ℕ) → ascii_label label ≡ Some ascii → All (λ b. is_dot b ≡ false) ascii
+undotted label ascii e =
+    none_from_list_any is_dot ascii (not_is _ (second_of_both (nat_lt 0 (length ascii)) (not (list_any is_dot ascii))
+    (label_of (domain_to_ascii URL label) ascii e)))
 
 pub ascii_labels-before : (labels more : List (List ℕ)) (label ascii : List ℕ) → ascii_label label ≡ Some ascii
     → option_map (λ more. (labels ++ ascii ∷ []) ++ more) (ascii_labels more)
@@ -190,3 +255,18 @@ ascii_labels-none labels more label e =
 pub option_map-nothing : (o : Option (List (List ℕ))) → option_map (λ m. [] ++ m) o ≡ o
 option_map-nothing None = refl
 option_map-nothing (Some m) = refl
+
+-- the first label of a rule was added to its text
+pub first_added : (label new : List ℕ) (more : List (List ℕ)) → AddsLabel label [] new true
+    → option_map (λ m. labels_in new ++ m) (ascii_labels more) ≡ ascii_labels (label ∷ more)
+first_added label new more (ascii, e, f) =
+    ap (λ ls. option_map (λ m. ls ++ m) (ascii_labels more)) (ap labels_in f ∙ slice_split_none is_dot ascii (undotted label ascii e))
+    ∙ ascii_labels-before [] more label ascii e ∙ option_map-nothing (ascii_labels (label ∷ more))
+
+-- and one more, behind a dot
+pub next_added : (label old new : List ℕ) (more : List (List ℕ)) → AddsLabel label (old ++ 46 ∷ []) new true
+    → option_map (λ m. labels_in new ++ m) (ascii_labels more) ≡ option_map (λ m. labels_in old ++ m) (ascii_labels (label ∷ more))
+next_added label old new more (ascii, e, f) =
+    ap (λ ls. option_map (λ m. ls ++ m) (ascii_labels more))
+    (ap labels_in (f ∙ append_assoc old (46 ∷ []) ascii) ∙ slice_split-last old ascii (undotted label ascii e))
+    ∙ ascii_labels-before (labels_in old) more label ascii e

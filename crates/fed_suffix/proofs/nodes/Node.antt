@@ -1,13 +1,12 @@
 -- A node as the set of what is left of rules, by its fields.
-use Rattle.std.proofs.Common.{◌≡◌, ℕ, zero, suc, ◌+◌, ◌<◌, ◌≤◌, Bool, true, false, cond, ◌&&◌, ◌||◌, List, [], ◌∷◌}
-use Rattle.std.proofs.Common.{◌++◌, length, get_or, drop, set, Some, None, bytes_eq, refl, sym, ap}
+use Rattle.std.proofs.Common.{◌≡◌, ℕ, zero, suc, ◌<◌, Bool, true, false, cond, ◌&&◌, ◌||◌, List, [], ◌∷◌}
+use Rattle.std.proofs.Common.{◌++◌, length, get_or, set, Some, None, bytes_eq, refl, sym, ap}
 use Rattle.std.proofs.Common.{◌∙◌, subst, arith, length-append}
 use mathlib.Core.Bool.{true≢false}
 use Rattle.std.specs.List.{list_any, list_all, position, AllByRecursion, IsDistinct}
 use Rattle.std.specs.Ordering.{eq_by_cmp}
 use Rattle.std.specs.FinSet as finset
 use Rattle.std.proofs.lemmas.Slice.Eq.{bytes_eq-Decides}
-use Rattle.std.proofs.lemmas.List.{drop_more}
 use Rattle.std.proofs.lemmas.List.Quantifiers.{position-Some}
 use Rattle.std.proofs.lemmas.Map.Keys.{IsDistinct-head, IsDistinct-tail}
 use Rattle.fed_suffix.specs.Rule.{Rule, RuleSet, rule_cmp}
@@ -479,8 +478,3 @@ pub under-one : {X : Type 0} (text : X → List ℕ) (labels : List X) (nodes : 
     → rules_of text false false labels nodes ≡ finset.insert finset.empty (label ∷ rest, e)
 under-one text labels nodes key node label rest e f g named one =
     insert-pushed [] labels [] nodes text false false key node label rest e f g (record { alike = refl; used = refl }) named one
-
--- labels from the one before on
-pub drop-before : {X : Type 0} (xs : List X) (left n : ℕ) (x : X) → n + 1 ≡ left → left ≤ length xs → x ≡ get_or xs n x
-    → x ∷ drop left xs ≡ drop n xs
-drop-before xs left n x e inside at = (λ i. at i ∷ drop (sym e i) xs) ∙ sym (drop_more xs n x (omega (arith, e, inside)))

@@ -1,12 +1,12 @@
 -- A node without one of the nodes below it.
-use Rattle.std.proofs.Common.{◌≡◌, ℕ, zero, suc, ◌+◌, ◌<◌, ◌≤◌, Bool, true, false, not, ◌&&◌, ◌||◌, List, [], ◌∷◌}
-use Rattle.std.proofs.Common.{◌++◌, length, get_or, take, drop, set, Some, Result, Ok, Err, OnOk, OnErr, bytes_eq, refl, sym}
-use Rattle.std.proofs.Common.{ap, ◌∙◌, subst, arith, length-append, length-set}
+use Rattle.std.proofs.Common.{◌≡◌, ℕ, zero, suc, ◌<◌, Bool, true, false, not, ◌&&◌, ◌||◌, List, [], ◌∷◌}
+use Rattle.std.proofs.Common.{◌++◌, length, get_or, set, Some, Result, Ok, Err, OnOk, OnErr, bytes_eq, refl, sym}
+use Rattle.std.proofs.Common.{ap, ◌∙◌, subst, arith, append_assoc, length-set}
 use mathlib.Core.Bool.{true≢false}
 use Rattle.std.specs.List.{list_any, list_all, position}
 use Rattle.std.specs.Ordering.{eq_by_cmp}
 use Rattle.std.specs.FinSet as finset
-use Rattle.std.proofs.lemmas.List.{set-set, take-append-drop, take_more, drop_more, drop_all}
+use Rattle.std.proofs.lemmas.List.{set-set}
 use Rattle.std.proofs.lemmas.Slice.Eq.{bytes_eq-Decides}
 use Rattle.fed_suffix.specs.Rule.{Rule, RuleSet, rule_cmp}
 use Rattle.fed_suffix.specs.RuleOrder.{rule_cmp_total, rule_cmp-IsAntisymmetric, first_of_both, second_of_both, or_second}
@@ -105,54 +105,47 @@ close-same above old opened node closed_node whole e f same =
     ap (all_closed above) f ∙ sym (all_closed-push above opened node) ∙ ap (λ a. all_closed a node) (sym e) ∙ same
 
 -- no label leads to the whole
-pub leads-none : (labels : List (List ℕ)) (whole : RuleSet) (above : List Opened) → above ≡ [] → Leads labels whole above whole
+pub leads-none : (labels : List (List ℕ)) (whole : RuleSet) (above : List Opened) → above ≡ [] → Leads labels whole above whole labels
 leads-none labels whole above e =
     record {
       same = ap (λ a. all_closed a whole) e;
-      way = ap labels_to e ∙ ap (λ (a : List Opened). take (length a) labels) (sym e);
-      short = omega (arith, ap length e);
+      way = ap (λ a. labels_to a ++ labels) e;
       used = ap (λ a. fits a whole) e;
     }
 
-pub leads-as : (labels : List (List ℕ)) (whole : RuleSet) (above new : List Opened) (node same : RuleSet) → Leads labels whole above node
-    → new ≡ above → same ≡ node → Leads labels whole new same
-leads-as labels whole above new node same leads e f =
-    subst (λ a. Leads labels whole a same) (sym e) (subst (Leads labels whole above) (sym f) leads)
+pub leads-as : (labels : List (List ℕ)) (whole : RuleSet) (above new : List Opened) (node same : RuleSet) (rest : List (List ℕ))
+    → Leads labels whole above node rest → new ≡ above → same ≡ node → Leads labels whole new same rest
+leads-as labels whole above new node same rest leads e f =
+    subst (λ a. Leads labels whole a same rest) (sym e) (subst (λ n. Leads labels whole above n rest) (sym f) leads)
 
-pub nowhere-here : (labels : List (List ℕ)) (n : ℕ) (label : List ℕ) (node : RuleSet) → n < length labels → label ≡ get_or labels n label
-    → has_rules (below node label) ≡ false → goes_nowhere node (drop n labels) ≡ true
-nowhere-here labels n label node inside at none =
-    ap (goes_nowhere node) (drop_more labels n label inside ∙ ap (λ l. l ∷ drop (n + 1) labels) (sym at)) ∙ ap not none
-
-pub nowhere-end : (labels : List (List ℕ)) (n : ℕ) (node : RuleSet) → length labels ≤ n → goes_nowhere node (drop n labels) ≡ true
-nowhere-end labels n node past = ap (goes_nowhere node) (drop_all n labels past)
+pub nowhere-here : (label : List ℕ) (node : RuleSet) (rest more : List (List ℕ)) → rest ≡ label ∷ more
+    → has_rules (below node label) ≡ false → goes_nowhere node rest ≡ true
+nowhere-here label node rest more e none = ap (goes_nowhere node) e ∙ ap not none
 
 -- one more label leads on
 pub leads-on : (labels : List (List ℕ)) (whole : RuleSet) (above new : List Opened) (node next : RuleSet) (label : List ℕ) (opened : Opened)
-    → Leads labels whole above node → length above < length labels → label ≡ get_or labels (length above) label
-    → IsOpening node label opened next → new ≡ above ++ opened ∷ [] → Leads labels whole new next
-leads-on labels whole above new node next label opened leads inside at opening e =
+    (rest more : List (List ℕ))
+    → Leads labels whole above node rest → rest ≡ label ∷ more → IsOpening node label opened next → new ≡ above ++ opened ∷ []
+    → Leads labels whole new next more
+leads-on labels whole above new node next label opened rest more leads split opening e =
     record {
       same = ap (λ a. all_closed a next) e ∙ all_closed-push above opened next ∙ ap (all_closed above) opening.same ∙ leads.same;
-      way = ap labels_to e ∙ labels_to-push above opened
-          ∙ (λ i. leads.way i ++ (opening.named ∙ at) i ∷ [])
-          ∙ sym (take_more labels (length above) label inside)
-          ∙ ap (λ n. take n labels) (sym longer);
-      short = omega (arith, longer, inside);
+      way = ap (λ a. labels_to a ++ more) e
+          ∙ ap (λ ls. ls ++ more) (labels_to-push above opened)
+          ∙ append_assoc (labels_to above) (opened.0 ∷ []) more
+          ∙ (λ i. labels_to above ++ opening.named i ∷ more)
+          ∙ ap (λ ls. labels_to above ++ ls) (sym split)
+          ∙ leads.way;
       used = ap (λ a. fits a next) e ∙ fits-push above opened next ∙ opening.used;
     }
-  where
-    longer : length new ≡ length above + 1
-    longer = omega (arith, ap length e, length-append above (opened ∷ []))
 
 -- the rest of the rule is added where the labels led
-pub insert-below : (labels : List (List ℕ)) (whole : RuleSet) (above : List Opened) (node new : RuleSet) (e : Bool)
-    → Leads labels whole above node → new ≡ finset.insert node (drop (length above) labels, e)
+pub insert-below : (labels : List (List ℕ)) (whole : RuleSet) (above : List Opened) (node new : RuleSet) (rest : List (List ℕ)) (e : Bool)
+    → Leads labels whole above node rest → new ≡ finset.insert node (rest, e)
     → all_closed above new ≡ finset.insert whole (labels, e)
-insert-below labels whole above node new e leads grown =
-    ap (all_closed above) grown ∙ all_closed-insert above node (drop (length above) labels) e
-    ∙ (λ i. finset.insert (leads.same i) (leads.way i ++ drop (length above) labels, e))
-    ∙ ap (λ ls. finset.insert whole (ls, e)) (take-append-drop (length above) labels)
+insert-below labels whole above node new rest e leads grown =
+    ap (all_closed above) grown ∙ all_closed-insert above node rest e
+    ∙ (λ i. finset.insert (leads.same i) (leads.way i, e))
 
 pub fits-after : {T E : Type 0} (r : Result T E) (above : List Opened) (old new : RuleSet) (rule : Rule)
     → OnOk r (new ≡ finset.insert old rule) → OnErr r (new ≡ old) → fits above old ≡ true → fits above new ≡ true

@@ -1,34 +1,26 @@
-use Rattle.std.proofs.Common.{◌+◌, drop, sym, ap, ◌∙◌, ◌∷◌}
+use Rattle.std.proofs.Common.{sym, ap, ◌∙◌}
 use Rattle.std.specs.FinSet as set
-use Rattle.std.proofs.lemmas.List.{drop_more, drop_all}
+use Rattle.std.specs.Option.{option_copied}
+use Rattle.fed_suffix.specs.Label.{labels_after}
 use Rattle.fed_suffix.proofs.nodes.Walk.{contains-child, contains-no_child}
 use Rattle.fed_suffix.proofs.walk.has_rule.Goals as goal
 
-pub loop-label-preserved : goal.loop-label-preserved
-loop-label-preserved c =
-    let node = c.loop-label.node.now in
-    let rest = drop (c.loop-label.label-index + 1) c.args.labels.now in
-    let next = drop_more c.args.labels.now c.loop-label.label-index c.label-item.result c.loop-label-test.true
-    ∙ ap (λ l. l ∷ rest) (sym c.label-item.is) in
-    contains-child node c.in-Some.next.now c.as_slice.result.now rest c.args.exception (sym c.in-Some.ensures)
-    ∙ ap (λ l. set.contains node (l ∷ rest, c.args.exception)) c.as_slice.ensures
-    ∙ ap (λ ls. set.contains node (ls, c.args.exception)) (sym next)
-    ∙ c.loop-label.invariant
+pub loop-rest-preserved : goal.loop-rest-preserved
+loop-rest-preserved c =
+    let node = c.loop-rest.node.now in
+    let first = c.first_label-first.result in
+    let split = ap (λ rest. labels_after (option_copied rest)) c.in-Some.is ∙ c.first_label-first.ensures in
+    contains-child node c.in-Some-child.next.now first.label.now (labels_after (option_copied first.after)) c.args.exception
+    (sym c.in-Some-child.ensures)
+    ∙ ap (λ ls. set.contains node (ls, c.args.exception)) (sym split)
+    ∙ c.loop-rest.invariant
 
-pub returns-in-None : goal.returns-in-None
-returns-in-None c =
-    let node = c.loop-label.node.now in
-    let rest = drop (c.loop-label.label-index + 1) c.args.labels.now in
-    let next = drop_more c.args.labels.now c.loop-label.label-index c.label-item.result c.loop-label-test.true
-    ∙ ap (λ l. l ∷ rest) (sym c.label-item.is) in
-    sym (contains-no_child node c.as_slice.result.now rest c.args.exception (sym c.in-None.ensures))
-    ∙ ap (λ l. set.contains node (l ∷ rest, c.args.exception)) c.as_slice.ensures
-    ∙ ap (λ ls. set.contains node (ls, c.args.exception)) (sym next)
-    ∙ c.loop-label.invariant
-
-pub returns : goal.returns
-returns c =
-    c.has.ensures
-    ∙ ap (λ ls. set.contains c.loop-label.node.now (ls, c.args.exception))
-    (sym (drop_all c.loop-label.label-index c.args.labels.now c.loop-label-test.false))
-    ∙ c.loop-label.invariant
+pub returns-in_default-child : goal.returns-in_default-child
+returns-in_default-child c =
+    let node = c.loop-rest.node.now in
+    let first = c.first_label-first.result in
+    let split = ap (λ rest. labels_after (option_copied rest)) c.in-Some.is ∙ c.first_label-first.ensures in
+    sym (contains-no_child node first.label.now (labels_after (option_copied first.after)) c.args.exception
+    (sym c.in_default-child.ensures))
+    ∙ ap (λ ls. set.contains node (ls, c.args.exception)) (sym split)
+    ∙ c.loop-rest.invariant

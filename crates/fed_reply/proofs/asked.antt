@@ -1,0 +1,3 @@
+-- Names that texts are asked for under.
+pub mod Written
+pub mod Found

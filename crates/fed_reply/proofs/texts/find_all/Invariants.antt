@@ -1,0 +1,8 @@
+use Rattle.std.proofs.Common.{◌≡◌, ◌++◌, map, take, drop}
+use Rattle.fed_reply.specs.Texts.{with_found}
+use Rattle.fed_reply.proofs.texts.find_all.Given as goal
+
+-- It is found under each name that was passed.
+abbrev pub invariant-loop-one : goal.invariant-loop-one
+invariant-loop-one l =
+    l.asked ≡ map (with_found l.found) (take l.one-index l.initial.asked) ++ drop l.one-index l.initial.asked

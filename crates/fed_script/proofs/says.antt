@@ -1,0 +1,8 @@
+-- What a line says under the names that lines have.
+pub mod Names
+pub mod Shown
+pub mod Steps
+pub mod Same
+pub mod Alike
+pub mod Reading
+pub mod Lines

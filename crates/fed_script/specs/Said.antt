@@ -1,0 +1,142 @@
+-- What a line says under the names that lines have, for private clauses.
+use Rattle.std.specs.Prelude.{◌≡◌, ℕ, List, [], ◌∷◌, codes, Option, Some, None, option_map, option_and_then, Result, Ok, bytes_eq, if◌then◌else◌}
+use Rattle.std.specs.Prelude.{Err, ⊤, slice_index_or}
+use Rattle.std.specs.Result.{result_map_both}
+use Rattle.serde_json.specs.Data.{Data, object, Members, no_members, member}
+use Rattle.serde_json.specs.Find.{get}
+use Rattle.fed_io.specs.declared.error.Fault.{Fault}
+use Rattle.fed_io.specs.declared.error.Fault.TheVariants.{Step, NoRoom}
+use Rattle.fed_json.specs.declared.reading.Begun.{Begun}
+use Rattle.fed_json.specs.declared.reading.Begun.TheVariants.{Null}
+use Rattle.fed_json.specs.Begun.{begun_data}
+use Rattle.fed_json.specs.Values.{IsBegun}
+use Rattle.fed_script.specs.declared.cause.LineCause.{LineCause}
+use Rattle.fed_script.specs.declared.cause.LineCause.TheVariants.{Member}
+use Rattle.fed_script.specs.declared.cause.MemberName.{MemberName}
+use Rattle.fed_script.specs.declared.cause.MemberName.TheVariants as names
+use Rattle.fed_script.specs.declared.event.Event.{Event}
+use Rattle.fed_script.specs.declared.get.ProviderMembers as provider
+use Rattle.fed_script.specs.declared.said.Said.{Said}
+use Rattle.fed_script.specs.declared.saying.SaidLine.{SaidLine}
+use Rattle.fed_script.specs.Cause.{name_text}
+use Rattle.fed_script.specs.Get.{ProviderMembers, GetMembers, provider_seen, as_provider, provider_members, get_by}
+use Rattle.fed_script.specs.Member.{◌>>=◌, or_cause, json_of, required, as_u32}
+use Rattle.fed_script.specs.Options.{option_members}
+
+-- the names, in their order
+abbrev pub all_names : List MemberName
+all_names =
+    names.Do ∷ names.Fedcm ∷ names.Now ∷ names.Rules ∷ names.What ∷ names.Origin ∷ names.Status ∷ names.Time ∷ names.Page ∷ names.Url
+    ∷ names.Text ∷ names.Raw ∷ names.Call ∷ names.Mediation ∷ names.Mode ∷ names.Activation ∷ names.Context ∷ names.Providers
+    ∷ names.Config ∷ names.Client ∷ names.Nonce ∷ names.LoginHint ∷ names.DomainHint ∷ names.Params ∷ names.Provider ∷ names.To
+    ∷ names.Account ∷ names.Hint ∷ []
+
+-- the first of some names that a text is
+abbrev pub named_of : List MemberName → List ℕ → Option MemberName
+named_of [] text = None
+named_of (name ∷ further) text = if bytes_eq text (name_text name) then Some name else named_of further text
+
+-- the name that a text is
+abbrev pub named : List ℕ → Option MemberName
+named text = named_of all_names text
+
+-- the place of a name in their order
+abbrev pub place : MemberName → ℕ
+place names.Do = 0
+place names.Fedcm = 1
+place names.Now = 2
+place names.Rules = 3
+place names.What = 4
+place names.Origin = 5
+place names.Status = 6
+place names.Time = 7
+place names.Page = 8
+place names.Url = 9
+place names.Text = 10
+place names.Raw = 11
+place names.Call = 12
+place names.Mediation = 13
+place names.Mode = 14
+place names.Activation = 15
+place names.Context = 16
+place names.Providers = 17
+place names.Config = 18
+place names.Client = 19
+place names.Nonce = 20
+place names.LoginHint = 21
+place names.DomainHint = 22
+place names.Params = 23
+place names.Provider = 24
+place names.To = 25
+place names.Account = 26
+place names.Hint = 27
+
+-- how the value of a name begins
+unfoldable pub under : MemberName → Said → Begun
+under name s = slice_index_or s.found (place name) Null
+
+-- no name has a value
+abbrev pub IsEmpty : Said → Type 0
+IsEmpty s = (name : MemberName) → under name s ≡ Null
+
+abbrev pub members_of : List MemberName → Said → Members
+members_of [] s = no_members
+members_of (name ∷ further) s = member (name_text name) (begun_data (under name s)) (members_of further s)
+
+-- the object that has these members
+unfoldable pub shown : Said → Data
+shown s = object (members_of all_names s)
+
+-- a value begins so; null where there is none
+abbrev pub MayBegin : Begun → Option Data → Type 0
+MayBegin first None = first ≡ Null
+MayBegin first (Some d) = IsBegun first d
+
+-- the values of the members of an object begin so
+abbrev pub Says : Said → Data → Type 0
+Says s d = (name : MemberName) → MayBegin (under name s) (get (name_text name) d)
+
+-- what borrowed members of a provider point to
+abbrev pub provider_shown : Option (Result provider.ProviderMembers LineCause) → Option (Result ProviderMembers LineCause)
+provider_shown found = option_map (result_map_both provider_seen (λ e. e)) found
+
+-- the members of the only provider that a value names
+abbrev pub provider_of : Data → Option (Result ProviderMembers LineCause)
+provider_of d = option_map provider_members (as_provider d)
+
+-- a value names this provider alone, if there is one
+abbrev pub SaysProvider : Option (Result provider.ProviderMembers LineCause) → Data → Type 0
+SaysProvider found d = provider_shown found ≡ provider_of d
+
+-- the provider that members name, after one of this name that is d
+abbrev pub provider_after : List ℕ → Data → Option (Result ProviderMembers LineCause) → Option (Result ProviderMembers LineCause)
+provider_after name d before = if bytes_eq name (codes "providers") then provider_of d else before
+
+-- nothing is said
+pub record SaysNothing (line : SaidLine) : Type 0 where
+  pub members : IsEmpty line.members
+  pub provider : line.provider ≡ None
+
+-- a line says this
+pub record SaysLine (line : SaidLine) (d : Data) : Type 0 where
+  pub members : Says line.members d
+  pub provider : provider_shown line.provider ≡ option_and_then provider_of (get (name_text names.Providers) d)
+
+-- this was read of a line, unless there was no memory
+abbrev pub Reads : List ℕ → Result ⊤ (Fault LineCause) → SaidLine → Type 0
+Reads line (Ok done) said = (d : Data) × (json_of line ≡ Ok d) × SaysLine said d
+Reads line (Err (Step cause)) said = json_of line ≡ Err cause
+Reads line (Err NoRoom) said = ⊤
+
+-- the members of a get whose provider has these
+abbrev pub get_members_by : Data → Option (Result ProviderMembers LineCause) → Result GetMembers LineCause
+get_members_by d found = do
+  page ← required as_u32 names.Page d
+  call ← required as_u32 names.Call d
+  options ← option_members d
+  provider ← or_cause (Member names.Providers) found >>= λ members. members
+  Ok (record { page = page; call = call; options = options; provider = provider })
+
+-- the get that a line names whose members say this
+abbrev pub get_said : Data → Option (Result ProviderMembers LineCause) → Result Event LineCause
+get_said d found = get_members_by d found >>= get_by
