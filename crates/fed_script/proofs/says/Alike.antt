@@ -85,4 +85,5 @@ get_same line d says =
       says.provider,
       ← one_provider (get (name_text names.Providers) d) (Member names.Providers),
     )
-    (sym (in_turn (required as_u32 names.Page d) (required as_u32 names.Call d) (option_members d) (required as_provider names.Providers d)))
+    (sym (in_turn (required as_u32 names.Page d) (required as_u32 names.Call d) (option_members d)
+    (required as_provider names.Providers d)))

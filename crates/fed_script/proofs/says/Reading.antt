@@ -42,7 +42,8 @@ more_item : (d : Data) (o : Option (Items × List Token)) (r : List Token) (ds :
 more_item d None r ds h = absurd (cc)
 more_item d (Some p) r ds h = (d, p.0, sym (ap items_or h))
 
-some_item : (o : Option (Data × List Token)) (depth : ℕ) (ts r : List Token) (ds : Items) → value_in depth ts ≡ o → after_end_array ts ≡ None
+some_item : (o : Option (Data × List Token)) (depth : ℕ) (ts r : List Token) (ds : Items) → value_in depth ts ≡ o
+    → after_end_array ts ≡ None
     → items_in depth ts ≡ Some (ds, r) → (d : Data) × (more : Items) × (ds ≡ item d more)
 some_item None depth ts r ds is going e = absurd (let none = items_stop depth ts going is in cc)
 some_item (Some p) depth ts r ds is going e =
@@ -79,13 +80,15 @@ pub further_item : (depth : ℕ) (ts r : List Token) (d : Data) (ds : Items) →
 further_item depth ts r d ds going e = let has = has_item depth ts r ds going e in rw has.2
 
 -- one item that is an object
-pub one_item : (said : Said) (ms : Members) (r : Result ProviderMembers LineCause) → Says said (object ms) → r ≡ provider_members (shown said)
+pub one_item : (said : Said) (ms : Members) (r : Result ProviderMembers LineCause) → Says said (object ms)
+    → r ≡ provider_members (shown said)
     → Some r ≡ provider_of (array (item (object ms) no_items))
 one_item said ms r says is = ap (λ x. Some x) (is ∙ provider_same (shown said) (object ms) (shown_same said (object ms) says))
 
 -- ---- the members of a line
 
-after_at : {D : Type 0} (o : Option D) (s : List Token) (d : D) (r : List Token) → option_map {U = D × List Token} (λ x. (x, s)) o ≡ Some (d, r) → Some s ≡ Some r
+after_at : {D : Type 0} (o : Option D) (s : List Token) (d : D) (r : List Token)
+    → option_map {U = D × List Token} (λ x. (x, s)) o ≡ Some (d, r) → Some s ≡ Some r
 after_at None s d r e = absurd (cc)
 after_at (Some x) s d r e = ap (option_map (λ p. p.1)) e
 

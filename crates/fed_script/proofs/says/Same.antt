@@ -89,7 +89,8 @@ module _ (d e : Data) (same : Same d e) where
       → option_and_then (as_word words) (member_of name d) ≡ option_and_then (as_word words) (member_of name e)
   word_alike words name = same_after as_str words (member_of name d) (member_of name e) (same name).text
 
-  word_same : {A : Type 0} (words : List ℕ → Option A) (name : MemberName) → required (as_word words) name d ≡ required (as_word words) name e
+  word_same : {A : Type 0} (words : List ℕ → Option A) (name : MemberName)
+      → required (as_word words) name d ≡ required (as_word words) name e
   word_same words name = ap (or_cause (Member name)) (word_alike words name)
 
   optional_text_same : (name : MemberName) → optional as_str name (member_of name d) ≡ optional as_str name (member_of name e)

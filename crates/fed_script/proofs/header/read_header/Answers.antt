@@ -5,4 +5,5 @@ use Rattle.fed_script.proofs.header.read_header.Goals as goal
 
 pub returns : goal.returns
 returns c =
-    subst (Answers c.header_named.result) (header_read c.args.line.now c.read_said.new.said c.in_ok-read_said.ensures) c.header_named.ensures
+    subst (Answers c.header_named.result) (header_read c.args.line.now c.read_said.new.said c.in_ok-read_said.ensures)
+    c.header_named.ensures

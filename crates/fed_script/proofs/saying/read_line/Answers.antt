@@ -53,7 +53,8 @@ loop-name-preserved c =
       l.invariant.1 ∙ members_more c.args.depth l.invariant.0 l.values s c.read_value.new.values k took.0 key
           (c.in_ok-first.ensures.value ∙ took.1),
       c.note.ensures l.invariant.0 took.0 took.2.0 l.invariant.2,
-      provider_put k took.0 l.invariant.0 (provider_shown l.said.provider) (provider_shown c.read_value.new.provider) took.2.1 l.invariant.3,
+      provider_put k took.0 l.invariant.0 (provider_shown l.said.provider) (provider_shown c.read_value.new.provider)
+          took.2.1 l.invariant.3,
     )
 
 pub returns : goal.returns
