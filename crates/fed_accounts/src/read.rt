@@ -15,7 +15,7 @@ use crate::entry::{Entry, read_entry};
 use crate::{Account, Accounts, AccountsStep};
 use fed_io::{Fault, Items, NoRoom, Text};
 use fed_json::{Begun, Invalid, LEVELS, Values};
-use fed_reply::{JsonBuffer, ReplyStep, open_json};
+use fed_reply::{JsonBuffer, ReplyMemory, ReplyStep, open_json};
 use indexmap::IndexSet;
 use std::alloc::Global;
 
@@ -25,24 +25,27 @@ use std::alloc::Global;
 pub fn read_accounts(alloc: Global, raw: &[u8]) -> Result<Accounts, Fault<AccountsStep>>
     ensures { Answers result (spec.AccountsOf raw.now) }
 {
-    read_hinted(alloc, raw, None, None)
+    read_hinted(alloc, &ReplyMemory::new(), raw, None, None)
 }
 
 /// Reads the accounts in a reply of the accounts endpoint that the hints of a call ask for, as `read_accounts` and then
-/// `keep_hinted` do. Only accounts that are kept are copied.
+/// `keep_hinted` do. Only accounts that are kept are copied. `memory` is what the reply is read from.
 pub fn read_hinted(
     alloc: Global,
+    memory: &ReplyMemory,
     raw: &[u8],
     login: Option<&Text>,
     domain: Option<&Text>,
 ) -> Result<Accounts, Fault<AccountsStep>>
     ensures { Answers result (hints.HintedOf raw.now (option_copied login.entry) (option_copied domain.entry)) }
 {
-    let mut buffer = JsonBuffer::new(alloc);
-    hinted_in(alloc, raw, login, domain, &mut buffer)
+    let mut buffer = memory.lend(alloc)?;
+    let read = hinted_in(alloc, raw, login, domain, &mut buffer);
+    memory.take_back(raw, buffer);
+    read
 }
 
-// The same, with what is read from. The buffer is let go at one place: each place would take a copy of its 16 KB.
+// The same, with what is read from.
 #[tactic(auto, unfolding(crate::specs::Hints::HintedOf, crate::specs::Read::AccountsOf))]
 fn hinted_in(
     alloc: Global,

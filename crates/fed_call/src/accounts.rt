@@ -7,6 +7,7 @@ use crate::begun::Call;
 use fed_accounts::{Account, Accounts, AccountsStep, connected, read_hinted};
 use fed_io::{Fault, Items, NoRoom, Text, lent_text};
 use fed_origin::{Origin, ProviderOptions};
+use fed_reply::ReplyMemory;
 use fed_status::KeptSet;
 use std::alloc::Global;
 
@@ -14,6 +15,7 @@ use std::alloc::Global;
 #[tactic(auto, unfolding(crate::specs::Accounts::accounts_of, fed_accounts::specs::Hints::HintedOf))]
 pub fn hinted_accounts(
     alloc: Global,
+    memory: &ReplyMemory,
     raw: &[u8],
     provider: &ProviderOptions,
 ) -> Result<Result<Accounts, AccountsStep>, NoRoom>
@@ -21,7 +23,7 @@ pub fn hinted_accounts(
 {
     let login = lent_text(&provider.login_hint);
     let domain = lent_text(&provider.domain_hint);
-    match read_hinted(alloc, raw, login, domain) {
+    match read_hinted(alloc, memory, raw, login, domain) {
         Ok(accounts) => Ok(Ok(accounts)),
         Err(Fault::Step(step)) => Ok(Err(step)),
         Err(Fault::NoRoom) => Err(NoRoom),

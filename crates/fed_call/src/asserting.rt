@@ -19,8 +19,9 @@ use fed_consent::{Ask, Consent, Detail, Effect, FailStep, Failure, Finish, Input
 use fed_io::{Fault, Items, NoRoom, Placed, Text};
 use fed_origin::{ReplyKind, Stage, Triple};
 use fed_provider::SharedConfig;
+use fed_reply::ReplyMemory;
 use fed_status::Shared;
-use fed_token::{TokenStep, read_assertion};
+use fed_token::{TokenStep, read_assertion_with};
 use std::alloc::Global;
 
 /// A call whose token is awaited.
@@ -112,7 +113,7 @@ impl Asserting {
             ≡ input_facts (world_of shared.now) (asserting_facts self) (inputs.Reply place ReplyKind.Assertion raw.now)) }
     {
         if self.begun.has(place) {
-            return self.answered(alloc, place, raw);
+            return self.answered(alloc, shared.rules.memory(), place, raw);
         }
         CallState::Asserting(self).ignores(alloc, Why::NotWaited)
     }
@@ -121,6 +122,7 @@ impl Asserting {
     fn answered(
         self,
         alloc: Global,
+        memory: &ReplyMemory,
         place: u32,
         raw: &[u8],
     ) -> Result<(CallState, Items<Effect>), NoRoom>
@@ -128,7 +130,7 @@ impl Asserting {
             raw.now).effects) }
         ensures state { IfOk result (λ r. facts_of r.0 ≡ None) }
     {
-        match read_assertion(alloc, raw, self.begun.origin()) {
+        match read_assertion_with(alloc, memory, raw, self.begun.origin()) {
             Ok(token) => self.signs_in(alloc, place, token),
             Err(Fault::Step(step)) => finishes(alloc, token_refused(step)),
             Err(Fault::NoRoom) => Err(NoRoom),

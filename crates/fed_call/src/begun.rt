@@ -9,7 +9,7 @@ ghost use Rattle.fed_call.specs.Facts.{provider_at};
 use fed_consent::ONLY_PLACE;
 use fed_io::{Items, NoRoom};
 use fed_origin::{
-    Context, GetOptions, Mediation, Mode, Origin, ProviderOptions, ReplyKind, Scheme,
+    Context, GetOptions, Mediation, Mode, Origin, ProviderOptions, ReplyKind, Scheme, SharedOrigin,
 };
 use fed_provider::{FirstReplies, Heard, Rules};
 use std::alloc::Global;
@@ -19,8 +19,8 @@ use std::marker::Model;
 struct CallParts {
     call: u32,
     page: u32,
-    // The page's origin.
-    origin: Origin,
+    // The page's origin, which the calls of a page share.
+    origin: SharedOrigin,
     mediation: Mediation,
     mode: Mode,
     activation: bool,
@@ -91,7 +91,7 @@ impl Call {
         alloc: Global,
         call: u32,
         page: u32,
-        origin: Origin,
+        origin: SharedOrigin,
         options: GetOptions,
     ) -> Result<Call, NoRoom>
         requires one { length options.providers ≡ 1 }
@@ -141,7 +141,7 @@ impl Call {
     pub fn origin(&self) -> &Origin
         ensures { result.now ≡ self.now.origin }
     {
-        &self.place.origin
+        self.place.origin.as_origin()
     }
 
     /// Its mediation.

@@ -130,7 +130,7 @@ impl Listing {
             (Some self.begun.provider) raw.now).stage Stage.Listing)
             (with_listing (world_of shared.now) raw.now place (Some self.begun.provider) (listing_facts self))) }
     {
-        match hinted_accounts(alloc, raw, self.begun.provider())? {
+        match hinted_accounts(alloc, shared.rules.memory(), raw, self.begun.provider())? {
             Ok(accounts) => self.accepts(alloc, shared, place, accounts),
             Err(step) => self.refuses(alloc, shared, place, Failure::of_accounts(step)),
         }

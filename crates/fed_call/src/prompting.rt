@@ -18,7 +18,7 @@ use crate::effects::fails;
 use fed_consent::{Effect, FailStep, Failure, Input, ONLY_PLACE, Prompt, Why};
 use fed_io::{Items, NoRoom, Placed};
 use fed_origin::{ReplyKind, Stage};
-use fed_provider::{SharedConfig, read_metadata};
+use fed_provider::{SharedConfig, read_metadata_with};
 use fed_status::Shared;
 use std::alloc::Global;
 
@@ -176,7 +176,7 @@ fn links_shown(
     ensures { IfOk result (λ effects. effects ≡ prompt_dialog (world_of shared.now) (prompting_facts
         prompting.now) place prompting.now.prompt.pick.candidate (MetadataOf raw.now) ∷ []) }
 {
-    let links = read_metadata(alloc, raw)?;
+    let links = read_metadata_with(alloc, shared.rules.memory(), raw)?;
     let Prompting { begun, prompt, .. } = prompting;
     let dialog = prompt_dialog(alloc, shared, begun, place, prompt.get(), &links)?;
     dialog.alone(alloc)

@@ -16,7 +16,7 @@ use crate::start::{first_requests, is_secure, only_wellknown};
 use crate::{Asserting, Choosing, Listing, Mismatch, Prompting, Reading, Window};
 use fed_consent::{Effect, FailStep, Failure, Input, Why};
 use fed_io::{Items, NoRoom};
-use fed_origin::{GetOptions, Origin, Scheme, Stage, WebUrl};
+use fed_origin::{GetOptions, Origin, Scheme, SharedOrigin, Stage, WebUrl};
 use fed_provider::{FirstReplies, ProviderStep};
 use fed_status::Shared;
 use std::alloc::Global;
@@ -76,16 +76,17 @@ impl CallState {
             return fails(alloc, Failure::plain(FailStep::ConfigScheme));
         }
         let wellknown = only_wellknown(alloc, shared.rules.suffixes(), &options)?;
+        let origin = SharedOrigin::new(alloc, origin)?;
         CallState::start_with(alloc, call, page, origin, options, wellknown, shared)
     }
 
-    /// The same for a call whose configuration URL is https, where its well-known URL is known: it is not made anew. `wellknown` is
-    /// what `wellknown_url` of fed_provider answers.
+    /// The same for a call whose configuration URL is https, where its well-known URL is known and the calls of its page share the
+    /// page's origin: neither is made anew. `wellknown` is what `wellknown_url` of fed_provider answers.
     pub fn start_with(
         alloc: Global,
         call: u32,
         page: u32,
-        origin: Origin,
+        origin: SharedOrigin,
         options: GetOptions,
         wellknown: Result<WebUrl, ProviderStep>,
         shared: &Shared<'_>,
@@ -99,7 +100,7 @@ impl CallState {
             ≡ started call page origin options (start_row (world_of shared.now) origin options)) }
         ensures stage { IfOk result (λ r. Some (stage_of (facts_of r.0)) ≡ (start_row (world_of shared.now) origin options).stage) }
     {
-        match first_requests(alloc, &origin, &options, wellknown, shared)? {
+        match first_requests(alloc, origin.as_origin(), &options, wellknown, shared)? {
             Ok(effects) => {
                 let state = Reading {
                     begun: Call::new(alloc, call, page, origin, options)?,

@@ -9,7 +9,7 @@ ghost use Rattle.fed_disconnect.specs.Rows as spec;
 
 use fed_consent::{Ask, Effect, FailStep, ONLY_PLACE};
 use fed_io::{Items, NoRoom, Text};
-use fed_origin::{Origin, Scheme, WebUrl};
+use fed_origin::{Origin, Scheme, SharedOrigin, WebUrl};
 use fed_provider::ProviderStep;
 use fed_status::Shared;
 use std::alloc::Global;
@@ -19,8 +19,8 @@ use std::marker::Model;
 pub struct BegunParts {
     pub call: u32,
     pub page: u32,
-    // The page's origin.
-    pub origin: Origin,
+    // The page's origin, which the calls of a page share.
+    pub origin: SharedOrigin,
     // The configuration URL.
     pub config: WebUrl,
     // The relying party's id at the provider.
@@ -77,7 +77,7 @@ impl Begun {
         alloc: Global,
         call: u32,
         page: u32,
-        origin: Origin,
+        origin: SharedOrigin,
         config: WebUrl,
         client: Text,
         hint: Text,
@@ -106,6 +106,13 @@ impl Begun {
         &self.place.config
     }
 
+    /// The page's origin. It takes no memory.
+    pub fn origin(&self) -> &Origin
+        ensures { result.now ≡ self.now.origin }
+    {
+        self.place.origin.as_origin()
+    }
+
     /// The first requests of the call, whose well-known URL is this one, or the step at which it fails.
     pub fn first_requests(
         &self,
@@ -123,7 +130,7 @@ impl Begun {
             Ok(url) => url,
             Err(_) => return Ok(Err(FailStep::NoSite)),
         };
-        if !shared.kept.has_pair(&self.place.origin, provider) {
+        if !shared.kept.has_pair(self.origin(), provider) {
             return Ok(Err(FailStep::NotConnected));
         }
         Ok(Ok(requests(alloc, wellknown, &self.place.config)?))

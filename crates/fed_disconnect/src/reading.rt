@@ -161,7 +161,7 @@ impl Begun {
             to: to.copy(alloc)?,
             client: self.place.client.copy(alloc)?,
             hint: Placed::new(alloc, self.place.hint.copy(alloc)?)?,
-            origin: Placed::new(alloc, self.place.origin.copy(alloc)?)?,
+            origin: Placed::new(alloc, self.origin().copy(alloc)?)?,
         };
         Effect::Send(ONLY_PLACE, ask).alone(alloc)
     }

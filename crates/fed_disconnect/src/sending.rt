@@ -18,7 +18,7 @@ use fed_io::{Fault, Items, NoRoom, Placed, Text};
 use fed_origin::{ReplyKind, Stage, Triple};
 use fed_provider::SharedConfig;
 use fed_status::{KeptSet, Shared};
-use fed_token::{TokenStep, read_disconnect};
+use fed_token::{TokenStep, read_disconnect_with};
 use std::alloc::Global;
 
 /// A disconnect call whose disconnect reply is awaited.
@@ -108,7 +108,7 @@ impl DSending {
     {
         match kind {
             ReplyKind::Disconnect => {
-                let effects = answered(alloc, &self.begun, shared.kept, raw)?;
+                let effects = answered(alloc, shared, &self.begun, raw)?;
                 Ok((DState::DEnded(DEnded), effects))
             }
             ReplyKind::WellKnown
@@ -123,16 +123,16 @@ impl DSending {
 // What a disconnect reply comes to: the permissions that go, and then what the page gets.
 fn answered(
     alloc: Global,
+    shared: &Shared<'_>,
     begun: &Begun,
-    kept: &KeptSet,
     raw: &[u8],
 ) -> Result<Items<Effect>, NoRoom>
-    ensures { IfOk result (λ effects. effects ≡ (spec.answered kept.now begun.now.origin (provider_origin begun.now.options)
-        (DisconnectOf raw.now (origin_text begun.now.origin))).effects) }
+    ensures { IfOk result (λ effects. effects ≡ (spec.answered (world_of shared.now).kept begun.now.origin
+        (provider_origin begun.now.options) (DisconnectOf raw.now (origin_text begun.now.origin))).effects) }
 {
-    match read_disconnect(alloc, raw, &begun.place.origin) {
+    match read_disconnect_with(alloc, shared.rules.memory(), raw, begun.origin()) {
         Ok(account) => {
-            let forgets = begun.forgotten(alloc, kept, account)?;
+            let forgets = begun.forgotten(alloc, shared.kept, account)?;
             forgets.then(alloc, Effect::Finish(Finish::Disconnected))
         }
         Err(Fault::Step(step)) => {
@@ -163,8 +163,8 @@ impl Begun {
         ensures { IfOk result (λ effect. effect ≡ spec.forgotten self.now.origin (provider_origin self.now.options) account
             (has_triple kept.now (triple_of self.now.origin (provider_origin self.now.options) account))) }
     {
-        if kept.has(&self.place.origin, self.place.config.origin(), &account) {
-            let page = self.place.origin.copy(alloc)?;
+        if kept.has(self.origin(), self.place.config.origin(), &account) {
+            let page = self.origin().copy(alloc)?;
             let provider = self.place.config.origin().copy(alloc)?;
             let triple = Triple {
                 page,
@@ -180,7 +180,7 @@ impl Begun {
     fn all_forgotten(&self, alloc: Global) -> Result<Effect, NoRoom>
         ensures { IfOk result (λ effect. effect ≡ Effect.ForgetPair self.now.origin (provider_origin self.now.options)) }
     {
-        let page = Placed::new(alloc, self.place.origin.copy(alloc)?)?;
+        let page = Placed::new(alloc, self.origin().copy(alloc)?)?;
         let provider = Placed::new(alloc, self.place.config.origin().copy(alloc)?)?;
         Ok(Effect::ForgetPair(page, provider))
     }

@@ -12,7 +12,7 @@ use crate::effects::{fails, not_taken};
 use crate::{DReading, DSending};
 use fed_consent::{Effect, FailStep, Failure, Input, Why};
 use fed_io::{Items, NoRoom, Text};
-use fed_origin::{Origin, Scheme, Stage, WebUrl};
+use fed_origin::{Origin, Scheme, SharedOrigin, Stage, WebUrl};
 use fed_provider::{FirstReplies, ProviderStep, site_url};
 use fed_status::Shared;
 use std::alloc::Global;
@@ -66,18 +66,19 @@ impl DState {
             return fails(alloc, Failure::plain(FailStep::ConfigScheme));
         }
         let wellknown = site_url(alloc, shared.rules.suffixes(), &config)?;
+        let origin = SharedOrigin::new(alloc, origin)?;
         DState::start_with(
             alloc, call, page, origin, config, client, hint, wellknown, shared,
         )
     }
 
-    /// The same for a call whose configuration URL is https, where its well-known URL is known: it is not made anew. `wellknown` is
-    /// what `wellknown_url` of fed_provider answers.
+    /// The same for a call whose configuration URL is https, where its well-known URL is known and the calls of its page share the
+    /// page's origin: neither is made anew. `wellknown` is what `wellknown_url` of fed_provider answers.
     pub fn start_with(
         alloc: Global,
         call: u32,
         page: u32,
-        origin: Origin,
+        origin: SharedOrigin,
         config: WebUrl,
         client: Text,
         hint: Text,

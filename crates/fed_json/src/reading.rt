@@ -220,7 +220,7 @@ impl<'a> Values<'a> {
         self.reader.take_end_array()
     }
 
-    /// Whether nothing is left.
+    /// Whether nothing is left. The token that is next, if there is one, is taken.
     pub fn is_done(&mut self) -> bool
         ensures { result ≡ (length self.old == 0) }
     {

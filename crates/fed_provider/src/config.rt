@@ -9,7 +9,7 @@ ghost use Rattle.fed_reply.specs.Shape.{required, optional};
 use crate::ProviderStep;
 use fed_io::{Fault, NoRoom};
 use fed_origin::{Endpoint, WebUrl};
-use fed_reply::{Asked, JsonBuffer, Member, read_texts};
+use fed_reply::{Asked, JsonBuffer, Member, ReplyMemory, read_texts};
 use std::alloc::Global;
 use std::marker::Model;
 use std::rc::Rc;
@@ -99,11 +99,25 @@ pub fn read_config(
 ) -> Result<Config, Fault<ProviderStep>>
     ensures { Answers result (spec.ConfigOf raw.now config.now) }
 {
-    let mut buffer = JsonBuffer::new(alloc);
-    config_of_reply(alloc, raw, config, &mut buffer)
+    config_by(alloc, &ReplyMemory::new(), raw, config)
 }
 
-// The same, with what is read from. The buffer is let go at one place: each place would take a copy of its 16 KB.
+// The same, where `memory` is what the reply is read from.
+fn config_by(
+    alloc: Global,
+    memory: &ReplyMemory,
+    raw: &[u8],
+    config: &WebUrl,
+) -> Result<Config, Fault<ProviderStep>>
+    ensures { Answers result (spec.ConfigOf raw.now config.now) }
+{
+    let mut buffer = memory.lend(alloc)?;
+    let read = config_of_reply(alloc, raw, config, &mut buffer);
+    memory.take_back(raw, buffer);
+    read
+}
+
+// The same, with what is read from.
 #[tactic(auto, unfolding(crate::specs::Config::ConfigOf))]
 fn config_of_reply(
     alloc: Global,
@@ -140,12 +154,13 @@ fn config_of_reply(
 /// The same, where the step is an answer that can be kept, and a configuration one that copies share.
 pub fn config_answer(
     alloc: Global,
+    memory: &ReplyMemory,
     raw: &[u8],
     config: &WebUrl,
 ) -> Result<Result<SharedConfig, ProviderStep>, NoRoom>
     ensures { IfOk result (λ said. said ≡ spec.ConfigOf raw.now config.now) }
 {
-    match read_config(alloc, raw, config) {
+    match config_by(alloc, memory, raw, config) {
         Ok(config) => Ok(Ok(SharedConfig::new(alloc, config)?)),
         Err(Fault::Step(step)) => Ok(Err(step)),
         Err(Fault::NoRoom) => Err(NoRoom),

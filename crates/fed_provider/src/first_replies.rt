@@ -168,7 +168,7 @@ fn wellknown_file(
         Ok(base) => base,
         Err(step) => return Ok(Err(step)),
     };
-    wellknown_answer(alloc, raw, &base, config)
+    wellknown_answer(alloc, rules.memory(), raw, &base, config)
 }
 
 // What is kept of a config reply.
@@ -195,5 +195,5 @@ fn config_file(
     if let Some(said) = rules.config_said(config, raw) {
         return kept_config(said);
     }
-    config_answer(alloc, raw, config)
+    config_answer(alloc, rules.memory(), raw, config)
 }

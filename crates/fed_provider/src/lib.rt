@@ -14,7 +14,7 @@ pub use config::{Config, SharedConfig, read_config};
 pub use first_replies::{FirstReplies, Heard};
 /// The endpoint that a step names.
 pub use fed_origin::Endpoint;
-pub use metadata::{PolicyLinks, read_metadata};
+pub use metadata::{PolicyLinks, read_metadata, read_metadata_with};
 pub use rules::Rules;
 pub use step::ProviderStep;
 pub use wellknown::{read_wellknown, site_url, wellknown_url};

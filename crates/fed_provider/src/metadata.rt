@@ -5,7 +5,7 @@ ghost use Rattle.fed_provider.specs.Metadata as spec;
 
 use fed_io::{Fault, NoRoom};
 use fed_origin::WebUrl;
-use fed_reply::{Asked, JsonBuffer, Member, read_texts};
+use fed_reply::{Asked, JsonBuffer, Member, ReplyMemory, read_texts};
 use std::alloc::Global;
 
 /// The links of a client's metadata (FedCM, "The client metadata endpoint").
@@ -52,11 +52,24 @@ fn copy_url(alloc: Global, url: &Option<WebUrl>) -> Result<Option<WebUrl>, NoRoo
 pub fn read_metadata(alloc: Global, raw: &[u8]) -> Result<PolicyLinks, NoRoom>
     ensures { IfOk result (λ links. links ≡ spec.MetadataOf raw.now) }
 {
-    let mut buffer = JsonBuffer::new(alloc);
-    links_of_reply(alloc, raw, &mut buffer)
+    read_metadata_with(alloc, &ReplyMemory::new(), raw)
 }
 
-// The same, with what is read from. The buffer is let go at one place: each place would take a copy of its 16 KB.
+/// The same, where `memory` is what the reply is read from.
+pub fn read_metadata_with(
+    alloc: Global,
+    memory: &ReplyMemory,
+    raw: &[u8],
+) -> Result<PolicyLinks, NoRoom>
+    ensures { IfOk result (λ links. links ≡ spec.MetadataOf raw.now) }
+{
+    let mut buffer = memory.lend(alloc)?;
+    let links = links_of_reply(alloc, raw, &mut buffer);
+    memory.take_back(raw, buffer);
+    links
+}
+
+// The same, with what is read from.
 #[tactic(auto, unfolding(crate::specs::Metadata::MetadataOf))]
 fn links_of_reply(alloc: Global, raw: &[u8], buffer: &mut JsonBuffer) -> Result<PolicyLinks, NoRoom>
     ensures { IfOk result (λ links. links ≡ spec.MetadataOf raw.now) }

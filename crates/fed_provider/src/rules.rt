@@ -12,6 +12,7 @@ use crate::wellknown::{site_url, wellknown_answer};
 use crate::{ProviderStep, SharedConfig};
 use fed_io::{Bytes, NoRoom};
 use fed_origin::{ReplyKind, SLOTS, Scheme, WebUrl, slot_of};
+use fed_reply::ReplyMemory;
 use fed_suffix::Suffixes;
 use std::alloc::Global;
 use std::marker::Model;
@@ -63,6 +64,8 @@ pub struct Rules {
     // The place that a get or a disconnect call looked at last, where a look begins: a place by all bytes of a text takes longer than to
     // compare it with one.
     last: usize,
+    // What replies are read from.
+    memory: ReplyMemory,
 }
 
 impl Model for Rules {
@@ -88,6 +91,7 @@ impl Drop for Rules {
             suffixes: _,
             sites: _,
             last: _,
+            memory: _,
         } = self;
     }
 }
@@ -101,6 +105,7 @@ impl Rules {
             suffixes,
             sites: Vec::new(alloc),
             last: 0,
+            memory: ReplyMemory::new(),
         }
     }
 
@@ -109,6 +114,11 @@ impl Rules {
         ensures { result.now ≡ self.now }
     {
         &self.suffixes
+    }
+
+    /// What replies are read from, kept from one to the next.
+    pub fn memory(&self) -> &ReplyMemory {
+        &self.memory
     }
 
     /// The well-known URL of a configuration URL that is https, or the step where it has no site.
@@ -233,7 +243,7 @@ impl Rules {
         if place >= self.sites.len() {
             return Ok(());
         }
-        keep_file(alloc, &mut self.sites[place], config, raw)
+        keep_file(alloc, &self.memory, &mut self.sites[place], config, raw)
     }
 
     // Keeps what a reply with the configuration of a site says, where that is kept.
@@ -244,7 +254,7 @@ impl Rules {
         if place >= self.sites.len() {
             return Ok(());
         }
-        keep_config(alloc, &mut self.sites[place], config, raw)
+        keep_config(alloc, &self.memory, &mut self.sites[place], config, raw)
     }
 
     /// What a reply with the well-known file of a configuration URL says, where that is kept. It takes no memory.
@@ -290,6 +300,7 @@ fn no_sites(alloc: Global) -> Result<Vec<Option<Site>>, NoRoom>
 // Keeps what a reply with the well-known file says, where the place has the site of the configuration URL.
 fn keep_file(
     alloc: Global,
+    memory: &ReplyMemory,
     kept: &mut Option<Site>,
     config: &WebUrl,
     raw: &[u8],
@@ -298,7 +309,7 @@ fn keep_file(
 {
     if let Some(site) = kept {
         if site.config.is_same(config) {
-            let file = file_read(alloc, site, raw)?;
+            let file = file_read(alloc, memory, site, raw)?;
             site.file = Some(file);
         }
     }
@@ -308,6 +319,7 @@ fn keep_file(
 // Keeps what a reply with the configuration says, where the place has the site of the configuration URL.
 fn keep_config(
     alloc: Global,
+    memory: &ReplyMemory,
     kept: &mut Option<Site>,
     config: &WebUrl,
     raw: &[u8],
@@ -316,7 +328,7 @@ fn keep_config(
 {
     if let Some(site) = kept {
         if site.config.is_same(config) {
-            let read = config_read(alloc, site, raw)?;
+            let read = config_read(alloc, memory, site, raw)?;
             site.read = Some(read);
         }
     }
@@ -324,12 +336,17 @@ fn keep_config(
 }
 
 // What a reply with the well-known file of a site says.
-fn file_read(alloc: Global, site: &Site, raw: &[u8]) -> Result<SaidFile, NoRoom>
+fn file_read(
+    alloc: Global,
+    memory: &ReplyMemory,
+    site: &Site,
+    raw: &[u8],
+) -> Result<SaidFile, NoRoom>
     ensures raw { IfOk result (λ file. file.raw ≡ raw.now) }
     ensures said { IfOk result (λ file. file.said ≡ file_by site.now.wellknown site.now.config raw.now) }
 {
     let said = match &site.wellknown {
-        Ok(base) => wellknown_answer(alloc, raw, base, &site.config)?,
+        Ok(base) => wellknown_answer(alloc, memory, raw, base, &site.config)?,
         Err(step) => Err(*step),
     };
     Ok(SaidFile {
@@ -339,13 +356,18 @@ fn file_read(alloc: Global, site: &Site, raw: &[u8]) -> Result<SaidFile, NoRoom>
 }
 
 // What a reply with the configuration of a site says.
-fn config_read(alloc: Global, site: &Site, raw: &[u8]) -> Result<SaidConfig, NoRoom>
+fn config_read(
+    alloc: Global,
+    memory: &ReplyMemory,
+    site: &Site,
+    raw: &[u8],
+) -> Result<SaidConfig, NoRoom>
     ensures raw { IfOk result (λ read. read.raw ≡ raw.now) }
     ensures said { IfOk result (λ read. read.said ≡ ConfigOf raw.now site.now.config) }
 {
     Ok(SaidConfig {
         raw: Bytes::of(alloc, raw)?,
-        said: config_answer(alloc, raw, &site.config)?,
+        said: config_answer(alloc, memory, raw, &site.config)?,
     })
 }
 

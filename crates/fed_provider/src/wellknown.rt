@@ -9,7 +9,7 @@ use crate::ProviderStep;
 use crate::listed::whole_listed;
 use fed_io::{Fault, NoRoom};
 use fed_origin::{Scheme, WebUrl};
-use fed_reply::{JsonBuffer, ReplyStep, open_json};
+use fed_reply::{JsonBuffer, ReplyMemory, ReplyStep, open_json};
 use fed_suffix::Suffixes;
 use std::alloc::Global;
 use std::str;
@@ -108,11 +108,26 @@ pub fn read_wellknown(
 ) -> Result<(), Fault<ProviderStep>>
     ensures { Answers result (spec.WellKnownOf raw.now base.now config.now) }
 {
-    let mut buffer = JsonBuffer::new(alloc);
-    reply_lists(alloc, raw, base, config, &mut buffer)
+    wellknown_by(alloc, &ReplyMemory::new(), raw, base, config)
 }
 
-// The same, with what is read from. The buffer is let go at one place: each place would take a copy of its 16 KB.
+// The same, where `memory` is what the reply is read from.
+fn wellknown_by(
+    alloc: Global,
+    memory: &ReplyMemory,
+    raw: &[u8],
+    base: &WebUrl,
+    config: &WebUrl,
+) -> Result<(), Fault<ProviderStep>>
+    ensures { Answers result (spec.WellKnownOf raw.now base.now config.now) }
+{
+    let mut buffer = memory.lend(alloc)?;
+    let read = reply_lists(alloc, raw, base, config, &mut buffer);
+    memory.take_back(raw, buffer);
+    read
+}
+
+// The same, with what is read from.
 #[tactic(auto, unfolding(crate::specs::WellKnown::WellKnownOf))]
 fn reply_lists(
     alloc: Global,
@@ -137,13 +152,14 @@ fn reply_lists(
 /// The same, where the step is an answer that can be kept.
 pub fn wellknown_answer(
     alloc: Global,
+    memory: &ReplyMemory,
     raw: &[u8],
     base: &WebUrl,
     config: &WebUrl,
 ) -> Result<Result<(), ProviderStep>, NoRoom>
     ensures { IfOk result (λ said. said ≡ spec.WellKnownOf raw.now base.now config.now) }
 {
-    match read_wellknown(alloc, raw, base, config) {
+    match wellknown_by(alloc, memory, raw, base, config) {
         Ok(()) => Ok(Ok(())),
         Err(Fault::Step(step)) => Ok(Err(step)),
         Err(Fault::NoRoom) => Err(NoRoom),

@@ -8,6 +8,7 @@ mod json_head;
 mod json_value;
 pub mod laws;
 mod member;
+mod memory;
 mod read;
 mod reply;
 mod step;
@@ -15,6 +16,7 @@ mod texts;
 
 pub use json_value::{JsonBuffer, essence, json_of, open_json, open_json_with};
 pub use member::{Member, list_member, object_member, text_member, value_member};
+pub use memory::ReplyMemory;
 pub use read::{read_head, read_reply};
 pub use reply::Reply;
 pub use step::ReplyStep;

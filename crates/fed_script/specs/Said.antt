@@ -23,13 +23,13 @@ use Rattle.fed_script.specs.Get.{ProviderMembers, GetMembers, provider_seen, as_
 use Rattle.fed_script.specs.Member.{◌>>=◌, or_cause, json_of, required, as_u32}
 use Rattle.fed_script.specs.Options.{option_members}
 
--- the names, in their order
+-- the names, those first that most lines have
 abbrev pub all_names : List MemberName
 all_names =
-    names.Do ∷ names.Fedcm ∷ names.Now ∷ names.Rules ∷ names.What ∷ names.Origin ∷ names.Status ∷ names.Time ∷ names.Page ∷ names.Url
-    ∷ names.Text ∷ names.Raw ∷ names.Call ∷ names.Mediation ∷ names.Mode ∷ names.Activation ∷ names.Context ∷ names.Providers
-    ∷ names.Config ∷ names.Client ∷ names.Nonce ∷ names.LoginHint ∷ names.DomainHint ∷ names.Params ∷ names.Provider ∷ names.To
-    ∷ names.Account ∷ names.Hint ∷ []
+    names.Do ∷ names.Page ∷ names.Call ∷ names.Provider ∷ names.Account ∷ names.To ∷ names.Text ∷ names.Url ∷ names.What
+    ∷ names.Origin ∷ names.Status ∷ names.Time ∷ names.Providers ∷ names.Mode ∷ names.Activation ∷ names.Context ∷ names.Mediation
+    ∷ names.Raw ∷ names.Config ∷ names.Client ∷ names.Hint ∷ names.Nonce ∷ names.LoginHint ∷ names.DomainHint ∷ names.Params
+    ∷ names.Fedcm ∷ names.Now ∷ names.Rules ∷ []
 
 -- the first of some names that a text is
 abbrev pub named_of : List MemberName → List ℕ → Option MemberName
@@ -40,7 +40,7 @@ named_of (name ∷ further) text = if bytes_eq text (name_text name) then Some n
 abbrev pub named : List ℕ → Option MemberName
 named text = named_of all_names text
 
--- the place of a name in their order
+-- the place of a name in the order of the type
 abbrev pub place : MemberName → ℕ
 place names.Do = 0
 place names.Fedcm = 1

@@ -60,11 +60,24 @@ fn header_named(alloc: Global, d: &Said<'_>) -> Result<Header, Fault<LineCause>>
 /// Reads the first line of a script, without its LF: an object whose `fedcm` is 1, whose `now` is the time
 /// in whole seconds since 1970, and whose `rules` is a text of public suffix rules, a line each
 /// (`Suffixes::read_line`). Refused by NotJson, or by the first of these members that fails.
+// It is called once a script, so that its 16 KB of memory for reading are no part of who calls it.
+#[inline(never)]
 pub fn read_header(alloc: Global, line: &[u8]) -> Result<Header, Fault<LineCause>>
     ensures { Answers result (header_of line.now) }
 {
     let mut scratch = Scratch::new(alloc);
+    header_said(alloc, &mut scratch, line)
+}
+
+// The same, with memory for reading, which is let go at one place: each place would take a copy of it.
+fn header_said(
+    alloc: Global,
+    scratch: &mut Scratch,
+    line: &[u8],
+) -> Result<Header, Fault<LineCause>>
+    ensures { Answers result (header_of line.now) }
+{
     let mut said = SaidLine::nothing();
-    read_said(&mut scratch, line, &mut said)?;
+    read_said(scratch, line, &mut said)?;
     header_named(alloc, &said.members)
 }

@@ -19,7 +19,7 @@ use crate::tabs::Tabs;
 use fed_consent::{Effect, Why};
 use fed_disconnect::DState;
 use fed_io::{Items, NoRoom, Steps, Text};
-use fed_origin::{Origin, Scheme, WebUrl};
+use fed_origin::{Scheme, SharedOrigin, WebUrl};
 use fed_trace::Out;
 use std::alloc::Global;
 use std::sync::ledger::Ledger;
@@ -47,10 +47,10 @@ pub(crate) fn disconnect<L: Ledger>(
     ensures steps { steps.new ≤ steps.old + 20 }
     ensures sight { sight.new ≡ sight.old }
 {
-    let Some(origin) = tabs.origin(page) else {
+    let Some(origin) = tabs.shared_origin(page) else {
         return ignored(alloc, line, Why::NoPage);
     };
-    if !origin.is_trustworthy() {
+    if !origin.as_origin().is_trustworthy() {
         return ignored(alloc, line, Why::PageInsecure);
     }
     let (kept, effects) = begin(alloc, sight, page, call, origin, config, client, hint)?;
@@ -65,7 +65,7 @@ fn begin(
     sight: &mut Sight,
     page: u32,
     call: u32,
-    origin: &Origin,
+    origin: &SharedOrigin,
     config: &WebUrl,
     client: &Text,
     hint: &Text,
@@ -85,7 +85,7 @@ fn begin(
         sight,
         page,
         call,
-        origin.copy(alloc)?,
+        origin.copy()?,
         config.copy(alloc)?,
         client.copy(alloc)?,
         hint.copy(alloc)?,
@@ -99,7 +99,7 @@ fn start(
     sight: &mut Sight,
     page: u32,
     call: u32,
-    origin: Origin,
+    origin: SharedOrigin,
     config: WebUrl,
     client: Text,
     hint: Text,
@@ -113,6 +113,7 @@ fn start(
     ensures sight { sight.new ≡ sight.old }
 {
     if config.scheme() == Scheme::Http {
+        let origin = origin.as_origin().copy(alloc)?;
         return DState::start(
             alloc,
             call,

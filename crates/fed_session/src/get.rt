@@ -21,7 +21,7 @@ use crate::tabs::Tabs;
 use fed_call::CallState;
 use fed_consent::{Effect, FailStep, Failure, Finish, ONLY_PLACE, Why};
 use fed_io::{Items, NoRoom, Steps};
-use fed_origin::{GetOptions, Origin, Scheme, WebUrl};
+use fed_origin::{GetOptions, Scheme, SharedOrigin, WebUrl};
 use fed_trace::Out;
 use std::alloc::Global;
 use std::sync::ledger::Ledger;
@@ -46,10 +46,10 @@ pub(crate) fn get<L: Ledger>(
     ensures steps { steps.new ≤ steps.old + 20 }
     ensures sight { sight.new ≡ sight.old }
 {
-    let Some(origin) = tabs.origin(page) else {
+    let Some(origin) = tabs.shared_origin(page) else {
         return ignored(alloc, line, Why::NoPage);
     };
-    if !origin.is_trustworthy() {
+    if !origin.as_origin().is_trustworthy() {
         return ignored(alloc, line, Why::PageInsecure);
     }
     let (kept, effects) = begin(
@@ -73,7 +73,7 @@ fn begin(
     busy: bool,
     page: u32,
     call: u32,
-    origin: &Origin,
+    origin: &SharedOrigin,
     options: &GetOptions,
 ) -> Result<(Kept, Items<Effect>), NoRoom>
     requires { length options.now.providers ≡ 1 }
@@ -90,7 +90,7 @@ fn begin(
         sight,
         page,
         call,
-        origin.copy(alloc)?,
+        origin.copy()?,
         options.copy(alloc)?,
     )?;
     Ok((Kept::of_get(state), effects))
@@ -110,7 +110,7 @@ fn start(
     sight: &mut Sight,
     page: u32,
     call: u32,
-    origin: Origin,
+    origin: SharedOrigin,
     options: GetOptions,
 ) -> Result<(CallState, Items<Effect>), NoRoom>
     requires { length options.providers ≡ 1 }
@@ -122,6 +122,7 @@ fn start(
 {
     let config = config_of(&options);
     if config.scheme() == Scheme::Http {
+        let origin = origin.as_origin().copy(alloc)?;
         return CallState::start(alloc, call, page, origin, options, &sight.lent());
     }
     let wellknown = sight.cookies.wellknown(alloc, config)?;

@@ -1,5 +1,5 @@
 //! What replies of page loads, and lines of the kind `have`, say of cookies and login statuses.
-ghost use Rattle.std.specs.Prelude.{◌≡◌, ◌<◌, ◌+◌, ◌-◌, ◌^◌, [], ◌∷◌, length, OnOk};
+ghost use Rattle.std.specs.Prelude.{◌≡◌, ◌<◌, ◌+◌, ◌-◌, ◌^◌, [], ◌∷◌, length, IfOk, OnOk};
 ghost use Rattle.fed_origin.specs.WebUrl.{origin_of};
 ghost use Rattle.fed_reply.specs.Fields.{values};
 ghost use Rattle.fed_script.specs.Used.{SaysKnown};
@@ -9,11 +9,18 @@ ghost use Rattle.fed_session.specs.StepParts.{with_statuses, logins_in, have_sta
 
 use crate::sight::Sight;
 use fed_io::{Bytes, Fault, NoRoom};
-use fed_origin::{Origin, WebUrl};
+use fed_origin::{Origin, SharedOrigin, WebUrl};
 use fed_reply::{Reply, read_head};
 use fed_script::Have;
 use fed_status::{LoginMap, read_set_login};
 use std::alloc::Global;
+
+/// The origin of a page that is loaded from a URL, which the calls of the page share.
+pub(crate) fn page_origin(alloc: Global, url: &WebUrl) -> Result<SharedOrigin, NoRoom>
+    ensures { IfOk result (λ origin. origin ≡ origin_of url.now) }
+{
+    SharedOrigin::new(alloc, Origin::of_url(alloc, url)?)
+}
 
 /// Stores the Set-Cookie values of a load's reply, in their order (RFC 6265, 5.3), and then sets the status of its URL's
 /// origin by its Set-Login values, in their order (Login Status API). A reply whose head is not read has none.

@@ -17,7 +17,7 @@ ghost use Rattle.fed_trace.specs.Windows.{windows_of};
 use crate::disconnect::disconnect;
 use crate::get::get;
 use crate::input::{input_of, take_input};
-use crate::load::{take_have, take_head};
+use crate::load::{page_origin, take_have, take_head};
 use crate::page::{close, prevent, set_page_status};
 use crate::resume::resume;
 use crate::sight::Sight;
@@ -25,7 +25,7 @@ use crate::tabs::Tabs;
 use crate::view::{View, shown_flags, shown_logins};
 use fed_io::{Bytes, Items, NoRoom, Steps, Text};
 use fed_links::Links;
-use fed_origin::{GetOptions, Origin, WebUrl};
+use fed_origin::{GetOptions, WebUrl};
 use fed_script::{Event, Have, Header};
 use fed_trace::Out;
 use std::alloc::Global;
@@ -229,7 +229,7 @@ impl Session {
         ensures alive { self.new.alive ≡ self.old.alive }
         ensures link_steps { steps.new ≤ steps.old + (20 * length (page_calls self.old.tabs.table.pages page) + 8) }
     {
-        let origin = Origin::of_url(self.alloc, url)?;
+        let origin = page_origin(self.alloc, url)?;
         self.tabs.load(page, origin, steps)?;
         take_head(self.alloc, &mut self.sight, url, raw)?;
         Ok(Items::new(self.alloc))

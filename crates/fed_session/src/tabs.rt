@@ -21,7 +21,7 @@ use fed_entries::Entries;
 use fed_io::{Items, NoRoom, Steps};
 use fed_links::Links;
 use fed_numbers::Numbers;
-use fed_origin::{Origin, Stage};
+use fed_origin::{Origin, SharedOrigin, Stage};
 use fed_table::Table;
 use indexmap::IndexMap;
 use std::alloc::Global;
@@ -30,8 +30,8 @@ use std::sync::ledger::Ledger;
 
 /// The pages that stand, and the calls that were taken. What names one page or one call looks at no other.
 pub struct Tabs {
-    /// The pages that stand, with their origins.
-    pages: Entries<u32, Origin>,
+    /// The pages that stand, with their origins, which the calls of a page share.
+    pages: Entries<u32, SharedOrigin>,
     /// The pending get of each page that has one.
     gets: IndexMap<u32, u32>,
     /// The calls that were taken.
@@ -84,6 +84,16 @@ impl Tabs {
     pub(crate) fn origin(&self, page: u32) -> Option<&Origin>
         ensures { option_copied result ≡ lookup (nat_eq page) self.now.pages }
     {
+        match self.pages.get(page) {
+            Some(origin) => Some(origin.as_origin()),
+            None => None,
+        }
+    }
+
+    /// The same, to be shared.
+    pub(crate) fn shared_origin(&self, page: u32) -> Option<&SharedOrigin>
+        ensures { option_copied result ≡ lookup (nat_eq page) self.now.pages }
+    {
         self.pages.get(page)
     }
 
@@ -105,7 +115,7 @@ impl Tabs {
     pub(crate) fn load<L: Ledger>(
         &mut self,
         page: u32,
-        origin: Origin,
+        origin: SharedOrigin,
         steps: &mut Steps<L>,
     ) -> Result<(), NoRoom>
         ensures ok { OnOk result (Ends page (insert_entry nat_eq self.old.pages page origin)

@@ -10,7 +10,7 @@ use fed_entries::Slot;
 use fed_io::{Items, NoRoom};
 use fed_jar::Cookie;
 use fed_numbers::Numbers;
-use fed_origin::{LoginStatus, Origin, Stage, Triple};
+use fed_origin::{LoginStatus, Origin, SharedOrigin, Stage, Triple};
 use fed_status::{LoginMap, SilentFlags};
 use fed_table::Table;
 use std::alloc::Global;
@@ -66,14 +66,14 @@ pub(crate) fn shown_flags(alloc: Global, flags: &SilentFlags) -> Result<Items<Or
 /// The pages with their origins.
 pub(crate) fn shown_pages(
     alloc: Global,
-    slots: &[Slot<u32, Origin>],
+    slots: &[Slot<u32, SharedOrigin>],
 ) -> Result<Items<(u32, Origin)>, NoRoom>
     ensures { IfOk result (λ shown. shown ≡ entries_in slots.now) }
 {
     let mut shown = Items::new(alloc);
     for slot in slots {
         if let Some((page, origin)) = slot {
-            shown.push((*page, origin.copy(alloc)?))?;
+            shown.push((*page, origin.as_origin().copy(alloc)?))?;
         }
     }
     Ok(shown)

@@ -7,5 +7,5 @@ mod said;
 mod step;
 
 pub use cors::cors_passes;
-pub use read::{read_assertion, read_disconnect};
+pub use read::{read_assertion, read_assertion_with, read_disconnect, read_disconnect_with};
 pub use step::TokenStep;

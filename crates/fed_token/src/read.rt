@@ -13,7 +13,7 @@ use crate::said::{ErrorTexts, Said, whole_said};
 use fed_io::{Fault, NoRoom, Text};
 use fed_json::Values;
 use fed_origin::Origin;
-use fed_reply::{Asked, JsonBuffer, Member, ReplyStep, open_json_with, whole_texts};
+use fed_reply::{Asked, JsonBuffer, Member, ReplyMemory, ReplyStep, open_json_with, whole_texts};
 use std::alloc::Global;
 
 /// Reads the token in a reply of the identity assertion endpoint (FedCM, "The identity assertion
@@ -23,8 +23,22 @@ use std::alloc::Global;
 pub fn read_assertion(alloc: Global, raw: &[u8], origin: &Origin) -> Result<Text, Fault<TokenStep>>
     ensures { Answers result (spec.AssertionOf raw.now (origin_text origin.now)) }
 {
-    let mut buffer = JsonBuffer::new(alloc);
-    token_of_reply(alloc, raw, origin, &mut buffer)
+    read_assertion_with(alloc, &ReplyMemory::new(), raw, origin)
+}
+
+/// The same, where `memory` is what the reply is read from.
+pub fn read_assertion_with(
+    alloc: Global,
+    memory: &ReplyMemory,
+    raw: &[u8],
+    origin: &Origin,
+) -> Result<Text, Fault<TokenStep>>
+    ensures { Answers result (spec.AssertionOf raw.now (origin_text origin.now)) }
+{
+    let mut buffer = memory.lend(alloc)?;
+    let token = token_of_reply(alloc, raw, origin, &mut buffer);
+    memory.take_back(raw, buffer);
+    token
 }
 
 /// Reads the account id in a reply of the disconnect endpoint (FedCM, "The disconnect endpoint") to
@@ -36,11 +50,26 @@ pub fn read_disconnect(alloc: Global, raw: &[u8], origin: &Origin) -> Result<Tex
     // No step is an error of the provider.
     ensures never { IfErr result spec.IsDisconnectFault }
 {
-    let mut buffer = JsonBuffer::new(alloc);
-    account_id_of_reply(alloc, raw, origin, &mut buffer)
+    read_disconnect_with(alloc, &ReplyMemory::new(), raw, origin)
 }
 
-// The token in a reply, with what is read from. The buffer is let go at one place: each place would take a copy of its 16 KB.
+/// The same, where `memory` is what the reply is read from.
+pub fn read_disconnect_with(
+    alloc: Global,
+    memory: &ReplyMemory,
+    raw: &[u8],
+    origin: &Origin,
+) -> Result<Text, Fault<TokenStep>>
+    ensures answers { Answers result (spec.DisconnectOf raw.now (origin_text origin.now)) }
+    ensures never { IfErr result spec.IsDisconnectFault }
+{
+    let mut buffer = memory.lend(alloc)?;
+    let account = account_id_of_reply(alloc, raw, origin, &mut buffer);
+    memory.take_back(raw, buffer);
+    account
+}
+
+// The token in a reply, with what is read from.
 #[tactic(auto, unfolding(crate::specs::Read::AssertionOf))]
 fn token_of_reply(
     alloc: Global,

@@ -46,6 +46,7 @@ fn answer(alloc: Global, bytes: &[u8]) -> Result<Ran, NoRoom>
 }
 
 /// Reads the source whole, at most 67,108,864 bytes, and writes whether its two scripts are twins.
+#[inline(never)]
 pub fn tell_twins<S: Source, K: Sink>(alloc: Global, source: &mut S, sink: &mut K) -> Status
     ensures ends { result ≡ Status.Usage → ⊥ }
     ensures done { result ≡ Status.Done → IsAtEnd (S.left source.new)

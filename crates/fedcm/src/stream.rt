@@ -83,6 +83,7 @@ fn stream<S: Source, K: Sink, L: Ledger>(
 
 /// Runs the script of a source, which is taken in pieces of at most 65,536 bytes. The records of each event are put before the
 /// next line is read, so that neither the script nor the transcript is kept.
+#[inline(never)]
 pub fn run<S: Source, K: Sink, L: Ledger>(
     alloc: Global,
     source: &mut S,

@@ -237,6 +237,7 @@ pub fn make<L: Ledger>(alloc: Global, calls: u32, steps: &mut Steps<L>) -> Resul
 }
 
 /// Writes the summary of the script of so many calls.
+#[inline(never)]
 pub fn tell_summary<K: Sink, L: Ledger>(
     alloc: Global,
     calls: u32,

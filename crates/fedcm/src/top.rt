@@ -80,6 +80,7 @@ pub fn fedcm<S: Source, K: Sink, L: Ledger>(
     ensures source_faults { S.faults source.old ≤ S.faults source.new }
     ensures sink_faults { K.faults sink.old ≤ K.faults sink.new }
 {
+    // Each form stands by itself (`inline(never)`), so that none has the buffers of the others on its stack.
     match form_of(words) {
         None => Status::Usage,
         Some(Form::Run) => run(alloc, source, sink, steps),

@@ -6,6 +6,7 @@ use fed_accounts::{
 };
 use fed_io::{Fault, NoRoom, Text, lent_text};
 use fed_origin::Mediation;
+use fed_reply::ReplyMemory;
 use std::alloc::{AllocError, Global};
 use std::process::Abort;
 use std::test::Fail;
@@ -154,7 +155,11 @@ fn hinted_ids(
     domain: Option<&Text>,
 ) -> Result<String, Fail> {
     let raw = reply_with(alloc, list)?;
-    shown(alloc, read_hinted(alloc, raw.as_bytes(), login, domain))
+    let memory = ReplyMemory::new();
+    shown(
+        alloc,
+        read_hinted(alloc, &memory, raw.as_bytes(), login, domain),
+    )
 }
 
 fn reply_line(rt: &impl Abort, alloc: Global, line: &str) -> Result<(), Fail> {

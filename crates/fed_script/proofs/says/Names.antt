@@ -10,8 +10,16 @@ use Rattle.fed_script.specs.declared.cause.MemberName.TheVariants as names
 use Rattle.fed_script.specs.Cause.{name_text}
 use Rattle.fed_script.specs.Said.{all_names, named_of, named, place}
 
+-- the names by their places
+abbrev pub by_place : List MemberName
+by_place =
+    names.Do ∷ names.Fedcm ∷ names.Now ∷ names.Rules ∷ names.What ∷ names.Origin ∷ names.Status ∷ names.Time ∷ names.Page ∷ names.Url
+    ∷ names.Text ∷ names.Raw ∷ names.Call ∷ names.Mediation ∷ names.Mode ∷ names.Activation ∷ names.Context ∷ names.Providers
+    ∷ names.Config ∷ names.Client ∷ names.Nonce ∷ names.LoginHint ∷ names.DomainHint ∷ names.Params ∷ names.Provider ∷ names.To
+    ∷ names.Account ∷ names.Hint ∷ []
+
 -- the name at its place
-pub at_place : (name : MemberName) → get_or all_names (place name) names.Do ≡ name
+pub at_place : (name : MemberName) → get_or by_place (place name) names.Do ≡ name
 at_place names.Do = refl
 at_place names.Fedcm = refl
 at_place names.Now = refl
@@ -43,7 +51,7 @@ at_place names.Hint = refl
 
 -- two names have two places
 place-apart : (a b : MemberName) → a ≢ b → place a ≢ place b
-place-apart a b apart = λ same. apart (sym (at_place a) ∙ ap (λ n. get_or all_names n names.Do) same ∙ at_place b)
+place-apart a b apart = λ same. apart (sym (at_place a) ∙ ap (λ n. get_or by_place n names.Do) same ∙ at_place b)
 
 pub found-noted : (name : MemberName) (found : List Begun) (first : Begun) (i : ℕ) → i ≡ place name → i < length found
     → get_or (slice_set found i first) (place name) Null ≡ first

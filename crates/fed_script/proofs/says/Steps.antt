@@ -11,8 +11,8 @@ use Rattle.fed_script.specs.declared.cause.MemberName.{MemberName}
 use Rattle.fed_script.specs.declared.cause.MemberName.TheVariants as names
 use Rattle.fed_script.specs.declared.said.Said.{Said}
 use Rattle.fed_script.specs.Cause.{name_text}
-use Rattle.fed_script.specs.Said.{all_names, named, place, under, MayBegin, Says}
-use Rattle.fed_script.proofs.says.Names.{at_place, named-text, name-named, name-apart}
+use Rattle.fed_script.specs.Said.{named, place, under, MayBegin, Says}
+use Rattle.fed_script.proofs.says.Names.{by_place, at_place, named-text, name-named, name-apart}
 
 -- the value of a name may begin so, where both are these
 begins_as : (a b : Begun) (o p : Option Data) → a ≡ b → o ≡ p → MayBegin b p → MayBegin a o
@@ -22,7 +22,7 @@ begins_as a b o p same found h = rw (same, found) h
 one_or_other : (other name : MemberName) → (other ≡ name) ⊎ (other ≢ name)
 one_or_other other name =
     elim (eqb_tells (place other) (place name)) [
-      | inl is ↦ inl (sym (at_place other) ∙ ap (λ n. get_or all_names n names.Do) is.1 ∙ at_place name)
+      | inl is ↦ inl (sym (at_place other) ∙ ap (λ n. get_or by_place n names.Do) is.1 ∙ at_place name)
       | inr apart ↦ inr (λ same. apart.1 (ap place same))
     ]
 

@@ -1,7 +1,7 @@
 use Rattle.std.proofs.Common.{subst}
 use Rattle.fed_io.specs.Fault.{Answers}
 use Rattle.fed_script.proofs.says.Lines.{header_read}
-use Rattle.fed_script.proofs.header.read_header.Goals as goal
+use Rattle.fed_script.proofs.header.header_said.Goals as goal
 
 pub returns : goal.returns
 returns c =
