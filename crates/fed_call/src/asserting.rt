@@ -205,7 +205,7 @@ pub fn assertion_request(
 {
     match consent.spend(
         alloc,
-        &config.as_config().assertion,
+        &config.get().assertion,
         begun.origin(),
         begun.provider(),
     ) {

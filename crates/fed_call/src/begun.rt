@@ -141,7 +141,7 @@ impl Call {
     pub fn origin(&self) -> &Origin
         ensures { result.now ≡ self.now.origin }
     {
-        self.place.origin.as_origin()
+        self.place.origin.get()
     }
 
     /// Its mediation.

@@ -156,7 +156,7 @@ fn asks_about(
     ensures state { IfOk result (λ r. facts_of r.0
         ≡ at_stage Stage.Prompting (with_candidate picked.candidate (configured begun config Stage.Choosing))) }
 {
-    let prompt = picked.prompt(config.as_config().metadata.is_some());
+    let prompt = picked.prompt(config.get().metadata.is_some());
     let effects = prompt_shown(alloc, shared, &begun, place, &prompt, &config)?;
     let state = Prompting {
         begun,
@@ -178,13 +178,6 @@ fn prompt_shown(
     ensures { IfOk result (λ effects. effects ≡ prompt_effect (world_of shared.now) (begun_facts
         begun.now) place begun.now.provider prompt.now.pick.candidate prompt.now.pick.candidate.connected config.now.metadata ∷ []) }
 {
-    let effect = prompt_effect(
-        alloc,
-        shared,
-        begun,
-        place,
-        prompt,
-        &config.as_config().metadata,
-    )?;
+    let effect = prompt_effect(alloc, shared, begun, place, prompt, &config.get().metadata)?;
     effect.alone(alloc)
 }

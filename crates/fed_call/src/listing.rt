@@ -317,7 +317,7 @@ impl Listing {
             self.begun.provider accounts).stage Stage.Listing)
             (with_offer (world_of shared.now) self.begun.provider accounts (listing_facts self))) }
     {
-        let waits = !connected && self.config.as_config().metadata.is_some();
+        let waits = !connected && self.config.get().metadata.is_some();
         let prompt = Prompt::single(self.begun.call(), place, accounts, connected, waits);
         let effects = prompt_shown(alloc, shared, &self, place, &prompt)?;
         let Listing { begun, config } = self;
@@ -425,7 +425,7 @@ fn prompt_shown(
         begun,
         place,
         prompt,
-        &listing.config.as_config().metadata,
+        &listing.config.get().metadata,
     )?;
     Effect::SetLogin(provider, LoginStatus::LoggedIn).then(alloc, effect)
 }

@@ -116,7 +116,7 @@ pub fn asks_accounts(
     ensures effects { IfOk result (λ r. r.1 ≡ (spec.asks_accounts place config).effects) }
     ensures state { IfOk result (λ r. r.0 ≡ CallState.Listing (record { begun = begun; config = config })) }
 {
-    let effects = accounts_request(alloc, place, &config.as_config().accounts)?;
+    let effects = accounts_request(alloc, place, &config.get().accounts)?;
     Ok((CallState::Listing(Listing { begun, config }), effects))
 }
 

@@ -100,7 +100,7 @@ impl CallState {
             ≡ started call page origin options (start_row (world_of shared.now) origin options)) }
         ensures stage { IfOk result (λ r. Some (stage_of (facts_of r.0)) ≡ (start_row (world_of shared.now) origin options).stage) }
     {
-        match first_requests(alloc, origin.as_origin(), &options, wellknown, shared)? {
+        match first_requests(alloc, origin.get(), &options, wellknown, shared)? {
             Ok(effects) => {
                 let state = Reading {
                     begun: Call::new(alloc, call, page, origin, options)?,

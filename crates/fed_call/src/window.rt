@@ -77,5 +77,5 @@ pub fn may_sign_in(begun: &Call) -> bool
 pub fn window_effect(alloc: Global, place: u32, config: &SharedConfig) -> Result<Effect, NoRoom>
     ensures { IfOk result (λ effect. effect ≡ Effect.Window place config.now.login) }
 {
-    Ok(Effect::Window(place, config.as_config().login.copy(alloc)?))
+    Ok(Effect::Window(place, config.get().login.copy(alloc)?))
 }

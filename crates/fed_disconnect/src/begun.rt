@@ -110,7 +110,7 @@ impl Begun {
     pub fn origin(&self) -> &Origin
         ensures { result.now ≡ self.now.origin }
     {
-        self.place.origin.as_origin()
+        self.place.origin.get()
     }
 
     /// The first requests of the call, whose well-known URL is this one, or the step at which it fails.

@@ -141,7 +141,7 @@ fn asks_disconnect(
         ≡ at_stage (unwrap_or (spec.asks_disconnect begun.origin begun.options config.disconnect).stage Stage.Reading)
         (record begun { replies = both_taken config })) }
 {
-    match &config.as_config().disconnect {
+    match &config.get().disconnect {
         Some(to) => {
             let effects = begun.disconnect_request(alloc, to)?;
             Ok((DState::DSending(DSending { begun, config }), effects))

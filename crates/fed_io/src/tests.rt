@@ -1,8 +1,8 @@
 ghost use Rattle.std.specs.Prelude.{◌≡◌, ◌<◌};
 
 use crate::{
-    Bytes, Failed, Items, MemSink, MemSource, Placed, QuietSink, QuietSource, Sink, Source,
-    StdSink, StdSource, Steps, Text, copy_placed, lent_text, placed_text, put_all,
+    Bytes, Failed, Items, MemSink, MemSource, Placed, QuietSink, QuietSource, SharedValue, Sink,
+    Source, StdSink, StdSource, Steps, Text, copy_placed, lent_text, placed_text, put_all,
 };
 use std::io::{self, Cursor, Read, Write};
 use std::marker::Brand;
@@ -28,6 +28,8 @@ fn texts_bytes_and_items_are_copied(rt: HostRuntime) -> Result<(), Fail> {
     let placed = Placed::new(alloc, 9)?;
     assert_eq!(rt; *placed.get(), 9);
     assert_eq!(rt; placed.open(), 9);
+    let shared = SharedValue::new(alloc, 9)?;
+    assert_eq!(rt; *shared.copy()?.get(), 9);
     let placed = placed_text(alloc, Some("t"))?;
     let copy = copy_placed(alloc, &placed)?;
     assert_eq!(rt; lent_text(&copy).map(Text::as_str), Some("t"));

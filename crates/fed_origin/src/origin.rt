@@ -5,7 +5,7 @@ ghost use Rattle.std.proofs.Common.{rules};
 ghost use Rattle.std.specs.Cmp.Rules.{comparing};
 
 use crate::{Host, HostKind, Scheme, WebUrl};
-use fed_io::{NoRoom, Text};
+use fed_io::{NoRoom, SharedValue, Text};
 use itoa::Buffer;
 use std::alloc::Global;
 
@@ -27,6 +27,9 @@ impl Drop for Origin {
         } = self;
     }
 }
+
+/// An origin that its copies share.
+pub type SharedOrigin = SharedValue<Origin>;
 
 impl PartialEq for Origin {
     ghost use Rattle.fed_origin.specs.Origin.{same_origin};

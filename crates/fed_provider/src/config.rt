@@ -7,12 +7,10 @@ ghost use Rattle.fed_provider.specs.Config as spec;
 ghost use Rattle.fed_reply.specs.Shape.{required, optional};
 
 use crate::ProviderStep;
-use fed_io::{Fault, NoRoom};
+use fed_io::{Fault, NoRoom, SharedValue};
 use fed_origin::{Endpoint, WebUrl};
 use fed_reply::{Asked, JsonBuffer, Member, ReplyMemory, read_texts};
 use std::alloc::Global;
-use std::marker::Model;
-use std::rc::Rc;
 
 /// The configuration of a provider (FedCM, "The config file"). Each URL is same-origin with the
 /// configuration URL.
@@ -42,52 +40,8 @@ impl Drop for Config {
     }
 }
 
-/// A configuration that its copies share, so that one takes no memory. Contracts see the configuration.
-pub struct SharedConfig {
-    inner: Rc<Config>,
-}
-
-// Written out, so that one function lets it go wherever it ends.
-impl Drop for SharedConfig {
-    fn drop(self) {
-        let SharedConfig { inner: _ } = self;
-    }
-}
-
-impl Model for SharedConfig {
-    ghost use Rattle.fed_provider.specs.declared.config.Config.{Config};
-
-    ghost Value = { Config };
-
-    ghost view = { λ c. c.inner.value };
-}
-
-impl SharedConfig {
-    /// The configuration, to be shared.
-    pub fn new(alloc: Global, config: Config) -> Result<SharedConfig, NoRoom>
-        ensures { IfOk result (λ shared. shared ≡ config) }
-    {
-        Ok(SharedConfig {
-            inner: Rc::new(alloc, config)?,
-        })
-    }
-
-    /// The same configuration. It takes no memory.
-    pub fn copy(&self) -> Result<SharedConfig, NoRoom>
-        ensures { IfOk result (λ copy. copy ≡ self.now) }
-    {
-        Ok(SharedConfig {
-            inner: self.inner.clone()?,
-        })
-    }
-
-    /// The configuration.
-    pub fn as_config(&self) -> &Config
-        ensures { result.now ≡ self.now }
-    {
-        &self.inner
-    }
-}
+/// A configuration that its copies share.
+pub type SharedConfig = SharedValue<Config>;
 
 /// Reads the configuration in a reply of the configuration URL. The steps are `ConfigReply`,
 /// `ConfigShape` where a member is missing or no text, and `EndpointOrigin` of the first endpoint

@@ -89,10 +89,10 @@ json_with only reply = if has_each only reply.fields then with_ok Some (JsonOf r
 abbrev pub ReplyJsonWith : List FieldPair → List ℕ → Result (Option Data) ReplyStep
 ReplyJsonWith only raw = and_then (json_with only) (ReplyOf raw)
 
--- the value that is expected is the one that the tokens hold, unless it is refused before
-abbrev pub Opens : Result (List Token) (Fault ReplyStep) → Result Data ReplyStep → Type 0
-Opens (Ok values) expected = expected ≡ ok_or (whole_in values) Json
-Opens (Err fault) expected = Refuses fault expected
+-- the value that is expected is the one that the tokens hold, and the step `no_value` where they hold none, unless it is refused before
+abbrev pub Opens : {S : Type 0} → S → Result (List Token) (Fault S) → Result Data S → Type 0
+Opens no_value (Ok values) expected = expected ≡ ok_or (whole_in values) no_value
+Opens no_value (Err fault) expected = Refuses fault expected
 
 -- the value that the tokens hold, if the reply has the fields
 abbrev pub opened : Option (List Token) → Result (Option Data) ReplyStep

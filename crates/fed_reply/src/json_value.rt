@@ -56,7 +56,7 @@ pub fn open_json<'a>(
     raw: &'a [u8],
     buffer: &'a mut JsonBuffer,
 ) -> Result<Values<'a>, Fault<ReplyStep>>
-    ensures { spec.Opens result (spec.ReplyJsonOf raw.now) }
+    ensures { spec.Opens ReplyStep.Json result (spec.ReplyJsonOf raw.now) }
 {
     let head = match read_json_head(raw, &[]) {
         Ok(head) => head,
@@ -151,7 +151,7 @@ fn body_tape<'a>(
 
 // The values of the JSON text that a body is.
 fn open_body<'a>(body: &'a [u8], scratch: &'a mut Scratch) -> Result<Values<'a>, Fault<ReplyStep>>
-    ensures { spec.Opens result (spec.body_value body.now) }
+    ensures { spec.Opens ReplyStep.Json result (spec.body_value body.now) }
 {
     match Values::of(scratch, after_mark(body)) {
         Ok(Some(values)) => Ok(values),

@@ -74,18 +74,28 @@ fn event_of_kind(
 }
 
 /// What is kept from one line to the next: memory for reading, and what was read before. No answer hangs on it.
-#[derive(Drop)]
 pub(crate) struct LineMemory {
-    scratch: Scratch,
+    scratch: Option<Box<Scratch>>,
     config: KeptConfigs,
     texts: LastTexts,
+}
+
+// Written out, so that one function lets it go wherever it ends.
+impl Drop for LineMemory {
+    fn drop(self) {
+        let LineMemory {
+            scratch: _,
+            config: _,
+            texts: _,
+        } = self;
+    }
 }
 
 impl LineMemory {
     /// Before the first line. It takes no memory.
     pub(crate) fn new(alloc: Global) -> LineMemory {
         LineMemory {
-            scratch: Scratch::new(alloc),
+            scratch: None,
             config: KeptConfigs::none(alloc),
             texts: LastTexts::none(),
         }
@@ -116,7 +126,7 @@ fn reply_named(
     ensures { Answers result (spec.event_named line.now) }
 {
     let Some((call, kind, escaped)) = reply_line(line) else {
-        return event_of_members(alloc, memory, line);
+        return members_named(alloc, memory, line);
     };
     match memory.texts.read(alloc, kind, escaped) {
         Ok(Some(raw)) => Ok(Event::Reply {
@@ -125,7 +135,7 @@ fn reply_named(
             kind,
             raw,
         }),
-        Ok(None) => event_of_members(alloc, memory, line),
+        Ok(None) => members_named(alloc, memory, line),
         Err(NoRoom) => Err(Fault::NoRoom),
     }
 }
@@ -139,14 +149,14 @@ fn load_named(
     ensures { Answers result (spec.event_named line.now) }
 {
     let Some((page, url, reply)) = load_line(line) else {
-        return event_of_members(alloc, memory, line);
+        return members_named(alloc, memory, line);
     };
     let Some(escaped) = reply else {
         return load_by(alloc, page, url, None);
     };
     match text_bytes(alloc, escaped) {
         Ok(Some(raw)) => load_by(alloc, page, url, Some(raw)),
-        Ok(None) => event_of_members(alloc, memory, line),
+        Ok(None) => members_named(alloc, memory, line),
         Err(NoRoom) => Err(Fault::NoRoom),
     }
 }
@@ -166,24 +176,48 @@ fn other_named(
         }
         Some(PlainLine::ClosePage(page)) => Ok(Event::ClosePage { page }),
         Some(PlainLine::GoOn(call)) => Ok(Event::GoOn { call }),
-        None => event_of_members(alloc, memory, line),
+        None => members_named(alloc, memory, line),
     }
 }
 
-// The same by the members of the line.
-#[inline(never)]
-fn event_of_members(
+// The same by the members of the line, which are read from memory that is made for the first of such lines.
+fn members_named(
     alloc: Global,
     memory: &mut LineMemory,
     line: &[u8],
 ) -> Result<Event, Fault<LineCause>>
     ensures { Answers result (spec.event_named line.now) }
 {
+    let mut scratch = match memory.scratch.take() {
+        Some(scratch) => scratch,
+        None => new_scratch(alloc)?,
+    };
+    let event = event_of_members(alloc, &mut scratch, &mut memory.config, line);
+    memory.scratch = Some(scratch);
+    event
+}
+
+// Memory for reading, in a place of its own. By itself, since it is 16 KB, which are made before they are placed.
+#[inline(never)]
+fn new_scratch(alloc: Global) -> Result<Box<Scratch>, NoRoom> {
+    Ok(Box::new(alloc, Scratch::new(alloc))?)
+}
+
+// The same by the members of the line, with what is read from.
+#[inline(never)]
+fn event_of_members(
+    alloc: Global,
+    scratch: &mut Scratch,
+    kept: &mut KeptConfigs,
+    line: &[u8],
+) -> Result<Event, Fault<LineCause>>
+    ensures { Answers result (spec.event_named line.now) }
+{
     let mut said = SaidLine::nothing();
-    read_said(&mut memory.scratch, line, &mut said)?;
+    read_said(scratch, line, &mut said)?;
     match kind_of(&said.members) {
-        Ok("get") => get(alloc, &mut memory.config, &said),
-        Ok(kind) => event_of_kind(alloc, &mut memory.config, kind, &said.members),
+        Ok("get") => get(alloc, kept, &said),
+        Ok(kind) => event_of_kind(alloc, kept, kind, &said.members),
         Err(cause) => Err(Fault::Step(cause)),
     }
 }

@@ -41,8 +41,7 @@ fn head_line(alloc: Global, number: u32, line: &[u8]) -> Result<Line, NoRoom>
     }
 }
 
-// What is used after the first line. By itself, as `head_line`.
-#[inline(never)]
+// What is used after the first line.
 fn used_after_head(alloc: Global, line: &Line) -> Option<Used>
     ensures { result ≡ used_by line.now None }
 {

@@ -50,7 +50,7 @@ pub(crate) fn disconnect<L: Ledger>(
     let Some(origin) = tabs.shared_origin(page) else {
         return ignored(alloc, line, Why::NoPage);
     };
-    if !origin.as_origin().is_trustworthy() {
+    if !origin.get().is_trustworthy() {
         return ignored(alloc, line, Why::PageInsecure);
     }
     let (kept, effects) = begin(alloc, sight, page, call, origin, config, client, hint)?;
@@ -113,7 +113,7 @@ fn start(
     ensures sight { sight.new ≡ sight.old }
 {
     if config.scheme() == Scheme::Http {
-        let origin = origin.as_origin().copy(alloc)?;
+        let origin = origin.get().copy(alloc)?;
         return DState::start(
             alloc,
             call,

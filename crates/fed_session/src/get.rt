@@ -49,7 +49,7 @@ pub(crate) fn get<L: Ledger>(
     let Some(origin) = tabs.shared_origin(page) else {
         return ignored(alloc, line, Why::NoPage);
     };
-    if !origin.as_origin().is_trustworthy() {
+    if !origin.get().is_trustworthy() {
         return ignored(alloc, line, Why::PageInsecure);
     }
     let (kept, effects) = begin(
@@ -122,7 +122,7 @@ fn start(
 {
     let config = config_of(&options);
     if config.scheme() == Scheme::Http {
-        let origin = origin.as_origin().copy(alloc)?;
+        let origin = origin.get().copy(alloc)?;
         return CallState::start(alloc, call, page, origin, options, &sight.lent());
     }
     let wellknown = sight.cookies.wellknown(alloc, config)?;

@@ -85,7 +85,7 @@ impl Tabs {
         ensures { option_copied result ≡ lookup (nat_eq page) self.now.pages }
     {
         match self.pages.get(page) {
-            Some(origin) => Some(origin.as_origin()),
+            Some(origin) => Some(origin.get()),
             None => None,
         }
     }

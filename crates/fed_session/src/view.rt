@@ -73,7 +73,7 @@ pub(crate) fn shown_pages(
     let mut shown = Items::new(alloc);
     for slot in slots {
         if let Some((page, origin)) = slot {
-            shown.push((*page, origin.as_origin().copy(alloc)?))?;
+            shown.push((*page, origin.get().copy(alloc)?))?;
         }
     }
     Ok(shown)

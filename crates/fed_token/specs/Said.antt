@@ -1,25 +1,15 @@
 -- What a reply of the assertion endpoint says, for private clauses.
-use Rattle.std.specs.Prelude.{◌≡◌, ℕ, List, [], codes, bytes_eq, Option, Some, None, unwrap_or, ok_or, Result, Ok, Err, if◌then◌else◌}
-use Rattle.json.specs.Token.{Token}
+use Rattle.std.specs.Prelude.{◌≡◌, ℕ, List, [], codes, bytes_eq, Option, Some, None, unwrap_or, Result, if◌then◌else◌}
 use Rattle.serde_json.specs.Data.{Data, Members}
 use Rattle.serde_json.specs.Find.{as_str, get_member}
-use Rattle.fed_io.specs.declared.error.Fault.{Fault}
-use Rattle.fed_io.specs.Fault.{Refuses}
-use Rattle.fed_json.specs.Values.{whole_in}
 use Rattle.fed_reply.specs.declared.member.Member.{Member}
-use Rattle.fed_reply.specs.declared.step.ReplyStep.TheVariants.{Json}
 use Rattle.fed_reply.specs.Members.{member_map, member_here, member_found, whole_object}
 use Rattle.fed_reply.specs.Shape.{present, required}
 use Rattle.fed_token.specs.declared.said.ErrorTexts.{ErrorTexts}
 use Rattle.fed_token.specs.declared.said.Said.{Said}
 use Rattle.fed_token.specs.declared.step.TokenStep.{TokenStep}
-use Rattle.fed_token.specs.declared.step.TokenStep.TheVariants.{Reply, Shape, ProviderError}
+use Rattle.fed_token.specs.declared.step.TokenStep.TheVariants.{Shape, ProviderError}
 use Rattle.fed_token.specs.Read.{error_step, token_of}
-
--- the value that is expected is the one that the tokens hold, unless it is refused before
-abbrev pub Opens : Result (List Token) (Fault TokenStep) → Result Data TokenStep → Type 0
-Opens (Ok values) expected = expected ≡ ok_or (whole_in values) (Reply Json)
-Opens (Err fault) expected = Refuses fault expected
 
 -- the token of a value, and the step where it has none
 pub record SaidParts : Type 0 where

@@ -2,6 +2,7 @@
 ghost use Rattle.std.specs.Prelude.{◌≡◌, IfOk, IfErr};
 ghost use Rattle.fed_io.specs.Fault.{Answers};
 ghost use Rattle.fed_origin.specs.Origin.{origin_text};
+ghost use Rattle.fed_reply.specs.Json.{Opens};
 ghost use Rattle.fed_reply.specs.Members.{member_map};
 ghost use Rattle.fed_reply.specs.Shape.{present, required};
 ghost use Rattle.fed_token.specs.Read as spec;
@@ -118,7 +119,7 @@ fn checked_values<'a>(
     origin: &Origin,
     buffer: &'a mut JsonBuffer,
 ) -> Result<Values<'a>, Fault<TokenStep>>
-    ensures answers { said.Opens result (spec.CheckedJsonOf raw.now (origin_text origin.now)) }
+    ensures answers { Opens (TokenStep.Reply ReplyStep.Json) result (spec.CheckedJsonOf raw.now (origin_text origin.now)) }
     ensures never { IfErr result spec.IsDisconnectFault }
 {
     let origin = origin.serialize(alloc)?;

@@ -172,7 +172,7 @@ fn configurations(rt: HostRuntime) -> Result<(), Fail> {
 fn copied_login(alloc: Global, read: Config) -> Result<Text, NoRoom> {
     let shared = SharedConfig::new(alloc, read)?;
     let copy = shared.copy()?;
-    Text::of(alloc, copy.as_config().login.as_str())
+    Text::of(alloc, copy.get().login.as_str())
 }
 
 // The login URL of the configuration in a reply, or nothing.

@@ -32,7 +32,7 @@ fn file(rules: &Rules, config: &WebUrl, raw: &str) -> &'static str {
 // What is kept of a config reply.
 fn configuration<'a>(rules: &'a Rules, config: &WebUrl, raw: &str) -> &'a str {
     match rules.config_said(config, raw.as_bytes()) {
-        Some(Ok(read)) => read.as_config().login.as_str(),
+        Some(Ok(read)) => read.get().login.as_str(),
         Some(Err(_)) => "refused",
         None => "nothing",
     }

@@ -11,7 +11,7 @@ pub returns-clause-outs : goal.returns-clause-outs
 returns-clause-outs g c =
     let found : lookup (nat_eq c.args.page) c.args.tabs.now.pages ≡ Some c.in-Some.origin.now = sym c.in-Some.ensures in
     let trusted : is_trustworthy c.in-Some.origin.now ≡ true =
-    ap is_trustworthy (sym c.as_origin.ensures) ∙ sym c.is_trustworthy.ensures ∙ c.if-not-is_trustworthy.false in
+    ap is_trustworthy (sym c.get.ensures) ∙ sym c.is_trustworthy.ensures ∙ c.if-not-is_trustworthy.false in
     c.in_ok-outs.ensures ∙ ap (λ s. call_records c.args.line (cookies_of s) c.args.call c.args.page c.in_ok-kept.effects) c.in_ok-kept.ensures.sight
     ∙ ap (call_records c.args.line (cookies_of c.args.sight.now) c.args.call c.args.page) c.in_ok-kept.ensures.effects
     ∙ ap (λ b. call_records c.args.line (cookies_of c.args.sight.now) c.args.call c.args.page
