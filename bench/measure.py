@@ -19,7 +19,7 @@ COUNT = ["valgrind", "--tool=cachegrind", "--cache-sim=no", "--cachegrind-out-fi
 
 def need_program():
     if not os.access(PROGRAM, os.X_OK):
-        sys.exit("build the program first: ./fedcm run < examples/first-run.jsonl")
+        sys.exit("build the program first: ./fedcm build")
 
 
 def transcript(path):
