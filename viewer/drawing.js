@@ -49,6 +49,7 @@ const Drawing = (() => {
     .chart .token .flag { fill: var(--decide); stroke: var(--decide); }
     .chart .token .flag-text { fill: var(--paper); font-weight: 700; }
     .chart .dot { fill: var(--faint); }
+    .chart .dropped .dot { fill: var(--both); }
     .chart .bad .title { fill: var(--both); }
     .chart .ignored text, .chart .unread text { fill: var(--faint); }
     .chart .ignored .arrow, .chart .unread .arrow { stroke: var(--faint); stroke-width: 1; stroke-dasharray: 2 3; }
@@ -145,7 +146,7 @@ const Drawing = (() => {
     return drawn;
   }
 
-  const DRAWN = { dialog: boxRow, window: boxRow, result: flagRow, note: noteRow, divider: noteRow };
+  const DRAWN = { dialog: boxRow, window: boxRow, result: flagRow, dropped: noteRow, note: noteRow, divider: noteRow };
 
   function classesOf(row) {
     const classes = ['row', row.kind];

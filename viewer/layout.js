@@ -37,7 +37,7 @@ const Layout = (() => {
     for (const row of rows) {
       for (const lane of [row.from, row.to]) {
         if (isFixed(lane)) continue;
-        sides[providers.has(lane) || lane.startsWith('provider of') ? 'provider' : 'page'].add(lane);
+        sides[providers.has(lane) || /^provider (\d+ )?of /.test(lane) ? 'provider' : 'page'].add(lane);
       }
     }
     const lanes = [];

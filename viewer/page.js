@@ -122,12 +122,12 @@
   }
 
   function summaryOf({ counts }, reading) {
-    const { request, reply, dialog, window: windows, result, ignored } = counts;
+    const { request, reply, dialog, window: windows, result, dropped, ignored } = counts;
     const has = [reading.hasScript ? number(reading.events.length, 'event') : 'no script',
       reading.hasTranscript ? number(reading.records.length, 'record') : 'no transcript'].join(', ');
     const replies = `${reply.toLocaleString('en')} ${reply === 1 ? 'reply' : 'replies'}`;
     const drawn = [number(request, 'request'), replies, number(dialog, 'dialog'), number(windows, 'window'), number(result, 'result'),
-      `${ignored.toLocaleString('en')} ignored`].join(', ');
+      ...(dropped > 0 ? [`${dropped.toLocaleString('en')} dropped out`] : []), `${ignored.toLocaleString('en')} ignored`].join(', ');
     const begins = reading.headers[0]?.value ? ` It begins at ${Wording.momentOf(reading.headers[0].value.now)}.` : '';
     return `${has}: ${drawn}.${begins}`;
   }
@@ -168,7 +168,8 @@
     '': () => true, ignored: row => Boolean(row.ignored), both: row => row.tells === 'both',
     request: row => row.kind === 'request', reply: row => row.kind === 'reply', decision: row => row.kind === 'decision',
     page: row => row.kind === 'page', dialog: row => row.kind === 'dialog', window: row => row.kind === 'window',
-    result: row => row.kind === 'result', note: row => row.kind === 'note' || row.kind === 'divider',
+    result: row => row.kind === 'result', dropped: row => row.kind === 'dropped',
+    note: row => row.kind === 'note' || row.kind === 'divider',
   };
 
   const has = (value, part) => value !== undefined && value.toLowerCase().includes(part);

@@ -5,6 +5,7 @@
 const Reading = (() => {
   const REQUEST_KINDS = ['wellknown', 'config', 'accounts', 'metadata', 'assertion', 'disconnect'];
   const LINES_AT_ONCE = 2000;
+  const MOST_PROVIDERS = 10;
   const BASE64 = /^(?:[A-Za-z0-9+/]{4})*(?:[A-Za-z0-9+/]{2}==|[A-Za-z0-9+/]{3}=)?$/;
 
   const isAbsent = value => value === undefined || value === null;
@@ -13,7 +14,7 @@ const Reading = (() => {
   const isTruth = value => typeof value === 'boolean';
   const isWhole = value => Number.isInteger(value) && value >= 0;
   const isNumber = value => isWhole(value) && value < 2 ** 32;
-  const isProviders = value => Array.isArray(value) && value.length === 1 && isObject(value[0]);
+  const isProviders = value => Array.isArray(value) && value.length >= 1 && value.length <= MOST_PROVIDERS && value.every(isObject);
   const oneOf = words => value => words.includes(value);
   const maybe = test => value => isAbsent(value) || test(value);
 
@@ -48,6 +49,7 @@ const Reading = (() => {
   const RECORDS = {
     request: [CALL, ['kind', oneOf(REQUEST_KINDS)], LINE],
     dialog: [CALL, LINE, ['dialog', oneOf(['choose', 'prompt', 'mismatch'])], ['site', isText]],
+    dropped: [CALL, LINE, ['provider', isNumber], ['step', isText]],
     window: [CALL, LINE, ['url', isText]],
     result: [CALL, LINE, PAGE, ['see', isText]],
     ignored: [LINE, ['why', isText]],
@@ -80,7 +82,7 @@ const Reading = (() => {
     if (event.do === 'have') {
       return failing(event, HAVE[event.what]) ?? (event.what === 'cookie' ? failingBytes(event, true) : undefined);
     }
-    if (event.do === 'get') return failing(event.providers[0], PROVIDER);
+    if (event.do === 'get') return event.providers.map(provider => failing(provider, PROVIDER)).find(isText);
     return ['load', 'reply'].includes(event.do) ? failingBytes(event, false) : undefined;
   }
 
@@ -92,7 +94,7 @@ const Reading = (() => {
   }
 
   function urlsOf(event) {
-    if (event.do === 'get') return [event.providers[0].config];
+    if (event.do === 'get') return event.providers.map(({ config }) => config);
     if (event.do === 'have' && event.what === 'kept') return [event.page, event.provider];
     if (event.do === 'have') return [event.what === 'cookie' ? event.url : event.origin];
     return [event.url, event.config].filter(isText);

@@ -12,6 +12,12 @@ const Session = (() => {
   const ROWS_AT_ONCE = 5000;
   const LAST_RECORDS = ['end', 'bad', 'twins', 'not-twins', 'summary'];
 
+  // The lane of the provider at a place in the call's list.
+  const laneAt = ({ number, providers }, place = 0) => providers[place] ?? `provider ${place === 0 ? '' : place + ' '}of call ${number}`;
+
+  // The lanes by which the filters find a row: its provider's, or those of all that the call has.
+  const lanesOf = (call, place) => place === undefined && call.providers.length > 1 ? call.providers.join(' ') : laneAt(call, place);
+
   class Builder {
     constructor(reading) {
       this.reading = reading;
@@ -85,12 +91,12 @@ const Session = (() => {
       return read;
     }
 
-    // A row of a call has its page and its provider, by which the filters find it.
-    callRow(read, kind, call, from, to) {
+    // A row of a call has its page and its provider, by which the filters find it; the place is that of the provider, if it is one's.
+    callRow(read, kind, call, from, to, place) {
       read.call = call.number;
       read.page = call.page;
       read.pageLane = call.pageLane;
-      read.providerLane = call.providerLane;
+      read.providerLane = lanesOf(call, place);
       return this.row(read, kind, from, to);
     }
 
@@ -98,7 +104,7 @@ const Session = (() => {
       if (!this.calls.has(number)) {
         const page = this.pageOfCall.get(number);
         const pageLane = this.originOfCall.get(number) ?? (page === undefined ? `page of call ${number}` : `page ${page}`);
-        this.calls.set(number, { number, page, pageLane, providerLane: `provider of call ${number}`, lanes: {} });
+        this.calls.set(number, { number, page, pageLane, providers: [], lanes: {} });
       }
       return this.calls.get(number);
     }
@@ -122,14 +128,16 @@ const Session = (() => {
 
     reply(read) {
       const call = this.callOf(read.event.call);
-      this.callRow(read, 'reply', call, call.lanes[read.event.to] ?? call.providerLane, BROWSER);
+      const place = read.event.provider ?? 0;
+      this.callRow(read, 'reply', call, call.lanes[place + read.event.to] ?? laneAt(call, place), BROWSER, place);
     }
 
     decision(read) {
       const call = this.callOf(read.event.call);
       this.callRow(read, 'decision', call, USER, BROWSER);
-      const { account } = read.event;
-      if (account !== undefined) read.name = call.accounts?.find(({ id }) => id === account)?.name;
+      const { account, provider } = read.event;
+      const isChosen = shown => shown.id === account && (shown.provider ?? 0) === (provider ?? 0);
+      if (account !== undefined) read.name = call.accounts?.find(isChosen)?.name;
     }
 
     // What a page does: its lane is its origin's, as the page was loaded last.
@@ -146,10 +154,10 @@ const Session = (() => {
 
     begin(read, pageLane) {
       const { event } = read;
-      const providerLane = Reading.originOf(event.config ?? event.providers[0].config);
-      this.providers.add(providerLane);
+      const providers = (event.providers ?? [event]).map(({ config }) => Reading.originOf(config));
+      providers.forEach(lane => this.providers.add(lane));
       const earlier = this.calls.get(event.call);
-      const call = { number: event.call, page: event.page, pageLane, providerLane, lanes: {}, earlier };
+      const call = { number: event.call, page: event.page, pageLane, providers, lanes: {}, earlier };
       this.calls.set(event.call, call);
       if (event.do === 'disconnect') call.permission = this.permissionBefore(call);
       return this.fromPage(read, call);
@@ -168,6 +176,7 @@ const Session = (() => {
       }
       if (record.out === 'request') this.request(read, cause);
       else if (record.out === 'dialog' || record.out === 'window') this.shown(read);
+      else if (record.out === 'dropped') this.dropped(read);
       else if (record.out === 'result') this.result(read, cause);
       else if (record.out === 'ignored' && cause) this.ignore(cause, read);
       else this.row(read, 'note', BROWSER, BROWSER).ignored = record.out === 'ignored' ? record.why : undefined;
@@ -192,17 +201,19 @@ const Session = (() => {
       const { record } = read;
       const call = this.callOf(record.call);
       const bytes = Decoding.bytesOf(record);
-      const lane = this.laneOfHost(bytes) ?? call.providerLane;
-      call.lanes[record.kind] = lane;
-      if (record.kind !== 'wellknown' && call.providerLane.startsWith('provider ')) call.providerLane = lane;
+      const place = record.provider ?? 0;
+      const lane = this.laneOfHost(bytes) ?? laneAt(call, place);
+      call.lanes[place + record.kind] = lane;
+      if (record.kind !== 'wellknown') call.providers[place] ??= lane;
       this.providers.add(lane);
-      this.callRow(read, 'request', call, BROWSER, lane);
+      this.callRow(read, 'request', call, BROWSER, lane, place);
       read.tells = Decoding.tells(bytes);
       if (read.tells === 'both') this.tellsBoth(read, call, cause, bytes);
     }
 
     tellsBoth(row, call, cause, bytes) {
       call.account = Decoding.formMember(bytes, 'account_id');
+      call.chosen = row.record.provider ?? 0;
       if (call.first) return;
       call.first = row;
       row.first = true;
@@ -218,7 +229,7 @@ const Session = (() => {
     // The row by which the permission came that the call goes by: a decision of an earlier call, or a line that says it was kept. A
     // disconnect call looks when it begins, a get call when it asks for its token.
     permissionBefore(call) {
-      const kept = this.permissions.get(call.pageLane + ' ' + call.providerLane) ?? [];
+      const kept = this.permissions.get(call.pageLane + ' ' + laneAt(call, call.chosen)) ?? [];
       return kept.findLast(({ account }) => call.account === undefined || account === call.account)?.row;
     }
 
@@ -229,8 +240,8 @@ const Session = (() => {
     }
 
     // A reply to a disconnect request takes the permission that it names, and else all of the page and the provider (rows E9 to E11).
-    drop({ pageLane, providerLane }, cause) {
-      const key = pageLane + ' ' + providerLane;
+    drop(call, cause) {
+      const key = call.pageLane + ' ' + laneAt(call);
       const bytes = cause?.event.do === 'reply' ? Decoding.bytesOf(cause.event) : undefined;
       const named = bytes && Decoding.replyOf(bytes).value?.account_id;
       const kept = this.permissions.get(key) ?? [];
@@ -242,7 +253,13 @@ const Session = (() => {
       const { record } = read;
       const call = this.callOf(record.call);
       if (record.dialog === 'choose') call.accounts = record.accounts;
-      this.callRow(read, record.out, call, BROWSER, BROWSER);
+      read.providers = call.providers;
+      this.callRow(read, record.out, call, BROWSER, BROWSER, record.provider ?? record.account?.provider);
+    }
+
+    dropped(read) {
+      const { record } = read;
+      this.callRow(read, 'dropped', this.callOf(record.call), BROWSER, BROWSER, record.provider);
     }
 
     result(read, cause) {
@@ -250,14 +267,14 @@ const Session = (() => {
       const call = this.callOf(record.call);
       call.page ??= record.page;
       this.callRow(read, 'result', call, BROWSER, call.pageLane);
-      if (record.see === 'token') this.keep(call.pageLane, call.providerLane, call.account, call.first?.decision ?? read);
+      if (record.see === 'token') this.keep(call.pageLane, laneAt(call, record.provider), call.account, call.first?.decision ?? read);
       if (record.see === 'disconnected') this.drop(call, cause);
       if (record.step?.startsWith('disconnect-')) this.drop(call, undefined);
     }
   }
 
   function counts(rows) {
-    const counted = { request: 0, reply: 0, dialog: 0, window: 0, result: 0, ignored: 0 };
+    const counted = { request: 0, reply: 0, dialog: 0, window: 0, result: 0, dropped: 0, ignored: 0 };
     for (const row of rows) {
       if (row.kind in counted) counted[row.kind] += 1;
       if (row.ignored) counted.ignored += 1;

@@ -34,7 +34,7 @@ const Wording = (() => {
     disconnect: ['12.3', 'the kinds of request'],
   };
   const RECORD_RULES = {
-    window: ['10.10', 'rows C14 and C28'], ignored: ['13.4', 'why an event is ignored'], bad: ['1.13', 'the causes of bad lines'],
+    window: ['10.10', 'rows C14 and C28'], dropped: ['13.2', 'the records and their members'], ignored: ['13.4', 'why an event is ignored'], bad: ['1.13', 'the causes of bad lines'],
     end: ['13.2', 'the records and their members'], twins: ['15.7', 'the quiet length'], 'not-twins': ['15.3', 'the clauses'],
     summary: ['14.8', 'the form make'],
   };
@@ -95,9 +95,10 @@ const Wording = (() => {
     return parts.join(' · ');
   }
 
-  function getText({ context, mediation, mode, activation, providers: [{ config, client }] }) {
+  function getText({ context, mediation, mode, activation, providers }) {
     const words = [context ?? 'signin', mediation, mode === 'active' ? (activation ? 'active' : 'active without activation') : undefined];
-    return [...words.filter(Boolean), `client ${client}`, config].join(' · ');
+    const asked = providers.map(({ config, client }) => `client ${client} · ${config}`);
+    return [...words.filter(Boolean), list(asked, 3)].join(' · ');
   }
 
   function haveText(event) {
@@ -105,6 +106,11 @@ const Wording = (() => {
     if (event.what === 'kept') return `permission for ${event.page}, account ${event.account} at ${event.provider}`;
     if (event.what === 'silent') return `silent access is prevented for ${event.origin}`;
     return `a cookie of ${event.url}`;
+  }
+
+  function chosenText({ account, provider }, { name }) {
+    const at = provider ? ` of provider ${provider}` : '';
+    return (name === undefined ? `account ${account}` : `${name} (${account})`) + at;
   }
 
   const EVENT_WORDS = {
@@ -118,7 +124,7 @@ const Wording = (() => {
     setstatus: event => ['status', `page ${event.page} sets ${event.status}`],
     have: event => ['before', haveText(event)],
     at: event => ['time', momentOf(event.time)],
-    choose: (event, row) => ['choose', row.name === undefined ? `account ${event.account}` : `${row.name} (${event.account})`],
+    choose: (event, row) => ['choose', chosenText(event, row)],
     continue: () => ['continue', 'the user agrees'],
     cancel: () => ['cancel', 'the user dismisses the dialog'],
     signin: () => ['sign in', 'the user asks for the login window'],
@@ -129,6 +135,7 @@ const Wording = (() => {
   const RECORD_WORDS = {
     request: record => [record.kind, targetOf(record)],
     window: record => ['login window', record.url],
+    dropped: (record, row) => [`provider ${record.provider} drops out`, `${row.providerLane} · ${stepOf(record)}`],
     bad: record => [`line ${record.line} is bad`, [record.cause, record.member].filter(Boolean).join(' · ')],
     end: record => ['end', record.events === 1 ? '1 event' : `${record.events} events`],
     twins: record => ['twins', `alike up to kept event ${record.quiet}, ${record.compared} requests compared`],
@@ -177,7 +184,7 @@ const Wording = (() => {
       if (row.kind === 'dialog') return dialogWords(row.record);
       if (row.kind === 'result') return resultWords(row.record);
       if (row.event) return EVENT_WORDS[row.event.do](row.event, row);
-      return RECORD_WORDS[row.record.out](row.record);
+      return RECORD_WORDS[row.record.out](row.record, row);
     };
     const [title, text] = words();
     const why = row.ignored ? `ignored: ${row.ignored}` : row.unread ? 'not read' : '';
@@ -187,7 +194,10 @@ const Wording = (() => {
   // What stands in a dialog's box below its title.
   function boxLines(row) {
     const { record } = row;
-    const account = ({ name, id, email, connected }) => `${name ?? id} · ${email ?? ''}${connected ? ' · connected' : ''}`;
+    const places = new Set((record.accounts ?? []).map(({ provider }) => provider));
+    const nameOf = place => row.providers?.[place]?.replace(/^https:\/\//, '') ?? `provider ${place}`;
+    const account = ({ name, id, email, provider, connected }) =>
+      [name ?? id, ...(places.size > 1 ? [nameOf(provider)] : []), email ?? '', ...(connected ? ['connected'] : [])].join(' · ');
     if (record.out === 'window') return [record.url];
     if (record.dialog === 'mismatch') return [stepOf(record)];
     if (record.dialog === 'choose') {
@@ -213,7 +223,7 @@ const Wording = (() => {
   }
 
   const KINDS = { request: 'request', reply: 'reply', decision: 'decision of the user', page: 'page', dialog: 'dialog', window: 'window',
-    result: 'result', note: 'note', divider: 'note' };
+    result: 'result', dropped: 'provider', note: 'note', divider: 'note' };
 
   const laneName = lane => lane === 'user' ? 'the user' : lane === 'browser' ? 'the browser' : Decoding.oneLine(lane);
 

@@ -69,7 +69,8 @@ def hostile(tally, page):
     tally.true("hostile: its text is shown", "<img src=x onerror=" in page.text("#table tbody"))
     text = page.export()
     tree, counts = exported(text)
-    tally.same("hostile: drawn", counts, {"request": 4, "reply": 4, "dialog": 2, "window": 1, "result": 2, "ignored": 0})
+    tally.same("hostile: drawn", counts, {"request": 4, "reply": 4, "dialog": 2, "window": 1, "result": 2, "dropped": 0,
+                                               "ignored": 0})
     tags = {element.tag.replace(SVG, "") for element in tree.iter()}
     tally.same("hostile: elements of the export", tags - DRAWN, set())
     tally.true("hostile: no hidden characters", not any(character in text for character in HIDDEN))

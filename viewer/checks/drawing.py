@@ -32,6 +32,38 @@ def alone(tally, page):
         tally.same(name + ": the transcript alone, problems", page.problems(), [])
 
 
+SEVERAL = "viewer/tests/several.jsonl", "viewer/tests/several.out.jsonl"
+
+
+# A call of three providers, of which one drops out: each in its lane, and the chooser says whose an account is.
+def several(tally, page):
+    page.show(*SEVERAL)
+    tally.same("several: drawn", page.drawn(), wanted(*SEVERAL))
+    tally.same("several: problems", page.problems(), [])
+    tally.same("several: exported", exported(page.export())[1], wanted(*SEVERAL))
+    tally.same("several: lanes", lanes(page), ["user", "https://shop.example", "browser", "https://idp.example",
+                                               "https://accounts.idp.example", "https://two.example", "https://login.two.example",
+                                               "https://third.example"])
+    tally.same("several: dropped out", texts(page, ".row.dropped text:last-of-type"),
+               ["provider 2 drops outhttps://third.example · well-known-reply (status)"])
+    tally.same("several: accounts", texts(page, ".row.dialog .line")[:3], [
+        "Ann · accounts.idp.example · ann@idp.example", "Bob · accounts.idp.example · bob@idp.example",
+        "Ann · login.two.example · ann@two.example"])
+    tally.same("several: what stands out", standing_out(page), [["15", "continue"], ["15", "assertion"]])
+    page.set("#filter-provider", "login.two")
+    tally.same("several: requests to one", page.count("#chart .row.request"), 5)
+    page.show(SEVERAL[1])
+    tally.same("several: the transcript alone", page.drawn(), wanted(None, SEVERAL[1]))
+
+
+def lanes(page):
+    return texts(page, ".lanes g > title")
+
+
+def texts(page, selector):
+    return page.get("[...document.querySelectorAll('#chart %s')].map(item => item.textContent)" % selector)
+
+
 def sign_up(tally, page):
     page.show(*sample("sign-up"))
     marks = page.get("[...document.querySelectorAll('#chart .row.request')].map(row => ["
@@ -39,8 +71,8 @@ def sign_up(tally, page):
     tally.same("sign-up: marks", marks, [["wellknown", "nothing"], ["config", "nothing"], ["accounts", "user"], ["metadata", "page"],
                                          ["assertion", "both"]])
     tally.same("sign-up: what stands out", standing_out(page), [["10", "continue"], ["10", "assertion"]])
-    lanes = page.get("[...document.querySelectorAll('#chart .lanes g > title')].map(title => title.textContent)")
-    tally.same("sign-up: lanes", lanes, ["user", "https://shop.example", "browser", "https://accounts.idp.example", "https://idp.example"])
+    tally.same("sign-up: lanes", lanes(page), ["user", "https://shop.example", "browser", "https://accounts.idp.example",
+                                               "https://idp.example"])
 
 
 def standing_out(page):

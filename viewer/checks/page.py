@@ -9,7 +9,7 @@ from browser import Ended
 
 SVG = "{http://www.w3.org/2000/svg}"
 INDEX = "file://" + os.path.abspath("viewer/index.html")
-SHOWN = ("request", "reply", "dialog", "window", "result", "ignored")
+SHOWN = ("request", "reply", "dialog", "window", "result", "dropped", "ignored")
 
 
 def read(path):
@@ -55,7 +55,7 @@ class Page:
 
     # A window so high that every row of an example is in view, and so drawn.
     def tall(self):
-        self.browser.size(1400, 4600)
+        self.browser.size(1400, 6000)
 
     def file(self, name, text):
         path = os.path.join(self.folder, name)

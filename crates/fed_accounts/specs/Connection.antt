@@ -1,11 +1,12 @@
 -- Which accounts are connected to a client, and which one is signed in again without a choice.
-use Rattle.std.specs.Prelude.{ℕ, Bool, true, false, ◌&&◌, ◌||◌, List, [], ◌∷◌, map, filter, zip, bytes_eq, Option, Some}
+use Rattle.std.specs.Prelude.{ℕ, suc, Bool, true, false, ◌&&◌, ◌||◌, List, [], ◌∷◌, ◌++◌, map, filter, zip, bytes_eq, Option, Some}
 use Rattle.std.specs.Prelude.{None}
 use Rattle.std.specs.Prelude.{if◌then◌else◌}
 use Rattle.std.specs.List.{list_any, enumerate_from}
 use Rattle.fed_origin.specs.declared.options.Mediation.{Mediation}
 use Rattle.fed_origin.specs.declared.options.Mediation.TheVariants.{Silent, Optional, Required}
 use Rattle.fed_accounts.specs.declared.account.Account.{Account}
+use Rattle.fed_accounts.specs.declared.offer.Offer.{Offer}
 
 abbrev pub has_text : List ℕ → List (List ℕ) → Bool
 has_text text texts = list_any (λ t. bytes_eq t text) texts
@@ -34,7 +35,7 @@ eligible_places n client accounts kept =
     map (λ entry. entry.0) (filter (is_eligible client) (enumerate_from n (zip accounts kept)))
 
 -- the item of a list of exactly one
-abbrev pub only : List ℕ → Option ℕ
+abbrev pub only : {A : Type 0} → List A → Option A
 only [] = None
 only (n ∷ []) = Some n
 only (n ∷ m ∷ ns) = None
@@ -44,7 +45,12 @@ is_required Silent = false
 is_required Optional = false
 is_required Required = true
 
--- the place of the only eligible account; none where the flag is set or mediation is required
-abbrev pub Reselect : List Account → List ℕ → List Bool → Bool → Mediation → Option ℕ
-Reselect accounts client kept flag mediation =
-    if flag || is_required mediation then None else only (eligible_places 0 client accounts kept)
+-- the places of the eligible accounts of these offers, each with that of its offer, where the first offer has the place n
+abbrev pub eligible_pairs : ℕ → List Offer → List (ℕ × ℕ)
+eligible_pairs n [] = []
+eligible_pairs n (offer ∷ offers) =
+    map (λ place. (n, place)) (eligible_places 0 offer.client offer.accounts offer.kept) ++ eligible_pairs (suc n) offers
+
+-- the places of the only eligible account of all; none where the flag is set or mediation is required
+abbrev pub Reselect : List Offer → Bool → Mediation → Option (ℕ × ℕ)
+Reselect offers flag mediation = if flag || is_required mediation then None else only (eligible_pairs 0 offers)

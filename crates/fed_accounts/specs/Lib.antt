@@ -1,7 +1,9 @@
 pub mod Accounts
 pub mod Connection
-pub mod Read
-pub mod Hints
 pub mod Entry
 pub mod Found
+pub mod Hints
 pub mod Kept
+pub mod Offers
+pub mod Read
+pub mod Search

@@ -1,8 +1,10 @@
 //! Which accounts are connected to a client, and which one is signed in again.
-ghost use Rattle.std.specs.Prelude.{◌≡◌, length};
+ghost use Rattle.std.specs.Prelude.{◌≡◌, ◌||◌, ◌∷◌, [], length, option_map};
 ghost use Rattle.fed_accounts.specs.Connection as spec;
+ghost use Rattle.fed_accounts.specs.Offers.{AreWhole};
+ghost use Rattle.fed_accounts.specs.Search.{hits_of};
 
-use crate::{Account, Accounts};
+use crate::{Account, Accounts, Offer};
 use fed_io::{Items, Text};
 use fed_origin::Mediation;
 
@@ -39,29 +41,83 @@ pub fn reselect(
     mediation: Mediation,
 ) -> Option<usize>
     requires { length kept.now ≡ length accounts.now }
-    ensures { result ≡ spec.Reselect accounts.now client.now kept.now flag mediation }
+    ensures { result ≡ option_map (λ places. places.1) (spec.Reselect
+        (record { provider = 0; client = client.now; accounts = accounts.now; kept = kept.now } ∷ []) flag mediation) }
 {
-    if flag || mediation == Mediation::Required {
+    if is_prevented(flag, mediation) {
         return None;
     }
-    only_eligible(accounts.list(), client, kept)
+    match eligible_in(accounts.list(), client, kept) {
+        Hits::One(place) => Some(place),
+        Hits::Nothing | Hits::Several => None,
+    }
 }
 
-// The place of the only eligible account.
-fn only_eligible(accounts: &[Account], client: &Text, kept: &[bool]) -> Option<usize>
+/// The places, from 0, of the offer and of the account in it that is signed in again without a choice, by the rule of `reselect`
+/// over all offers: the only eligible one of all. The search ends at the second that is eligible. It takes no memory.
+pub fn reselect_all(offers: &[Offer], flag: bool, mediation: Mediation) -> Option<(usize, usize)>
+    requires { AreWhole offers.now }
+    ensures { result ≡ spec.Reselect offers.now flag mediation }
+{
+    if is_prevented(flag, mediation) {
+        return None;
+    }
+    only_pair(offers)
+}
+
+// Whether no account may be signed in again without a choice.
+fn is_prevented(flag: bool, mediation: Mediation) -> bool
+    ensures { result ≡ (flag || spec.is_required mediation) }
+{
+    flag || mediation == Mediation::Required
+}
+
+// The places of the only eligible account of all.
+fn only_pair(offers: &[Offer]) -> Option<(usize, usize)>
+    requires { AreWhole offers.now }
+    ensures { result ≡ spec.only (spec.eligible_pairs 0 offers.now) }
+{
+    let mut pair = None;
+    for (n, offer) in offers.iter().enumerate() {
+        match eligible_in(offer.accounts.list(), &offer.client, offer.kept.as_slice()) {
+            Hits::Nothing => {}
+            Hits::One(place) => {
+                if pair.is_some() {
+                    return None;
+                }
+                pair = Some((n, place));
+            }
+            Hits::Several => return None,
+        }
+    }
+    pair
+}
+
+// What a search for one found, which ends at the second.
+enum Hits {
+    Nothing,
+    One(usize),
+    Several,
+}
+
+// The place of the eligible account, where it is the only one.
+fn eligible_in(accounts: &[Account], client: &Text, kept: &[bool]) -> Hits
     requires { length kept.now ≡ length accounts.now }
-    ensures { result ≡ spec.only (spec.eligible_places 0 client.now accounts.now kept.now) }
+    ensures { result ≡ hits_of (spec.eligible_places 0 client.now accounts.now kept.now) }
 {
     let mut found = None;
     for (place, account) in accounts.iter().enumerate() {
         if eligible(account, client, kept[place]) {
             if found.is_some() {
-                return None;
+                return Hits::Several;
             }
             found = Some(place);
         }
     }
-    found
+    match found {
+        Some(place) => Hits::One(place),
+        None => Hits::Nothing,
+    }
 }
 
 /// Whether the text is among the texts.

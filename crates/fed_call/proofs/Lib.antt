@@ -1,3 +1,7 @@
 pub mod agreed
-pub mod lists
+pub mod providers
+pub mod shortlists
 pub mod table
+pub mod beginning
+pub mod replies
+pub mod declining

@@ -1,2 +1,2 @@
--- What the user agreed to, by the states of a call.
+-- What the user agreed to.
 pub mod Consent

@@ -1,3 +1,4 @@
--- The rows of a stage, and the table.
-pub mod Row
-pub mod First
+-- The rows of a call, and what they leave known of it.
+pub mod Choice
+pub mod Settles
+pub mod Gathers

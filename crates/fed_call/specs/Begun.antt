@@ -1,5 +1,5 @@
 -- What a call began with.
-use Rattle.std.specs.Prelude.{ℕ, Bool, [], ◌∷◌}
+use Rattle.std.specs.Prelude.{ℕ, Bool, List, ◌∷◌, slice_get, unwrap_or}
 use Rattle.fed_origin.specs.declared.origin.Origin.{Origin}
 use Rattle.fed_origin.specs.declared.options.Context.{Context}
 use Rattle.fed_origin.specs.declared.options.GetOptions.{GetOptions}
@@ -17,7 +17,9 @@ pub record Begun : Type 0 where
   pub mode : Mode
   pub activation : Bool
   pub context : Context
-  -- its only provider
+  pub providers : List ProviderOptions
+  -- the provider that it is about, with its place: the first, until an account is settled on
+  pub place : ℕ
   pub provider : ProviderOptions
 
 -- the options of the call
@@ -28,5 +30,13 @@ options_of begun =
       mode = begun.mode;
       activation = begun.activation;
       context = begun.context;
-      providers = begun.provider ∷ [];
+      providers = begun.providers;
     }
+
+-- the call is about the provider at this place from now on
+abbrev pub about : ℕ → ProviderOptions → Begun → Begun
+about place provider begun = record begun { place = place; provider = provider }
+
+-- the provider at this place of a list of one and more
+abbrev pub provider_in : ProviderOptions → List ProviderOptions → ℕ → ProviderOptions
+provider_in first others place = unwrap_or (slice_get (first ∷ others) place) first

@@ -15,7 +15,7 @@ use Rattle.fed_consent.specs.declared.table.failure.FailStep.TheVariants as step
 use Rattle.fed_consent.specs.declared.table.why.Why.TheVariants.{NotOffered}
 use Rattle.fed_consent.specs.Failures.{plain}
 use Rattle.fed_consent.specs.Outcomes.{Outcome, fails, ignored, stays, moves, only_place}
-use Rattle.fed_call.specs.Facts.{Facts, provider_at}
+use Rattle.fed_call.specs.Facts.{Facts, config_at, provider_at}
 use Rattle.fed_call.specs.ReadingRows.{asks_accounts}
 
 -- ---- the window opens
@@ -34,7 +34,7 @@ opens_window place (Some config) = moves stages.Window (Window place config.logi
 
 -- the user asked for the login window, by the stage (row C28, else C36)
 abbrev pub asked_to_sign_in : Facts → Stage → Outcome
-asked_to_sign_in facts stages.Mismatch = opens_window only_place facts.config
+asked_to_sign_in facts stages.Mismatch = opens_window only_place (config_at only_place facts)
 asked_to_sign_in facts _ = ignored NotOffered
 
 -- ---- the window stands open
@@ -59,7 +59,7 @@ asks_again place (Some config) = asks_accounts place config
 
 -- the provider's page said that the user has signed in, by the stage (row C29, else C36)
 abbrev pub resumed : Facts → Stage → Outcome
-resumed facts stages.Window = asks_again only_place facts.config
+resumed facts stages.Window = asks_again only_place (config_at only_place facts)
 resumed facts _ = ignored NotOffered
 
 -- the user closed the login window, by the stage (row C30, else C36)

@@ -1,14 +1,17 @@
 //! The accounts that a call is about.
-ghost use Rattle.std.specs.Prelude.{◌≡◌, IfOk, map};
-ghost use Rattle.fed_origin.specs.WebUrl.{origin_of};
+ghost use Rattle.std.specs.Prelude.{◌≡◌, ◌<◌, IfOk, IfSome, IsTrue, is_some, length, map};
+ghost use Rattle.fed_accounts.specs.Offers.{IsWhole};
+ghost use Rattle.fed_status.specs.Shared.{world_of};
 ghost use Rattle.fed_call.specs.Accounts as spec;
+ghost use Rattle.fed_call.specs.Begun.{options_of};
+ghost use Rattle.fed_call.specs.Facts.{provider_at};
 
 use crate::begun::Call;
-use fed_accounts::{Account, Accounts, AccountsStep, connected, read_hinted};
-use fed_io::{Fault, Items, NoRoom, Text, lent_text};
+use fed_accounts::{Account, Accounts, AccountsStep, Offer, read_hinted};
+use fed_io::{Fault, Items, NoRoom, lent_text};
 use fed_origin::{Origin, ProviderOptions};
 use fed_reply::ReplyMemory;
-use fed_status::KeptSet;
+use fed_status::{KeptSet, Shared};
 use std::alloc::Global;
 
 /// The accounts in an accounts reply that the hints of the call ask for, or the step at which they are refused.
@@ -47,72 +50,32 @@ fn kept_at(
     Ok(all)
 }
 
-/// Of each of these accounts of the call's provider, in their order, whether its permission is kept.
-pub fn kept_each(
+/// What the provider at this place offers, by the permissions that are kept.
+pub fn offer(
     alloc: Global,
-    kept: &KeptSet,
+    shared: &Shared<'_>,
     begun: &Call,
-    accounts: &[Account],
-) -> Result<Items<bool>, NoRoom>
-    ensures { IfOk result (λ all. all ≡ map (spec.is_kept kept.now begun.now.origin (origin_of begun.now.provider.config))
-        accounts.now) }
+    place: u32,
+    accounts: Accounts,
+) -> Result<Offer, NoRoom>
+    requires { IsTrue (is_some (provider_at place (options_of begun.now))) }
+    ensures value { IfOk result (λ offer. IfSome (provider_at place (options_of begun.now)) (λ provider. offer
+        ≡ spec.offer_of (world_of shared.now).kept begun.now.origin place provider accounts)) }
+    ensures whole { IfOk result (λ offer. IsWhole offer) }
+    ensures some { IfOk result (λ offer. 0 < length offer.accounts) }
 {
-    kept_at(
+    let provider = begun.provider_of(place);
+    let kept = kept_at(
         alloc,
-        kept,
+        shared.kept,
         begun.origin(),
-        begun.provider_origin(),
+        provider.config.origin(),
+        accounts.list(),
+    )?;
+    Ok(Offer {
+        provider: place,
+        client: provider.client.copy(alloc)?,
         accounts,
-    )
-}
-
-// Whether an account of the provider's origin is connected to the client at pages of an origin.
-fn is_connected(
-    kept: &KeptSet,
-    page: &Origin,
-    provider: &Origin,
-    client: &Text,
-    account: &Account,
-) -> bool
-    ensures { result ≡ spec.is_connected kept.now page.now provider.now client.now account.now }
-{
-    connected(account, client, kept.has(page, provider, &account.id))
-}
-
-// Of each account of the provider's origin, in their order, whether it is connected to the client at pages of an origin.
-fn connections_at(
-    alloc: Global,
-    kept: &KeptSet,
-    page: &Origin,
-    provider: &Origin,
-    client: &Text,
-    accounts: &[Account],
-) -> Result<Items<bool>, NoRoom>
-    ensures { IfOk result (λ all. all ≡ map (spec.is_connected kept.now page.now provider.now client.now) accounts.now) }
-{
-    let mut all = Items::new(alloc);
-    for account in accounts {
-        all.push(is_connected(kept, page, provider, client, account))?;
-    }
-    Ok(all)
-}
-
-/// Of each of these accounts of the call's provider, in their order, whether it is connected.
-pub fn connections(
-    alloc: Global,
-    kept: &KeptSet,
-    begun: &Call,
-    accounts: &[Account],
-) -> Result<Items<bool>, NoRoom>
-    ensures { IfOk result (λ all. all ≡ map (spec.is_connected kept.now begun.now.origin (origin_of begun.now.provider.config)
-        begun.now.provider.client) accounts.now) }
-{
-    connections_at(
-        alloc,
         kept,
-        begun.origin(),
-        begun.provider_origin(),
-        &begun.provider().client,
-        accounts,
-    )
+    })
 }

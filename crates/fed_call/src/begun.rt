@@ -1,17 +1,13 @@
 //! What a call began with.
-ghost use Rattle.std.specs.Prelude.{◌≡◌, ◌∷◌, [], Some, None, IfOk, IfSome, length, if◌then◌else◌};
-ghost use Rattle.fed_origin.specs.WebUrl.{origin_of, scheme_of};
-ghost use Rattle.fed_provider.specs.FirstReplies.{reply_heard};
-ghost use Rattle.fed_call.specs.Begun.{options_of};
-ghost use Rattle.fed_consent.specs.Outcomes.{only_place};
+ghost use Rattle.std.specs.Prelude.{◌≡◌, ◌∷◌, ◌≤◌, Some, IfOk, IsTrue, is_some, length};
+ghost use Rattle.fed_origin.specs.WebUrl.{origin_of};
+ghost use Rattle.fed_call.specs.Begun.{about, options_of};
 ghost use Rattle.fed_call.specs.Facts.{provider_at};
+ghost use Rattle.fed_call.specs.WindowRows.{origin_at};
+ghost use Rattle.fed_consent.specs.Outcomes.{only_place};
 
-use fed_consent::ONLY_PLACE;
 use fed_io::{Items, NoRoom};
-use fed_origin::{
-    Context, GetOptions, Mediation, Mode, Origin, ProviderOptions, ReplyKind, Scheme, SharedOrigin,
-};
-use fed_provider::{FirstReplies, Heard, Rules};
+use fed_origin::{Context, GetOptions, Mediation, Mode, Origin, ProviderOptions, SharedOrigin};
 use std::alloc::Global;
 use std::marker::Model;
 
@@ -25,7 +21,11 @@ struct CallParts {
     mode: Mode,
     activation: bool,
     context: Context,
-    provider: ProviderOptions,
+    // The first provider, and no memory where there are no others.
+    first: ProviderOptions,
+    others: Items<ProviderOptions>,
+    // The place of the provider that the call is about.
+    place: u32,
 }
 
 impl Drop for CallParts {
@@ -38,55 +38,68 @@ impl Drop for CallParts {
             mode: _,
             activation: _,
             context: _,
-            provider: _,
+            first: _,
+            others: _,
+            place: _,
         } = self;
     }
 }
 
-/// What a call began with. Its only provider has a configuration URL that is https.
+/// What a call began with, and which provider it is about. It has one to ten.
 pub struct Call {
     // In a place of their own, since each event moves the call's state several times.
-    place: Box<CallParts>,
+    parts: Box<CallParts>,
 }
 
 impl Model for Call {
-    ghost use Rattle.std.specs.Prelude.{◌≡◌};
-    ghost use Rattle.fed_origin.specs.declared.scheme.Scheme.TheVariants.{Https};
-    ghost use Rattle.fed_origin.specs.WebUrl.{scheme_of};
-    ghost use Rattle.fed_call.specs.Begun.{Begun};
+    ghost use Rattle.std.specs.Prelude.{◌∷◌, ◌≤◌, ◌<◌, length};
+    ghost use Rattle.fed_call.specs.Begun.{Begun, provider_in};
 
     ghost Value = { Begun };
 
     ghost view = { λ c. record {
-      call = c.place.value.call;
-      page = c.place.value.page;
-      origin = c.place.value.origin;
-      mediation = c.place.value.mediation;
-      mode = c.place.value.mode;
-      activation = c.place.value.activation;
-      context = c.place.value.context;
-      provider = c.place.value.provider;
+      call = c.parts.value.call;
+      page = c.parts.value.page;
+      origin = c.parts.value.origin;
+      mediation = c.parts.value.mediation;
+      mode = c.parts.value.mode;
+      activation = c.parts.value.activation;
+      context = c.parts.value.context;
+      providers = c.parts.value.first ∷ c.parts.value.others;
+      place = c.parts.value.place;
+      provider = provider_in c.parts.value.first c.parts.value.others c.parts.value.place;
     } };
 
-    ghost invariant = { λ c. scheme_of c.place.value.provider.config ≡ Https };
+    ghost invariant = { λ c. record {
+      inside : c.parts.value.place < length (c.parts.value.first ∷ c.parts.value.others);
+      few : length (c.parts.value.first ∷ c.parts.value.others) ≤ 10;
+    } };
 }
 
 impl Drop for Call {
     fn drop(self) {
-        let Call { place: _ } = self;
+        let Call { parts: _ } = self;
     }
 }
 
-// The only provider of a list.
-fn only(providers: Items<ProviderOptions>) -> ProviderOptions
-    requires { length providers ≡ 1 }
-    ensures { providers ≡ result ∷ [] }
+// The first of a list, and the others.
+fn parted(
+    alloc: Global,
+    providers: Items<ProviderOptions>,
+) -> (ProviderOptions, Items<ProviderOptions>)
+    requires { 1 ≤ length providers }
+    ensures { providers ≡ result.0 ∷ result.1 }
 {
-    providers.into_vec().swap_remove(ONLY_PLACE as usize)
+    let mut list = providers.into_vec();
+    let first = list.remove(0);
+    if list.is_empty() {
+        return (first, Items::new(alloc));
+    }
+    (first, Items::from_vec(list))
 }
 
 impl Call {
-    /// What a call with these options begins with. They have exactly one provider, whose configuration URL is https.
+    /// What a call with these options begins with. They have one to ten providers; it is about the first.
     pub fn new(
         alloc: Global,
         call: u32,
@@ -94,12 +107,13 @@ impl Call {
         origin: SharedOrigin,
         options: GetOptions,
     ) -> Result<Call, NoRoom>
-        requires one { length options.providers ≡ 1 }
-        requires secure { IfSome (provider_at only_place options) (λ provider. scheme_of provider.config ≡ Scheme.Https) }
+        requires some { 1 ≤ length options.providers }
+        requires few { length options.providers ≤ 10 }
         ensures options { IfOk result (λ begun. options_of begun ≡ options) }
         ensures call { IfOk result (λ begun. begun.call ≡ call) }
         ensures page { IfOk result (λ begun. begun.page ≡ page) }
         ensures origin { IfOk result (λ begun. begun.origin ≡ origin) }
+        ensures first { IfOk result (λ begun. provider_at 0 options ≡ Some begun.provider) }
     {
         let GetOptions {
             mediation,
@@ -108,6 +122,7 @@ impl Call {
             context,
             providers,
         } = options;
+        let (first, others) = parted(alloc, providers);
         let parts = CallParts {
             call,
             page,
@@ -116,10 +131,12 @@ impl Call {
             mode,
             activation,
             context,
-            provider: only(providers),
+            first,
+            others,
+            place: 0,
         };
         Ok(Call {
-            place: Box::new(alloc, parts)?,
+            parts: Box::new(alloc, parts)?,
         })
     }
 
@@ -127,76 +144,113 @@ impl Call {
     pub fn call(&self) -> u32
         ensures { result ≡ self.now.call }
     {
-        self.place.call
+        self.parts.call
     }
 
     /// The number of its page.
     pub fn page(&self) -> u32
         ensures { result ≡ self.now.page }
     {
-        self.place.page
+        self.parts.page
     }
 
     /// The origin of its page.
     pub fn origin(&self) -> &Origin
         ensures { result.now ≡ self.now.origin }
     {
-        self.place.origin.get()
+        self.parts.origin.get()
     }
 
     /// Its mediation.
     pub fn mediation(&self) -> Mediation
         ensures { result ≡ self.now.mediation }
     {
-        self.place.mediation
+        self.parts.mediation
     }
 
     /// Its mode.
     pub fn mode(&self) -> Mode
         ensures { result ≡ self.now.mode }
     {
-        self.place.mode
+        self.parts.mode
     }
 
     /// Its context.
     pub fn context(&self) -> Context
         ensures { result ≡ self.now.context }
     {
-        self.place.context
+        self.parts.context
     }
 
-    /// Its only provider.
-    pub fn provider(&self) -> &ProviderOptions
-        ensures { result.now ≡ self.now.provider }
+    /// How many providers it has.
+    pub fn count(&self) -> usize
+        ensures value { result ≡ length self.now.providers }
+        ensures few { result ≤ 10 }
     {
-        &self.place.provider
+        self.parts.others.len() + 1
     }
 
-    /// Whether the call has a provider at this place.
+    /// Whether it has a provider at this place.
     pub fn has(&self, place: u32) -> bool
-        ensures { provider_at place (options_of self.now) ≡ (if result then Some self.now.provider else None) }
+        ensures { result ≡ is_some (provider_at place (options_of self.now)) }
     {
-        place == ONLY_PLACE
+        place as usize <= self.parts.others.len()
     }
 
-    /// The origin of the provider.
+    /// The provider at this place.
+    pub fn provider_of(&self, place: u32) -> &ProviderOptions
+        requires { IsTrue (is_some (provider_at place (options_of self.now))) }
+        ensures { provider_at place (options_of self.now) ≡ Some result.now }
+    {
+        let parts = &self.parts;
+        if place == 0 {
+            return &parts.first;
+        }
+        &parts.others.as_slice()[place as usize - 1]
+    }
+
+    /// The place of the provider that it is about.
+    pub fn place(&self) -> u32
+        ensures value { result ≡ self.now.place }
+        ensures inside { provider_at self.now.place (options_of self.now) ≡ Some self.now.provider }
+    {
+        self.parts.place
+    }
+
+    /// The provider that it is about.
+    pub fn provider(&self) -> &ProviderOptions
+        ensures value { result.now ≡ self.now.provider }
+        ensures inside { provider_at self.now.place (options_of self.now) ≡ Some self.now.provider }
+    {
+        let parts = &self.parts;
+        if parts.place == 0 {
+            return &parts.first;
+        }
+        &parts.others.as_slice()[parts.place as usize - 1]
+    }
+
+    /// The origin of the first provider.
+    pub fn first_origin(&self) -> &Origin
+        ensures { Some result.now ≡ origin_at only_place (options_of self.now) }
+    {
+        self.parts.first.config.origin()
+    }
+
+    /// The origin of the provider that it is about.
     pub fn provider_origin(&self) -> &Origin
         ensures { result.now ≡ origin_of self.now.provider.config }
     {
-        self.place.provider.config.origin()
+        self.provider().config.origin()
     }
 
-    /// What a reply of the provider comes to, after these.
-    pub fn hear(
-        &self,
-        alloc: Global,
-        rules: &Rules,
-        replies: FirstReplies,
-        kind: ReplyKind,
-        raw: &[u8],
-    ) -> Result<Heard, NoRoom>
-        ensures { IfOk result (λ heard. heard ≡ reply_heard rules.now replies self.now.provider.config kind raw.now) }
+    /// The call is about the provider at this place from now on. It takes no memory.
+    pub fn about(self, place: u32) -> Call
+        requires { IsTrue (is_some (provider_at place (options_of self))) }
+        ensures value { result ≡ about place result.provider self }
+        ensures provider { provider_at place (options_of self) ≡ Some result.provider }
     {
-        replies.hear(alloc, rules, &self.place.provider.config, kind, raw)
+        let Call { mut parts } = self;
+        parts.place = place;
+        Call { parts }
     }
 }

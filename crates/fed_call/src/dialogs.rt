@@ -1,18 +1,22 @@
 //! What the user is shown.
-ghost use Rattle.std.specs.Prelude.{◌≡◌, IfOk, IsAscii, length, option_map};
+ghost use Rattle.std.specs.Prelude.{◌≡◌, ◌++◌, [], IfOk, IsAscii, OnOk, map, option_map};
+ghost use Rattle.std.specs.List.{flat_map};
 ghost use Rattle.url.specs.Parts.{serialize};
+ghost use Rattle.fed_accounts.specs.Offers.{AreWhole, IsWhole};
 ghost use Rattle.fed_suffix.specs.Registrable.{party};
 ghost use Rattle.fed_status.specs.Shared.{world_of};
+ghost use Rattle.fed_consent.specs.Consent.{candidates};
+ghost use Rattle.fed_consent.specs.declared.table.dialog.Dialog.TheVariants as dialogs;
 ghost use Rattle.fed_consent.specs.declared.table.effect.Effect.TheVariants as effects;
-ghost use Rattle.fed_call.specs.ListingRows as spec;
-ghost use Rattle.fed_call.specs.State.{begun_facts};
+ghost use Rattle.fed_call.specs.Dialogs as spec;
+ghost use Rattle.fed_call.specs.State.{begun_facts, offered_in};
 
 use crate::begun::Call;
-use fed_accounts::Account;
-use fed_consent::{Ask, Chooser, Dialog, Effect, Prompt, Shown};
+use fed_accounts::{Account, Offer, connected};
+use fed_consent::{Ask, Dialog, Effect, Prompt, Shown};
 use fed_io::{Items, NoRoom, Placed, Text, copy_text};
-use fed_origin::{Host, WebUrl};
-use fed_provider::PolicyLinks;
+use fed_origin::{Host, Stage, WebUrl};
+use fed_provider::{PolicyLinks, SharedConfig};
 use fed_status::Shared;
 use fed_suffix::Suffixes;
 use std::alloc::Global;
@@ -43,7 +47,7 @@ pub fn site(alloc: Global, rules: &Suffixes, host: &Host) -> Result<Text, NoRoom
 
 // An account of the provider at this place as a dialog shows it.
 fn shown(alloc: Global, place: u32, account: &Account, connected: bool) -> Result<Shown, NoRoom>
-    ensures { IfOk result (λ shown. shown ≡ spec.shown place account.now connected) }
+    ensures { IfOk result (λ shown. shown ≡ spec.shown_of place (record { account = account.now; connected = connected })) }
 {
     Ok(Shown {
         provider: place,
@@ -66,34 +70,44 @@ fn out_of_place(alloc: Global, text: &Option<Placed<Text>>) -> Result<Option<Tex
     }
 }
 
-// The accounts as a dialog shows them, in their order.
-fn all_shown(
-    alloc: Global,
-    place: u32,
-    accounts: &[Account],
-    connected: &[bool],
-) -> Result<Items<Shown>, NoRoom>
-    requires { length connected.now ≡ length accounts.now }
-    ensures { IfOk result (λ all. all ≡ spec.all_shown place (record { accounts = accounts.now; connected = connected.now })) }
+// The accounts of an offer as a dialog shows them, after these.
+fn show_offer(alloc: Global, all: &mut Items<Shown>, offer: &Offer) -> Result<(), NoRoom>
+    requires { IsWhole offer.now }
+    ensures { OnOk result (all.new ≡ all.old ++ map (spec.shown_of offer.now.provider) (candidates offer.now)) }
+{
+    let kept = offer.kept.as_slice();
+    for (k, account) in offer.accounts.list().iter().enumerate() {
+        let connected = connected(account, &offer.client, kept[k]);
+        all.push(shown(alloc, offer.provider, account, connected)?)?;
+    }
+    Ok(())
+}
+
+// All accounts of these offers as a dialog shows them, in their order.
+fn all_shown(alloc: Global, offers: &[Offer]) -> Result<Items<Shown>, NoRoom>
+    requires { AreWhole offers.now }
+    ensures { IfOk result (λ all. all ≡ flat_map (λ offer. map (spec.shown_of offer.provider) (candidates offer)) offers.now) }
 {
     let mut all = Items::new(alloc);
-    for (k, account) in accounts.iter().enumerate() {
-        all.push(shown(alloc, place, account, connected[k])?)?;
+    for offer in offers {
+        show_offer(alloc, &mut all, offer)?;
     }
     Ok(all)
 }
 
-/// The accounts of the provider at this place are shown, to choose one of.
+/// The accounts of these offers are shown, to choose one of.
 pub fn choice_dialog(
     alloc: Global,
     shared: &Shared<'_>,
     begun: &Call,
-    place: u32,
-    chooser: &Chooser,
+    offers: &[Offer],
 ) -> Result<Effect, NoRoom>
-    ensures { IfOk result (λ effect. effect ≡ spec.choice_dialog (world_of shared.now) (begun_facts begun.now) place chooser.now.listed) }
+    requires { AreWhole offers.now }
+    ensures { IfOk result (λ effect. effect ≡ effects.Dialog (dialogs.Choose
+        (flat_map (λ offer. map (spec.shown_of offer.provider) (candidates offer)) offers.now)
+        begun.now.context (spec.site_of (world_of shared.now) begun.now.origin))) }
 {
-    let accounts = all_shown(alloc, place, chooser.accounts().list(), chooser.connected())?;
+    let accounts = all_shown(alloc, offers)?;
     let site = site(alloc, shared.rules.suffixes(), &begun.origin().host)?;
     let dialog = Dialog::Choose {
         accounts,
@@ -113,20 +127,20 @@ fn link(alloc: Global, url: &Option<WebUrl>) -> Result<Option<Text>, NoRoom>
     }
 }
 
-/// The account of a prompt, of the provider at this place, is shown, to go on with, and these links.
+/// The account of a prompt, of the provider that the call is about, is shown, to go on with, and these links.
 pub fn prompt_dialog(
     alloc: Global,
     shared: &Shared<'_>,
     begun: &Call,
-    place: u32,
     prompt: &Prompt,
     links: &PolicyLinks,
 ) -> Result<Effect, NoRoom>
-    ensures { IfOk result (λ effect. effect ≡ spec.prompt_dialog (world_of shared.now) (begun_facts
-        begun.now) place prompt.now.pick.candidate
-        links.now) }
+    ensures { IfOk result (λ effect. effect ≡ effects.Dialog (dialogs.Prompt
+        (spec.shown_of begun.now.place prompt.now.pick.candidate) begun.now.context
+        (spec.site_of (world_of shared.now) begun.now.origin)
+        (option_map serialize links.now.privacy) (option_map serialize links.now.terms))) }
 {
-    let account = shown(alloc, place, prompt.account(), prompt.connected())?;
+    let account = shown(alloc, begun.place(), prompt.account(), prompt.connected())?;
     let site = site(alloc, shared.rules.suffixes(), &begun.origin().host)?;
     let privacy = link(alloc, &links.privacy)?;
     let terms = link(alloc, &links.terms)?;
@@ -146,16 +160,15 @@ pub fn prompt_effect(
     alloc: Global,
     shared: &Shared<'_>,
     begun: &Call,
-    place: u32,
+    config: &SharedConfig,
     prompt: &Prompt,
-    endpoint: &Option<WebUrl>,
 ) -> Result<Effect, NoRoom>
-    ensures { IfOk result (λ effect. effect ≡ spec.prompt_effect (world_of shared.now) (begun_facts begun.now) place begun.now.provider
-        prompt.now.pick.candidate prompt.now.pick.candidate.connected endpoint.now) }
+    ensures { IfOk result (λ effect. effect ≡ spec.prompt_effect (world_of shared.now) (begun_facts begun.now Stage.Reading [])
+        (offered_in begun.now config.now prompt.now.pick.candidate) prompt.now.pick.candidate.connected config.now.metadata) }
 {
-    match endpoint {
-        Some(to) if !prompt.connected() => metadata_request(alloc, begun, place, to),
-        _ => prompt_dialog(alloc, shared, begun, place, prompt, &no_links()),
+    match &config.get().metadata {
+        Some(to) if !prompt.connected() => metadata_request(alloc, begun, to),
+        _ => prompt_dialog(alloc, shared, begun, prompt, &no_links()),
     }
 }
 
@@ -169,13 +182,14 @@ fn no_links() -> PolicyLinks
 }
 
 // The links of the client are asked for.
-fn metadata_request(alloc: Global, begun: &Call, place: u32, to: &WebUrl) -> Result<Effect, NoRoom>
-    ensures { IfOk result (λ effect. effect ≡ effects.Send place (Ask.Metadata to.now begun.now.provider.client begun.now.origin)) }
+fn metadata_request(alloc: Global, begun: &Call, to: &WebUrl) -> Result<Effect, NoRoom>
+    ensures { IfOk result (λ effect. effect
+        ≡ effects.Send begun.now.place (Ask.Metadata to.now begun.now.provider.client begun.now.origin)) }
 {
     let ask = Ask::Metadata {
         to: to.copy(alloc)?,
         client: begun.provider().client.copy(alloc)?,
         origin: Placed::new(alloc, begun.origin().copy(alloc)?)?,
     };
-    Ok(Effect::Send(place, ask))
+    Ok(Effect::Send(begun.place(), ask))
 }

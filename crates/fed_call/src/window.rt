@@ -1,69 +1,32 @@
-//! A call whose login window is open.
-ghost use Rattle.std.specs.Prelude.{◌≡◌, IfOk};
-ghost use Rattle.fed_call.specs.Row.{input_facts, input_row};
-ghost use Rattle.fed_call.specs.State.{facts_of, window_facts};
+//! The login window of a call.
+ghost use Rattle.std.specs.Prelude.{◌≡◌, ◌∷◌, [], IfOk, IsTrue, Some};
+ghost use Rattle.fed_consent.specs.Outcomes.{only_place};
+ghost use Rattle.fed_call.specs.declared.stages.At.TheVariants as ats;
+ghost use Rattle.fed_call.specs.Fits.{is_one};
+ghost use Rattle.fed_call.specs.State.{at_facts, facts_of};
 ghost use Rattle.fed_call.specs.WindowRows as spec;
-ghost use Rattle.fed_status.specs.Shared.{world_of};
 
 use crate::CallState;
 use crate::begun::Call;
-use crate::effects::fails;
-use crate::reading::asks_accounts;
-use fed_consent::{Effect, FailStep, Failure, Input, ONLY_PLACE};
+use crate::stages::At;
+use fed_consent::{Effect, ONLY_PLACE};
 use fed_io::{Items, NoRoom};
-use fed_origin::{Mediation, Mode, Stage};
+use fed_origin::{Mediation, Mode};
 use fed_provider::SharedConfig;
-use fed_status::Shared;
 use std::alloc::Global;
 
-/// A call whose login window is open: it waits until a page of the provider's origin says that the user has signed in (FedCM,
-/// "IdentityProvider.close").
-pub struct Window {
-    pub(crate) begun: Call,
-    pub(crate) config: SharedConfig,
-}
-
-impl Drop for Window {
-    fn drop(self) {
-        let Window {
-            begun: _,
-            config: _,
-        } = self;
-    }
-}
-
-impl Window {
-    /// The call after an input, and what it does there: it asks for the accounts again where the provider's page said that the
-    /// user has signed in (row C29), and fails where the user closed the window (row C30).
-    pub(crate) fn advance(
-        self,
-        alloc: Global,
-        input: &Input,
-        shared: &Shared<'_>,
-    ) -> Result<(CallState, Items<Effect>), NoRoom>
-        ensures effects { IfOk result (λ r. r.1 ≡ (input_row (world_of shared.now) (window_facts self) input.now).effects) }
-        ensures state { IfOk result (λ r. facts_of r.0 ≡ input_facts (world_of shared.now) (window_facts self) input.now) }
-    {
-        match input {
-            Input::Resume => self.resume(alloc),
-            Input::Shut => fails(alloc, Failure::plain(FailStep::WindowShut)),
-            Input::Abort
-            | Input::Reply { .. }
-            | Input::Choose { .. }
-            | Input::GoOn
-            | Input::Cancel
-            | Input::SignIn => CallState::Window(self).declines(alloc, input),
-        }
-    }
-
-    // The accounts are asked for again.
-    fn resume(self, alloc: Global) -> Result<(CallState, Items<Effect>), NoRoom>
-        ensures effects { IfOk result (λ r. r.1 ≡ (spec.resumed (window_facts self) Stage.Window).effects) }
-        ensures state { IfOk result (λ r. r.0 ≡ CallState.Listing (record { begun = self.begun; config = self.config })) }
-    {
-        let Window { begun, config } = self;
-        asks_accounts(alloc, begun, ONLY_PLACE, config)
-    }
+/// The user asked for the login window of the only provider, and it opens (row C28).
+pub fn opens_window(
+    alloc: Global,
+    begun: Call,
+    config: SharedConfig,
+) -> Result<(CallState, Items<Effect>), NoRoom>
+    requires { IsTrue (is_one begun) }
+    ensures effects { IfOk result (λ r. r.1 ≡ Effect.Window only_place config.login ∷ []) }
+    ensures state { IfOk result (λ r. facts_of r.0 ≡ Some (at_facts begun (ats.Window config))) }
+{
+    let effects = window_effect(alloc, &config)?.alone(alloc)?;
+    Ok((CallState::pending(begun, At::Window(config)), effects))
 }
 
 /// Whether the call is active and not silent.
@@ -73,9 +36,9 @@ pub fn may_sign_in(begun: &Call) -> bool
     begun.mode() == Mode::Active && begun.mediation() != Mediation::Silent
 }
 
-/// The login window of the provider at this place opens.
-pub fn window_effect(alloc: Global, place: u32, config: &SharedConfig) -> Result<Effect, NoRoom>
-    ensures { IfOk result (λ effect. effect ≡ Effect.Window place config.now.login) }
+/// The login window of the only provider opens.
+pub fn window_effect(alloc: Global, config: &SharedConfig) -> Result<Effect, NoRoom>
+    ensures { IfOk result (λ effect. effect ≡ Effect.Window only_place config.now.login) }
 {
-    Ok(Effect::Window(place, config.get().login.copy(alloc)?))
+    Ok(Effect::Window(ONLY_PLACE, config.get().login.copy(alloc)?))
 }

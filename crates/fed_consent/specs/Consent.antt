@@ -1,48 +1,49 @@
 -- What the user is offered, what the user agreed to, and the request that it makes.
-use Rattle.std.specs.Prelude.{ℕ, Bool, true, false, not, List, Option, slice_get, option_and_then, option_map, Result, Ok}
-use Rattle.std.specs.Prelude.{Err}
-use Rattle.std.specs.Prelude.{bytes_eq, if◌then◌else◌}
-use Rattle.std.specs.List.{position}
+use Rattle.std.specs.Prelude.{ℕ, suc, ◌≤◌, ⊤, Bool, true, false, not, ◌&&◌, nat_eq, List, [], ◌∷◌, map, zip, Option, slice_get}
+use Rattle.std.specs.Prelude.{option_and_then, option_map}
+use Rattle.std.specs.Prelude.{Result, Ok, Err, bytes_eq, if◌then◌else◌}
+use Rattle.std.specs.List.{find, flat_map}
 use Rattle.url.specs.Parts.{Parts}
 use Rattle.fed_origin.specs.declared.options.Mediation.{Mediation}
 use Rattle.fed_origin.specs.declared.origin.Origin.{Origin}
 use Rattle.fed_origin.specs.declared.options.ProviderOptions.{ProviderOptions}
 use Rattle.fed_accounts.specs.declared.account.Account.{Account}
-use Rattle.fed_accounts.specs.Connection.{Reselect}
+use Rattle.fed_accounts.specs.declared.offer.Offer.{Offer}
+use Rattle.fed_accounts.specs.Connection.{Connected, Reselect}
 use Rattle.fed_consent.specs.declared.consent.manner.Manner.{Manner}
 use Rattle.fed_consent.specs.declared.consent.manner.Manner.TheVariants.{Chosen, Prompted, Reselected}
 
 -- ---- what is offered
-
--- accounts of a provider, and of each whether it is connected
-pub record Listed : Type 0 where
-  pub accounts : List Account
-  pub connected : List Bool
 
 -- an account, and whether it is connected
 pub record Candidate : Type 0 where
   pub account : Account
   pub connected : Bool
 
--- the account at this place of a list, if there is one
-abbrev pub candidate_at : Listed → ℕ → Option Candidate
-candidate_at listed place =
-    option_and_then (λ account. option_map (λ connected. record { account = account; connected = connected }) (slice_get listed.connected
-    place))
-    (slice_get listed.accounts place)
+-- an account of an offer and whether its permission is kept, by the client of the offer
+abbrev pub candidate_by : List ℕ → Account × Bool → Candidate
+candidate_by client entry = record { account = entry.0; connected = Connected entry.0 client entry.1 }
 
-abbrev pub has_id : List ℕ → Account → Bool
-has_id id account = bytes_eq account.id id
+-- the accounts of an offer, in their order
+abbrev pub candidates : Offer → List Candidate
+candidates offer = map (candidate_by offer.client) (zip offer.accounts offer.kept)
 
--- the account with this id in a list, if there is one
-abbrev pub chosen : List ℕ → Listed → Option Candidate
-chosen id listed = option_and_then (candidate_at listed) (position (has_id id) listed.accounts)
+abbrev pub has_id : List ℕ → Candidate → Bool
+has_id id candidate = bytes_eq candidate.account.id id
 
--- the accounts among which the user is to choose
-pub record Offer : Type 0 where
+-- the accounts among which the user is to choose, of each provider that offers some
+pub record Choices : Type 0 where
   pub call : ℕ
-  pub provider : ℕ
-  pub listed : Listed
+  pub offers : List Offer
+
+-- the places of these providers rise, from n on
+abbrev pub RiseFrom : ℕ → List Offer → Type 0
+RiseFrom n [] = ⊤
+RiseFrom n (offer ∷ offers) = (n ≤ offer.provider) × RiseFrom (suc offer.provider) offers
+
+-- each provider has one offer, in the order of their places
+abbrev pub AreRising : List Offer → Type 0
+AreRising offers = RiseFrom 0 offers
 
 -- the account that the user is asked about
 pub record Pick : Type 0 where
@@ -50,9 +51,21 @@ pub record Pick : Type 0 where
   pub provider : ℕ
   pub candidate : Candidate
 
--- this account of an offer
-abbrev pub pick_of : Offer → Candidate → Pick
-pick_of offer candidate = record { call = offer.call; provider = offer.provider; candidate = candidate }
+-- the accounts of an offer to a call
+abbrev pub picks_of : ℕ → Offer → List Pick
+picks_of call offer = map (λ candidate. record { call = call; provider = offer.provider; candidate = candidate }) (candidates offer)
+
+-- all pairs of a provider and an account of its, in their order
+abbrev pub picks : Choices → List Pick
+picks choices = flat_map (picks_of choices.call) choices.offers
+
+-- the account with this id of the provider
+abbrev pub is_pick : ℕ → List ℕ → Pick → Bool
+is_pick provider id pick = nat_eq provider pick.provider && has_id id pick.candidate
+
+-- the account that is named, if it is offered
+abbrev pub chosen : ℕ → List ℕ → Choices → Option Pick
+chosen provider id choices = find (is_pick provider id) (picks choices)
 
 -- whether the user goes on with an account
 pub record Question : Type 0 where
@@ -62,41 +75,27 @@ pub record Question : Type 0 where
 
 -- ---- what needs no user
 
--- the accounts of a provider, and what the rules of reselection look at
+-- what is offered, and what the rules of reselection look at
 pub record Grounds : Type 0 where
   pub call : ℕ
-  pub provider : ℕ
-  pub accounts : List Account
-  -- the client's id at the provider
-  pub client : List ℕ
-  -- of each account, whether its permission is kept
-  pub kept : List Bool
+  pub offers : List Offer
   -- silent access is prevented at the origin of the page
   pub flag : Bool
   pub mediation : Mediation
 
-abbrev pub grounds_of : ℕ → ℕ → List Account → List ℕ → List Bool → Bool → Mediation → Grounds
-grounds_of call provider accounts client kept flag mediation =
-    record {
-      call = call;
-      provider = provider;
-      accounts = accounts;
-      client = client;
-      kept = kept;
-      flag = flag;
-      mediation = mediation;
-    }
-
 -- an eligible account, which is connected
-abbrev pub eligible_pick : Grounds → Account → Pick
-eligible_pick found account =
-    record { call = found.call; provider = found.provider; candidate = record { account = account; connected = true } }
+abbrev pub eligible_pick : ℕ → Offer → Account → Pick
+eligible_pick call offer account =
+    record { call = call; provider = offer.provider; candidate = record { account = account; connected = true } }
 
--- the only eligible account, where neither the flag nor the mediation is against it
+-- the account at these places of an offer and in it
+abbrev pub pick_at : ℕ → List Offer → ℕ × ℕ → Option Pick
+pick_at call offers places =
+    option_and_then (λ offer. option_map (eligible_pick call offer) (slice_get offer.accounts places.1)) (slice_get offers places.0)
+
+-- the only eligible account of all, where neither the flag nor the mediation is against it
 abbrev pub reselection_on : Grounds → Option Pick
-reselection_on found =
-    option_and_then (λ place. option_map (eligible_pick found) (slice_get found.accounts place))
-    (Reselect found.accounts found.client found.kept found.flag found.mediation)
+reselection_on found = option_and_then (pick_at found.call found.offers) (Reselect found.offers found.flag found.mediation)
 
 -- ---- what was agreed to
 

@@ -1,4 +1,5 @@
 pub mod Ask
+pub mod Choice
 pub mod Consent
 pub mod Failures
 pub mod Outcomes

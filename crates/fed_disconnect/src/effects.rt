@@ -3,7 +3,7 @@ ghost use Rattle.std.specs.Prelude.{◌≡◌, None, IfOk};
 ghost use Rattle.fed_consent.specs.Outcomes as spec;
 ghost use Rattle.fed_disconnect.specs.State.{disconnect_facts_of};
 
-use crate::{DEnded, DState};
+use crate::DState;
 use fed_consent::{Effect, Failure, Finish, Why};
 use fed_io::{Items, NoRoom};
 use std::alloc::Global;
@@ -21,5 +21,5 @@ pub fn fails(alloc: Global, failure: Failure) -> Result<(DState, Items<Effect>),
     ensures state { IfOk result (λ r. disconnect_facts_of r.0 ≡ None) }
 {
     let effects = Effect::Finish(Finish::Failed(failure)).alone(alloc)?;
-    Ok((DState::DEnded(DEnded), effects))
+    Ok((DState::Ended, effects))
 }

@@ -3,10 +3,9 @@
 
 mod begun;
 mod effects;
+mod pending;
 mod reading;
 mod sending;
 mod state;
 
-pub use reading::DReading;
-pub use sending::DSending;
-pub use state::{DEnded, DState};
+pub use state::DState;

@@ -1,112 +1,39 @@
-//! A disconnect call whose well-known file and configuration are awaited.
-ghost use Rattle.std.specs.Prelude.{◌≡◌, ◌==◌, [], ◌∷◌, IfOk, unwrap_or};
-ghost use Rattle.fed_consent.specs.Outcomes.{ignored, only_place};
+//! The first replies of a disconnect call, with its well-known file and its configuration.
+ghost use Rattle.std.specs.Prelude.{◌≡◌, [], ◌∷◌, IfOk, unwrap_or};
+ghost use Rattle.fed_consent.specs.Outcomes.{only_place};
 ghost use Rattle.fed_consent.specs.declared.table.input.Input.TheVariants as inputs;
 ghost use Rattle.fed_status.specs.Shared.{world_of};
 ghost use Rattle.fed_disconnect.specs.Facts.{at_stage, both_taken, taken};
 ghost use Rattle.fed_disconnect.specs.Rows as spec;
-ghost use Rattle.fed_disconnect.specs.State.{disconnect_facts_of, reading_facts};
+ghost use Rattle.fed_disconnect.specs.State.{disconnect_facts_of, facts_at};
 
+use crate::DState;
 use crate::begun::Begun;
 use crate::effects::{fails, not_taken};
-use crate::{DSending, DState};
-use fed_consent::{Ask, Effect, FailStep, Failure, Input, ONLY_PLACE, Why};
+use crate::pending::{At, Pending};
+use fed_consent::{Ask, Effect, FailStep, Failure, ONLY_PLACE, Why};
 use fed_io::{Items, NoRoom, Placed};
 use fed_origin::{ReplyKind, Stage, WebUrl};
 use fed_provider::{FirstReplies, Heard, SharedConfig};
 use fed_status::Shared;
 use std::alloc::Global;
 
-/// A disconnect call whose well-known file and configuration are awaited.
-pub struct DReading {
-    pub(crate) begun: Begun,
-    /// Those that were taken.
-    pub(crate) replies: FirstReplies,
-}
-
-impl Drop for DReading {
-    fn drop(self) {
-        let DReading {
-            begun: _,
-            replies: _,
-        } = self;
-    }
-}
-
-impl DReading {
-    /// The call after an input, and what it does there.
-    pub(crate) fn advance(
-        self,
-        alloc: Global,
-        input: &Input,
-        shared: &Shared<'_>,
-    ) -> Result<(DState, Items<Effect>), NoRoom>
-        ensures effects { IfOk result (λ r. r.1 ≡ (spec.input_row (world_of shared.now) (reading_facts self) input.now).effects) }
-        ensures state { IfOk result (λ r. disconnect_facts_of r.0
-            ≡ spec.input_facts (world_of shared.now) (reading_facts self) input.now) }
-    {
-        match input {
-            Input::Reply {
-                provider,
-                kind,
-                raw,
-            } => self.reply(alloc, shared, *provider, *kind, raw.as_slice()),
-            Input::Abort
-            | Input::Choose { .. }
-            | Input::GoOn
-            | Input::Cancel
-            | Input::SignIn
-            | Input::Shut
-            | Input::Resume => self.ignores(alloc, Why::NotOffered),
-        }
-    }
-
-    // The call does not take the event.
-    fn ignores(self, alloc: Global, why: Why) -> Result<(DState, Items<Effect>), NoRoom>
-        ensures effects { IfOk result (λ r. r.1 ≡ (ignored why).effects) }
-        ensures state { IfOk result (λ r. r.0 ≡ DState.DReading self) }
-    {
-        let effects = not_taken(alloc, why)?;
-        Ok((DState::DReading(self), effects))
-    }
-
-    // A reply for the provider at this place.
-    fn reply(
-        self,
-        alloc: Global,
-        shared: &Shared<'_>,
-        place: u32,
-        kind: ReplyKind,
-        raw: &[u8],
-    ) -> Result<(DState, Items<Effect>), NoRoom>
-        ensures effects { IfOk result (λ r. r.1
-            ≡ (spec.provider_reply (world_of shared.now) (reading_facts self) (place == only_place) kind raw.now).effects) }
-        ensures state { IfOk result (λ r. disconnect_facts_of r.0
-            ≡ spec.input_facts (world_of shared.now) (reading_facts self) (inputs.Reply place kind raw.now)) }
-    {
-        if place == ONLY_PLACE {
-            return self.hears(alloc, shared, kind, raw);
-        }
-        self.ignores(alloc, Why::NotWaited)
-    }
-
-    // A reply of the provider: what is read of it is looked at together with what was taken before.
-    fn hears(
-        self,
-        alloc: Global,
-        shared: &Shared<'_>,
-        kind: ReplyKind,
-        raw: &[u8],
-    ) -> Result<(DState, Items<Effect>), NoRoom>
-        ensures effects { IfOk result (λ r. r.1 ≡ (spec.stage_reply (world_of shared.now) (reading_facts self) Stage.Reading kind
-            raw.now).effects) }
-        ensures state { IfOk result (λ r. disconnect_facts_of r.0
-            ≡ spec.input_facts (world_of shared.now) (reading_facts self) (inputs.Reply only_place kind raw.now)) }
-    {
-        let DReading { begun, replies } = self;
-        let heard = replies.hear(alloc, shared.rules, begun.config(), kind, raw)?;
-        goes_on(alloc, begun, heard)
-    }
+/// A call of which these replies were taken, after one more: what is read of it is looked at together with them.
+pub fn hears(
+    alloc: Global,
+    shared: &Shared<'_>,
+    begun: Begun,
+    replies: FirstReplies,
+    kind: ReplyKind,
+    raw: &[u8],
+) -> Result<(DState, Items<Effect>), NoRoom>
+    ensures effects { IfOk result (λ r. r.1 ≡ (spec.stage_reply (world_of shared.now) (facts_at begun (At.Reading replies)) Stage.Reading
+        kind raw.now).effects) }
+    ensures state { IfOk result (λ r. disconnect_facts_of r.0
+        ≡ spec.input_facts (world_of shared.now) (facts_at begun (At.Reading replies)) (inputs.Reply only_place kind raw.now)) }
+{
+    let heard = replies.hear(alloc, shared.rules, begun.config(), kind, raw)?;
+    goes_on(alloc, begun, heard)
 }
 
 // What a call does by what a reply comes to.
@@ -119,13 +46,14 @@ fn goes_on(alloc: Global, begun: Begun, heard: Heard) -> Result<(DState, Items<E
     match heard {
         Heard::Refused(step) => fails(alloc, Failure::of_provider(step)),
         Heard::Waits(replies) => {
-            let state = DReading { begun, replies };
-            Ok((DState::DReading(state), Items::new(alloc)))
+            let at = At::Reading(replies);
+            Ok((DState::Pending(Pending { begun, at }), Items::new(alloc)))
         }
         Heard::Both(config) => asks_disconnect(alloc, begun, config),
         Heard::NotWaited(replies) => {
-            let state = DReading { begun, replies };
-            state.ignores(alloc, Why::NotWaited)
+            let effects = not_taken(alloc, Why::NotWaited)?;
+            let at = At::Reading(replies);
+            Ok((DState::Pending(Pending { begun, at }), effects))
         }
     }
 }
@@ -144,7 +72,8 @@ fn asks_disconnect(
     match &config.get().disconnect {
         Some(to) => {
             let effects = begun.disconnect_request(alloc, to)?;
-            Ok((DState::DSending(DSending { begun, config }), effects))
+            let at = At::Sending(config);
+            Ok((DState::Pending(Pending { begun, at }), effects))
         }
         None => fails(alloc, Failure::plain(FailStep::NoDisconnect)),
     }

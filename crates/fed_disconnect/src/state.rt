@@ -1,4 +1,4 @@
-//! The states of a disconnect call.
+//! The state of a disconnect call.
 ghost use Rattle.std.specs.Prelude.{◌≡◌, IfOk, IfSome, Some, option_map};
 ghost use Rattle.fed_origin.specs.WebUrl.{scheme_of};
 ghost use Rattle.fed_provider.specs.WellKnown.{WellKnownUrlOf};
@@ -9,7 +9,7 @@ ghost use Rattle.fed_disconnect.specs.State.{disconnect_facts_of};
 
 use crate::begun::Begun;
 use crate::effects::{fails, not_taken};
-use crate::{DReading, DSending};
+use crate::pending::{At, Pending};
 use fed_consent::{Effect, FailStep, Failure, Input, Why};
 use fed_io::{Items, NoRoom, Text};
 use fed_origin::{Origin, Scheme, SharedOrigin, Stage, WebUrl};
@@ -17,26 +17,19 @@ use fed_provider::{FirstReplies, ProviderStep, site_url};
 use fed_status::Shared;
 use std::alloc::Global;
 
-/// A disconnect call that is over.
-#[derive(Drop)]
-pub struct DEnded;
-
-/// A disconnect call: its stage, with what is kept of it there. Contracts see what is known of the call
-/// (`disconnect_facts_of`), nothing where it is over.
+/// A disconnect call. Contracts see what is known of it (`disconnect_facts_of`), nothing where it is over.
 pub enum DState {
-    /// The well-known file and the configuration are awaited.
-    DReading(DReading),
-    /// The disconnect reply is awaited.
-    DSending(DSending),
+    /// The call goes on.
+    Pending(Pending),
     /// The call is over.
-    DEnded(DEnded),
+    Ended,
 }
 
 // Each type with a call in it has its drop written out, so that one function lets it go wherever it ends.
 impl Drop for DState {
     fn drop(self) {
         match self {
-            DState::DReading(_) | DState::DSending(_) | DState::DEnded(_) => {}
+            DState::Pending(_) | DState::Ended => {}
         }
     }
 }
@@ -97,8 +90,8 @@ impl DState {
         let begun = Begun::new(alloc, call, page, origin, config, client, hint)?;
         match begun.first_requests(alloc, wellknown, shared)? {
             Ok(effects) => {
-                let replies = FirstReplies::none();
-                Ok((DState::DReading(DReading { begun, replies }), effects))
+                let at = At::Reading(FirstReplies::none());
+                Ok((DState::Pending(Pending { begun, at }), effects))
             }
             Err(step) => fails(alloc, Failure::plain(step)),
         }
@@ -117,11 +110,10 @@ impl DState {
             self) input.now (disconnect_row (world_of shared.now) (disconnect_facts_of self) input.now)) }
     {
         match self {
-            DState::DReading(state) => state.advance(alloc, input, shared),
-            DState::DSending(state) => state.advance(alloc, input, shared),
-            DState::DEnded(state) => {
+            DState::Pending(call) => call.advance(alloc, input, shared),
+            DState::Ended => {
                 let effects = not_taken(alloc, Why::CallEnded)?;
-                Ok((DState::DEnded(state), effects))
+                Ok((DState::Ended, effects))
             }
         }
     }
@@ -132,9 +124,8 @@ impl DState {
         ensures { result ≡ disconnect_stage (disconnect_facts_of self.now) }
     {
         match self {
-            DState::DReading(_) => Stage::Reading,
-            DState::DSending(_) => Stage::Asserting,
-            DState::DEnded(_) => Stage::Ended,
+            DState::Pending(call) => call.stage(),
+            DState::Ended => Stage::Ended,
         }
     }
 
@@ -143,8 +134,8 @@ impl DState {
         ensures { IfSome result (λ url. IfSome (disconnect_facts_of self.now) (λ facts. url.now ≡ facts.options.config)) }
     {
         match self {
-            DState::DReading(state) => Some(state.begun.config()),
-            DState::DSending(_) | DState::DEnded(_) => None,
+            DState::Pending(call) => call.reads(),
+            DState::Ended => None,
         }
     }
 
@@ -153,9 +144,8 @@ impl DState {
         ensures { result ≡ option_map (λ facts. facts.page) (disconnect_facts_of self.now) }
     {
         match self {
-            DState::DReading(state) => Some(state.begun.place.page),
-            DState::DSending(state) => Some(state.begun.place.page),
-            DState::DEnded(_) => None,
+            DState::Pending(call) => Some(call.begun.place.page),
+            DState::Ended => None,
         }
     }
 }

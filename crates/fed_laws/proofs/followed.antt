@@ -1,4 +1,5 @@
 -- A cause is followed by a request for the token.
+pub mod Settling
+pub mod Itself
 pub mod Tracks
-pub mod Offers
 pub mod Acts

@@ -1,6 +1,4 @@
 -- What the tables do with what is known of a call.
-pub mod Only
-pub mod Config
 pub mod Turn
+pub mod Settle
 pub mod Way
-pub mod Open

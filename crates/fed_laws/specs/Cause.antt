@@ -1,9 +1,9 @@
 -- Why a token is asked for, and to whom it is given: what happened, by events alone.
-use Rattle.std.specs.Prelude.{◌≡◌, ℕ, Bool, true, false, ◌&&◌, nat_eq, ◌≤◌, List, [], ◌∷◌, ◌++◌, length, Option}
+use Rattle.std.specs.Prelude.{◌≡◌, ℕ, suc, Bool, true, false, ◌&&◌, nat_eq, ◌≤◌, List, [], ◌∷◌, ◌++◌, length, Option}
 use Rattle.std.specs.Prelude.{Some, None, is_some}
 use Rattle.std.specs.Prelude.{option_and_then, option_map, not, if◌then◌else◌, Result as Answer, Ok, Err, ◌⊎◌}
 use Rattle.std.specs.Option.{option_or}
-use Rattle.std.specs.List.{list_any}
+use Rattle.std.specs.List.{filter_map, list_any}
 use Rattle.std.specs.Result.{result_ok}
 use Rattle.url.specs.Parts.{Parts}
 use Rattle.fed_origin.specs.declared.options.GetOptions.{GetOptions}
@@ -11,9 +11,8 @@ use Rattle.fed_origin.specs.declared.options.ProviderOptions.{ProviderOptions}
 use Rattle.fed_origin.specs.declared.origin.Origin.{Origin}
 use Rattle.fed_origin.specs.declared.status.LoginStatus.TheVariants.{LoggedIn}
 use Rattle.fed_origin.specs.declared.status.Triple.{Triple}
-use Rattle.fed_origin.specs.Origin.{origin_text}
+use Rattle.fed_origin.specs.Origin.{origin_text, same_origin}
 use Rattle.fed_origin.specs.WebUrl.{origin_of}
-use Rattle.fed_reply.specs.Steps.{with_ok}
 use Rattle.fed_provider.specs.declared.config.Config.{Config}
 use Rattle.fed_accounts.specs.declared.account.Account.{Account}
 use Rattle.fed_accounts.specs.declared.step.AccountsStep.{AccountsStep}
@@ -24,9 +23,10 @@ use Rattle.fed_consent.specs.declared.table.finish.Finish.TheVariants.{Token}
 use Rattle.fed_consent.specs.declared.table.input.Input.{Input}
 use Rattle.fed_consent.specs.Outcomes.{only_place}
 use Rattle.fed_disconnect.specs.Facts.{DisconnectOptions, provider_origin}
-use Rattle.fed_consent.specs.Consent.{AssertionFields, Candidate, Listed, Pick, chosen, reselection_on}
-use Rattle.fed_call.specs.Accounts.{accounts_of, grounds_at, listed_of}
-use Rattle.fed_call.specs.Facts.{metadata_endpoint, provider_at}
+use Rattle.fed_consent.specs.Consent.{AssertionFields, Choices, Pick, chosen, picks, reselection_on}
+use Rattle.fed_accounts.specs.declared.offer.Offer.{Offer}
+use Rattle.fed_status.specs.Flags.{has_flag}
+use Rattle.fed_call.specs.Accounts.{accounts_of, offer_of, provider_at}
 use Rattle.fed_provider.specs.FirstReplies.{config_read}
 use Rattle.fed_script.specs.declared.event.Event.{Event}
 use Rattle.fed_script.specs.declared.event.Event.TheVariants.{Have, Reply, Choose, GoOn}
@@ -36,10 +36,10 @@ use Rattle.fed_consent.specs.declared.table.ask.Ask.TheVariants as asks
 use Rattle.fed_consent.specs.declared.table.input.Input.TheVariants as inputs
 use Rattle.fed_trace.specs.Begun.{Begun, ToGet, ToDisconnect, GetCall, DisconnectCall}
 use Rattle.fed_trace.specs.Effect.{Effect, Begin, Login, Sent, Result, is_ignored}
-use Rattle.fed_trace.specs.Known.{world_at, input_to}
-use Rattle.fed_trace.specs.Row.{effects_of}
-use Rattle.fed_trace.specs.Trace.{Row, Trace, kept, page_at}
-use Rattle.fed_trace.specs.OfCall.{Has, disturbs, call_at, assertions}
+use Rattle.fed_trace.specs.Known.{input_to}
+use Rattle.fed_trace.specs.Row.{effects_of, row_of}
+use Rattle.fed_trace.specs.Trace.{Row, Trace, flags, kept, page_at}
+use Rattle.fed_trace.specs.OfCall.{Has, disturbs, call_at, assertions, dropped}
 
 -- ---- what a call began with, and what it was given
 
@@ -62,102 +62,168 @@ config_in options provider raw = option_and_then result_ok (config_read raw (pro
 abbrev pub config_at : List Row → ℕ → ℕ → GetOptions → Option Config
 config_at rows call provider options = option_and_then (config_in options provider) (config_taken call provider rows)
 
--- the accounts that a reply after what happened offers to a call, each with its connection as of then
-abbrev pub offered : Trace → Begun → ProviderOptions → List ℕ → Answer Listed AccountsStep
-offered T begun provider raw = with_ok (listed_of (world_at T) begun.origin provider) (accounts_of raw provider)
+-- ---- how the providers of a call are settled
 
--- the event is the choice of one of the accounts, for the provider of the call
-abbrev pub chooses : ℕ → ℕ → Listed → Event → Bool
-chooses call provider listed (Choose c p id) = nat_eq call c && nat_eq provider p && is_some (chosen id listed)
-chooses call provider listed _ = false
+-- a provider of a call is settled: it drops out, or this is an accounts reply by which the user is logged in there
+pub data Settlement : Type 0 where
+  DropsOut : Settlement
+  Gives : (raw : List ℕ) → Settlement
 
--- the event is a metadata reply for the provider of the call
+-- the provider at this place of the call drops out by these effects
+abbrev pub drops : ℕ → ℕ → List Effect → Bool
+drops call place effects = list_any (nat_eq place) (filter_map (dropped call) effects)
+
+-- the user is logged in at the provider by the effect
+abbrev pub logs_in : Origin → Effect → Bool
+logs_in provider (Login origin LoggedIn) = same_origin provider origin
+logs_in provider _ = false
+
+-- the accounts reply for the provider at this place of the call that an event is, if it is one
+abbrev pub accounts_reply : ℕ → ℕ → Event → Option (List ℕ)
+accounts_reply call place (Reply c p kinds.Accounts raw) = if nat_eq call c && nat_eq place p then Some raw else None
+accounts_reply call place _ = None
+
+-- by whether the provider drops out, and by whether the user is logged in there
+abbrev pub settled_so : Bool → Bool → Option (List ℕ) → Option Settlement
+settled_so true logged_in raw = Some DropsOut
+settled_so false true raw = option_map Gives raw
+settled_so false false raw = None
+
+-- how the row settles the provider at this place, if it does
+abbrev pub settled_in : ℕ → ℕ → ProviderOptions → Row → Option Settlement
+settled_in call place provider row =
+    settled_so (drops call place row.effects) (list_any (logs_in (origin_of provider.config)) row.effects)
+    (accounts_reply call place row.event)
+
+-- how the rows settled it
+abbrev pub settled_by : ℕ → ℕ → ProviderOptions → List Row → Option Settlement
+settled_by call place provider [] = None
+settled_by call place provider (row ∷ rows) = option_or (settled_in call place provider row) (settled_by call place provider rows)
+
+-- one more, if all of them are
+abbrev pub and_settled : Option Settlement → Option (List Settlement) → Option (List Settlement)
+and_settled (Some settlement) (Some settlements) = Some (settlement ∷ settlements)
+and_settled _ _ = None
+
+-- how each of the providers is settled, if each is, where the first has the place n
+abbrev pub all_settled : ℕ → ℕ → List ProviderOptions → List Row → Option (List Settlement)
+all_settled call n [] rows = Some []
+all_settled call n (provider ∷ providers) rows =
+    and_settled (settled_by call n provider rows) (all_settled call (suc n) providers rows)
+
+-- what a provider offers, by how it is settled and by the permissions that are kept
+abbrev pub offer_read : List Triple → Origin → ℕ → ProviderOptions → Answer (List Account) AccountsStep → List Offer
+offer_read kept page place provider (Ok accounts) = offer_of kept page place provider accounts ∷ []
+offer_read kept page place provider (Err step) = []
+
+abbrev pub offer_by : List Triple → Origin → ℕ → ProviderOptions → Settlement → List Offer
+offer_by kept page place provider DropsOut = []
+offer_by kept page place provider (Gives raw) = offer_read kept page place provider (accounts_of raw provider)
+
+abbrev pub offers_from : List Triple → Origin → ℕ → List ProviderOptions → List Settlement → List Offer
+offers_from kept page n [] settlements = []
+offers_from kept page n (provider ∷ providers) [] = []
+offers_from kept page n (provider ∷ providers) (settlement ∷ settlements) =
+    offer_by kept page n provider settlement ++ offers_from kept page (suc n) providers settlements
+
+-- what the providers of a call offer, by how they are settled and by the permissions that are kept after what happened
+abbrev pub choices_after : Trace → Begun → GetOptions → List Settlement → Choices
+choices_after T begun get settlements =
+    record { call = begun.call; offers = offers_from (kept T) begun.origin 0 get.providers settlements }
+
+-- the event is the choice of one of the accounts
+abbrev pub chooses : Choices → Event → Bool
+chooses choices (Choose call place id) = nat_eq choices.call call && is_some (chosen place id choices)
+chooses choices _ = false
+
+-- the event is a metadata reply for the provider at this place of the call
 abbrev pub is_metadata : ℕ → ℕ → Event → Bool
 is_metadata call provider (Reply c p kinds.Metadata raw) = nat_eq call c && nat_eq provider p
 is_metadata call provider _ = false
 
 -- ---- the cause of a request for a token
 
--- A reply gave good accounts to the call, and since then nothing disturbed it.
-pub record Accepted (T : Trace) (call provider : ℕ) : Type 0 where
-  -- the rows since the reply, its row, and the rows before it, the newest first
-  pub since : List Row
-  pub reply : Row
-  pub before : List Row
-  pub rows : T.rows ≡ since ++ reply ∷ before
-  -- how the call began: it is a get, of this provider
+-- This row, after those before it, settles the last provider of a call, a get that began as `rows` say.
+pub record SettlesLast (rows before : List Row) (row : Row) (call : ℕ) : Type 0 where
   pub begun : Begun
-  pub began : call_at T.rows call ≡ Some begun
+  pub began : call_at rows call ≡ Some begun
   pub get : GetOptions
   pub is_get : begun.options ≡ ToGet get
-  pub options : ProviderOptions
-  pub has_provider : provider_at provider get ≡ Some options
-  -- the reply, and the accounts in it that the call's hints ask for
-  pub raw : List ℕ
-  pub event : reply.event ≡ Reply call provider kinds.Accounts raw
-  pub logged_in : Has reply.effects (Login (origin_of options.config) LoggedIn)
-  pub listed : Listed
-  pub offers : offered (record { header = T.header; rows = before }) begun options raw ≡ Ok listed
-  pub stands : list_any (disturbs call begun.page) (since ++ reply ∷ []) ≡ false
+  pub settlements : List Settlement
+  pub all : all_settled call 0 get.providers (row ∷ before) ≡ Some settlements
+  pub not_before : all_settled call 0 get.providers before ≡ None
 
--- no metadata endpoint stands in the configuration, or a metadata reply came in these rows
-abbrev pub IsReady : ℕ → ℕ → Option Config → List Row → Type 0
+-- A row settled the last of the call's providers, and since then nothing disturbed it.
+pub record Settled (T : Trace) (call : ℕ) : Type 0 where
+  -- the rows since, the row, and the rows before it, the newest first
+  pub since : List Row
+  pub settling : Row
+  pub before : List Row
+  pub rows : T.rows ≡ since ++ settling ∷ before
+  pub last : SettlesLast T.rows before settling call
+  pub stands : list_any (disturbs call last.begun.page) (since ++ settling ∷ []) ≡ false
+
+-- the accounts that are offered then
+abbrev pub choices_of : (T : Trace) (call : ℕ) → Settled T call → Choices
+choices_of T call settled =
+    choices_after (record { header = T.header; rows = settled.before }) settled.last.begun settled.last.get settled.last.settlements
+
+-- the configuration has no metadata endpoint, or a metadata reply came in these rows
+abbrev pub IsReady : ℕ → ℕ → Config → List Row → Type 0
 IsReady call provider config rows =
-    (metadata_endpoint config ≡ None) ⊎ (list_any (λ row. is_metadata call provider row.event) rows ≡ true)
+    (config.metadata ≡ None) ⊎ (list_any (λ row. is_metadata call provider row.event) rows ≡ true)
 
 -- the user chose this account, the first choice among several since they were offered
-pub record FirstChoice (call provider : ℕ) (id : List ℕ) (listed : Listed) (since : List Row) : Type 0 where
-  pub several : 2 ≤ length listed.accounts
+pub record FirstChoice (provider : ℕ) (id : List ℕ) (choices : Choices) (since : List Row) : Type 0 where
+  pub several : 2 ≤ length (picks choices)
   -- the rows since the choice, its row, and the rows between the offer and it
   pub after : List Row
   pub choice : Row
   pub waiting : List Row
   pub rows : since ≡ after ++ choice ∷ waiting
-  pub event : choice.event ≡ Choose call provider id
-  pub first : list_any (λ row. chooses call provider listed row.event) waiting ≡ false
+  pub event : choice.event ≡ Choose choices.call provider id
+  pub first : list_any (λ row. chooses choices row.event) waiting ≡ false
 
 -- how the user agreed to name the page to the provider for an account
-pub data Agreed (event : Event) (call provider : ℕ) (id : List ℕ) (listed : Listed) (candidate : Candidate) (config : Option Config)
-    (since : List Row) : Type 0 where
+pub data Agreed (event : Event) (id : List ℕ) (choices : Choices) (pick : Pick) (config : Config) (since : List Row) : Type 0 where
   -- by the first choice among several, of a connected account
-  ByChoice : 2 ≤ length listed.accounts → event ≡ Choose call provider id
-      → list_any (λ row. chooses call provider listed row.event) since ≡ false
-      → candidate.connected ≡ true → Agreed event call provider id listed candidate config since
+  ByChoice : 2 ≤ length (picks choices) → event ≡ Choose choices.call pick.provider id
+      → list_any (λ row. chooses choices row.event) since ≡ false
+      → pick.candidate.connected ≡ true → Agreed event id choices pick config since
   -- by going on with the only account, which is connected or was shown with what the client's metadata say
-  BySinglePrompt : event ≡ GoOn call → listed.accounts ≡ candidate.account ∷ []
-      → (candidate.connected ≡ true) ⊎ IsReady call provider config since → Agreed event call provider id listed candidate config since
+  BySinglePrompt : event ≡ GoOn choices.call → picks choices ≡ pick ∷ []
+      → (pick.candidate.connected ≡ true) ⊎ IsReady choices.call pick.provider config since → Agreed event id choices pick config since
   -- by going on with the account that was chosen, which was shown with what the client's metadata say
-  ByChosenPrompt : event ≡ GoOn call → (choice : FirstChoice call provider id listed since)
-      → IsReady call provider config choice.after → Agreed event call provider id listed candidate config since
+  ByChosenPrompt : event ≡ GoOn choices.call → (choice : FirstChoice pick.provider id choices since)
+      → IsReady choices.call pick.provider config choice.after → Agreed event id choices pick config since
 
--- The event makes the call ask the provider for a token of the account with this id: its reply of accounts offered the account, no token
--- was asked for, and the user agreed.
+-- The event makes the call ask the provider for a token of the account with this id: all providers of the call were settled and this
+-- account is among those that they offer, no token was asked for, and the user agreed.
 pub record UserCause (T : Trace) (event : Event) (call provider : ℕ) (id : List ℕ) : Type 0 where
-  pub accepted : Accepted T call provider
-  pub candidate : Candidate
-  pub is_listed : chosen id accepted.listed ≡ Some candidate
+  pub settled : Settled T call
+  pub pick : Pick
+  pub is_offered : chosen provider id (choices_of T call settled) ≡ Some pick
   pub first : assertions call T.rows ≡ []
-  pub agreed : Agreed event call provider id accepted.listed candidate (config_at T.rows call provider accepted.get) accepted.since
+  pub config : Config
+  pub is_configured : config_at T.rows call provider settled.last.get ≡ Some config
+  pub agreed : Agreed event id (choices_of T call settled) pick config settled.since
 
--- The event does so by itself: it is the reply of accounts that the call took, no token was asked for, and of these accounts the rules of
--- reselection name the one with this id, by the permissions and the flag that stood before.
+-- The event does so by itself: by its row the last of the call's providers is settled, no token was asked for, and of all that they
+-- offer the rules of reselection name the account with this id, by the permissions and the flag that stood before.
 pub record PermissionCause (T : Trace) (event : Event) (call provider : ℕ) (id : List ℕ) : Type 0 where
-  -- how the call began: it is a get, of this provider
-  pub begun : Begun
-  pub began : call_at T.rows call ≡ Some begun
-  pub get : GetOptions
-  pub is_get : begun.options ≡ ToGet get
-  pub options : ProviderOptions
-  pub has_provider : provider_at provider get ≡ Some options
-  -- the reply, and the accounts in it that the call's hints ask for
-  pub raw : List ℕ
-  pub is_reply : event ≡ Reply call provider kinds.Accounts raw
-  pub logged_in : Has (effects_of T event) (Login (origin_of options.config) LoggedIn)
-  pub accounts : List Account
-  pub reads : accounts_of raw options ≡ Ok accounts
+  -- whatever its line
+  pub line : ℕ
+  pub last : SettlesLast T.rows T.rows (row_of T line event) call
   pub first : assertions call T.rows ≡ []
   pub pick : Pick
-  pub names : reselection_on (grounds_at (world_at T) call begun.origin get.mediation provider options accounts) ≡ Some pick
+  pub names :
+      reselection_on (record {
+        call = call;
+        offers = (choices_after T last.begun last.get last.settlements).offers;
+        flag = has_flag (flags T) last.begun.origin;
+        mediation = last.get.mediation;
+      }) ≡ Some pick
+  pub is_provider : pick.provider ≡ provider
   pub is_account : pick.candidate.account.id ≡ id
 
 -- why a token is asked for: the user agreed, or a permission that is kept suffices
@@ -183,15 +249,21 @@ pub record Says (rows : List Row) (call provider : ℕ) (begun : Begun) (get : G
   pub auto_is : ask.auto ≡ auto
   pub disclosure_is : ask.disclosure ≡ disclosure
 
--- the request says why: the account was reselected exactly where a permission suffices, and something was disclosed exactly where the
--- user went on with an account that was not connected
+-- the request says why, with what the call said of the provider at this place
+pub record SaysOf (rows : List Row) (call provider : ℕ) (begun : Begun) (get : GetOptions) (id : List ℕ) (auto disclosure : Bool)
+    (ask : AssertionFields) : Type 0 where
+  pub options : ProviderOptions
+  pub has_provider : provider_at provider get ≡ Some options
+  pub says : Says rows call provider begun get options id auto disclosure ask
+
+-- the account was reselected exactly where a permission suffices, and something was disclosed exactly where the user went on with an
+-- account that was not connected
 abbrev pub SaysWhy : (T : Trace) (event : Event) (call provider : ℕ) (id : List ℕ) → AssertionCause T event call provider id
     → AssertionFields → Type 0
 SaysWhy T event call provider id (ByUser cause) ask =
-    Says T.rows call provider cause.accepted.begun cause.accepted.get cause.accepted.options id false
-    (is_going event && not cause.candidate.connected) ask
-SaysWhy T event call provider id (ByPermission cause) ask =
-    Says T.rows call provider cause.begun cause.get cause.options id true false ask
+    SaysOf T.rows call provider cause.settled.last.begun cause.settled.last.get id false
+    (is_going event && not cause.pick.candidate.connected) ask
+SaysWhy T event call provider id (ByPermission cause) ask = SaysOf T.rows call provider cause.last.begun cause.last.get id true false ask
 
 -- ---- to whom a token is given
 

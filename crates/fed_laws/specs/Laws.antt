@@ -2,13 +2,17 @@
 use Rattle.std.specs.Prelude.{◌≡◌, ℕ, Bool, true, false, ◌≤◌, List, ◌∷◌, ◌++◌, length, Some, Ok, Err}
 use Rattle.std.specs.List.{list_any}
 use Rattle.fed_origin.specs.declared.stage.ReplyKind.TheVariants as kinds
+use Rattle.fed_origin.specs.declared.stage.Stage.TheVariants.{Gathering}
 use Rattle.fed_origin.specs.declared.status.Triple.{Triple}
 use Rattle.fed_origin.specs.Origin.{origin_text}
 use Rattle.fed_token.specs.Read.{AssertionOf}
 use Rattle.fed_consent.specs.declared.table.ask.Ask.TheVariants as asks
 use Rattle.fed_consent.specs.declared.table.finish.Finish.TheVariants.{Token}
 use Rattle.fed_consent.specs.Consent.{AssertionFields}
+use Rattle.fed_call.specs.Facts.{Facts}
+use Rattle.fed_call.specs.Progress.{is_awaited}
 use Rattle.fed_trace.specs.Begun.{Begun, CallKind, GetCall}
+use Rattle.fed_trace.specs.Known.{facts_at}
 use Rattle.fed_trace.specs.OfCall.{Has, assertions, call_at, disturbs}
 use Rattle.fed_laws.specs.Cause.{AssertionCause, SaysWhy, Delivers, IsKept, IsTaken}
 use Rattle.fed_script.specs.declared.event.Event.TheVariants.{Reply}
@@ -41,6 +45,10 @@ OfScripts law = ((script : Script) → IsRead script → law (trace_of script)) 
 -- the trace as it was before a row
 abbrev pub at : Trace → List Row → Trace
 at T before = record { header = T.header; rows = before }
+
+-- a call that gathers what its providers say waits for one of them
+abbrev pub GatheringAwaits : Trace → Type 0
+GatheringAwaits T = (call : ℕ) (f : Facts) → facts_at T call ≡ Some f → f.stage ≡ Gathering → list_any is_awaited f.progress ≡ true
 
 -- no call asks for two tokens
 abbrev pub AsksOnce : Trace → Type 0

@@ -1,6 +1,13 @@
 //! Laws of every run of events, of every trace that a session stands for, and of the trace of every script.
 ghost use Rattle.fed_laws.specs.Laws.{OfRuns, OfSessions, OfScripts, AsksOnce, HasCause, ReachesItsPage, IsAnswered, IsAskedFor};
-ghost use Rattle.fed_laws.specs.Laws.{ComesByToken, GoesByDisconnect};
+ghost use Rattle.fed_laws.specs.Laws.{ComesByToken, GatheringAwaits, GoesByDisconnect};
+
+/// A call that gathers what its providers say waits for one of them: it never hangs with all of them settled.
+pub fn gathering_awaits()
+    ensures runs { OfRuns GatheringAwaits }
+    ensures sessions { OfSessions GatheringAwaits }
+    ensures scripts { OfScripts GatheringAwaits }
+{}
 
 /// No call asks for two tokens.
 pub fn asks_once()
@@ -10,8 +17,9 @@ pub fn asks_once()
 {}
 
 /// Where a call asks for a token, the user had agreed: by choosing an account that was connected, or by going on at the prompt of the one
-/// that was offered, or chosen; or the event is the reply of accounts, and a kept permission satisfies the rules of reselection. The
-/// request names that account and the call's own page, client, nonce and text, and says that the account was reselected exactly there.
+/// that was offered, or chosen; or by the event the last provider of the call is settled, and a kept permission satisfies the rules of
+/// reselection. The request names that account and the call's own page, client, nonce and text, and says that the account was reselected
+/// exactly there.
 pub fn assertion_has_cause()
     ensures runs { OfRuns HasCause }
     ensures sessions { OfSessions HasCause }

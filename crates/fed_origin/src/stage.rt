@@ -7,6 +7,8 @@ pub enum Stage {
     Reading,
     /// The accounts are awaited.
     Listing,
+    /// Of several providers some are not settled: their files or their accounts are awaited.
+    Gathering,
     /// The user is shown that the provider gave no account, though it had said that the user is logged in.
     Mismatch,
     /// The login window is open: the user is to sign in at the provider.

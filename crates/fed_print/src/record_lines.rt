@@ -55,12 +55,12 @@ fn push_window(
     Ok(())
 }
 
-/// Appends the line of a record; a request is printed. On want of memory a part of the line may stand there.
+/// Appends the line of a record; a request and a provider that dropped out, which is rare, are printed. On want of memory a part of the line may stand there.
 pub(crate) fn push_record(alloc: Global, text: &mut Vec<u8>, out: &Out) -> Result<(), NoRoom>
     ensures { OnOk result (text.new.items ≡ text.old.items ++ record_line out.now) }
 {
     match out {
-        Out::Request { .. } => print(alloc, out, text),
+        Out::Request { .. } | Out::Dropped { .. } => print(alloc, out, text),
         Out::Dialog { line, call, dialog } => {
             push_dialog(alloc, text, *line, *call, dialog.get())
         }

@@ -8,8 +8,9 @@ use crate::answers::print_answer;
 use crate::ascii::ascii_text;
 use crate::dialogs::print_dialog;
 use crate::printer::Printer;
+use crate::words::detail_text;
 use base64::engine::general_purpose::STANDARD;
-use fed_consent::Why;
+use fed_consent::{Failure, Why};
 use fed_io::NoRoom;
 use fed_origin::ReplyKind;
 use fed_trace::Out;
@@ -45,6 +46,26 @@ fn print_request(
     printer.text("out", "request")?;
     printer.count("provider", provider)?;
     print_bytes(alloc, printer, bytes)?;
+    printer.end()?;
+    Ok(())
+}
+
+fn print_dropped(
+    printer: &mut Printer,
+    line: u32,
+    call: u32,
+    provider: u32,
+    failure: Failure,
+) -> Result<(), NoRoom>
+    ensures { OnOk result (PrintsObject printer.old printer.new (spec.dropped_members line call provider failure)) }
+{
+    printer.begin()?;
+    printer.count("call", call)?;
+    printer.text_if("detail", detail_text(failure.detail))?;
+    printer.count("line", line)?;
+    printer.text("out", "dropped")?;
+    printer.count("provider", provider)?;
+    printer.text("step", failure.step.as_str())?;
     printer.end()?;
     Ok(())
 }
@@ -98,6 +119,12 @@ fn print_record(alloc: Global, printer: &mut Printer, out: &Out) -> Result<(), N
             *kind,
             bytes.as_slice(),
         ),
+        Out::Dropped {
+            line,
+            call,
+            provider,
+            failure,
+        } => print_dropped(printer, *line, *call, *provider, *failure),
         Out::Dialog { line, call, dialog } => print_dialog(printer, *line, *call, dialog.get()),
         Out::Window {
             line,

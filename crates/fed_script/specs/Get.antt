@@ -1,5 +1,6 @@
 -- What a line of the kind `get` is read as.
-use Rattle.std.specs.Prelude.{ℕ, List, [], ◌∷◌, Option, Some, None, option_and_then, Result, Ok}
+use Rattle.std.specs.Prelude.{ℕ, nat_le, ◌&&◌, List, [], ◌∷◌, map, length, Option, Some, None, option_map, option_and_then}
+use Rattle.std.specs.Prelude.{Result, Ok, if◌then◌else◌}
 use Rattle.std.specs.Option.{option_copied}
 use Rattle.serde_json.specs.Data.{Data, object, Items, no_items, item}
 use Rattle.serde_json.specs.Find.{as_str, as_array}
@@ -13,7 +14,7 @@ use Rattle.fed_script.specs.declared.event.Event.TheVariants.{Get}
 use Rattle.fed_script.specs.declared.get.GetMembers as get
 use Rattle.fed_script.specs.declared.get.ProviderMembers as provider
 use Rattle.fed_script.specs.declared.options.OptionMembers.{OptionMembers}
-use Rattle.fed_script.specs.Member.{◌>>=◌, required, optional, member_of, as_u32, url_of}
+use Rattle.fed_script.specs.Member.{◌>>=◌, each, required, optional, member_of, as_u32, url_of}
 use Rattle.fed_script.specs.Options.{option_members}
 
 -- the members of an entry of `providers`, its URL as text
@@ -30,7 +31,7 @@ pub record GetMembers : Type 0 where
   pub page : ℕ
   pub call : ℕ
   pub options : OptionMembers
-  pub provider : ProviderMembers
+  pub providers : List ProviderMembers
 
 -- what borrowed members of an entry point to
 abbrev pub provider_seen : provider.ProviderMembers → ProviderMembers
@@ -47,22 +48,30 @@ provider_seen p =
 -- what borrowed members of a get point to
 abbrev pub get_seen : get.GetMembers → GetMembers
 get_seen m =
-    record { page = m.page; call = m.call; options = m.options; provider = provider_seen m.provider }
-
--- the entry of a list of exactly one
-abbrev pub only_item : Items → Option Data
-only_item no_items = None
-only_item (item d no_items) = Some d
-only_item (item d (item e ds)) = None
+    record {
+      page = m.page;
+      call = m.call;
+      options = m.options;
+      providers = provider_seen m.provider ∷ map provider_seen m.further.now;
+    }
 
 -- a value that is an object
 abbrev pub as_entry : Data → Option Data
 as_entry (object members) = Some (object members)
 as_entry _ = None
 
--- the entry of a list of exactly one object
-abbrev pub as_provider : Data → Option Data
-as_provider d = option_and_then as_entry (option_and_then only_item (as_array d))
+-- the items of a list, where all are objects
+abbrev pub entries_of : Items → Option (List Data)
+entries_of no_items = Some []
+entries_of (item d ds) = option_and_then (λ entry. option_map (λ further. entry ∷ further) (entries_of ds)) (as_entry d)
+
+-- a list of one to ten
+abbrev pub one_to_ten : List Data → Option (List Data)
+one_to_ten entries = if nat_le 1 (length entries) && nat_le (length entries) 10 then Some entries else None
+
+-- the entries of a list of one to ten objects
+abbrev pub as_entries : Data → Option (List Data)
+as_entries d = option_and_then one_to_ten (option_and_then entries_of (as_array d))
 
 -- the members of an entry of `providers`, in their order
 abbrev pub provider_members : Data → Result ProviderMembers LineCause
@@ -82,15 +91,15 @@ provider_members d = do
     params = params;
   })
 
--- the members of a get, in their order
+-- the members of a get, in their order: those of its providers come last, one entry after another
 abbrev pub get_members : Data → Result GetMembers LineCause
 get_members d = do
   page ← required as_u32 names.Page d
   call ← required as_u32 names.Call d
   options ← option_members d
-  entry ← required as_provider names.Providers d
-  provider ← provider_members entry
-  Ok (record { page = page; call = call; options = options; provider = provider })
+  entries ← required as_entries names.Providers d
+  providers ← each provider_members entries
+  Ok (record { page = page; call = call; options = options; providers = providers })
 
 -- a provider's options, with its configuration URL
 abbrev pub provider_of : Parts → ProviderMembers → ProviderOptions
@@ -104,22 +113,28 @@ provider_of config members =
       params = members.params;
     }
 
--- the options of a call with one provider
-abbrev pub options_of : OptionMembers → ProviderOptions → GetOptions
-options_of members provider =
+-- a provider's options, with the URL that its members name
+abbrev pub provider_by : ProviderMembers → Result ProviderOptions LineCause
+provider_by members = do
+  config ← url_of members.config
+  Ok (provider_of config members)
+
+-- the options of a call with these providers
+abbrev pub options_of : OptionMembers → List ProviderOptions → GetOptions
+options_of members providers =
     record {
       mediation = members.mediation;
       mode = members.mode;
       activation = members.activation;
       context = members.context;
-      providers = provider ∷ [];
+      providers = providers;
     }
 
 -- the get with these members
 abbrev pub get_by : GetMembers → Result Event LineCause
 get_by members = do
-  config ← url_of members.provider.config
-  Ok (Get members.page members.call (options_of members.options (provider_of config members.provider)))
+  providers ← each provider_by members.providers
+  Ok (Get members.page members.call (options_of members.options providers))
 
 -- the get that a line names
 abbrev pub get_of : Data → Result Event LineCause

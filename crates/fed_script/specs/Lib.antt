@@ -12,6 +12,7 @@ pub mod Disconnect
 pub mod Load
 pub mod Options
 pub mod Get
+pub mod Entries
 pub mod Used
 pub mod Line
 pub mod Plain

@@ -1,5 +1,5 @@
 -- What a line holds, and what one of its members is read as.
-use Rattle.std.specs.Prelude.{⊤, ℕ, Bool, true, false, ◌^◌, nat_lt, List, Option, Some}
+use Rattle.std.specs.Prelude.{⊤, ℕ, Bool, true, false, ◌^◌, nat_lt, List, [], ◌∷◌, Option, Some}
 use Rattle.std.specs.Prelude.{None, option_and_then, Result, Ok, Err, if◌then◌else◌}
 use Rattle.serde_json.specs.Data.{Data, null}
 use Rattle.serde_json.specs.Find.{get, as_str, as_number, as_u64}
@@ -28,6 +28,14 @@ unless false cause = Ok tt
 abbrev pub or_cause : {A : Type 0} → LineCause → Option A → Result A LineCause
 or_cause cause None = Err cause
 or_cause cause (Some x) = Ok x
+
+-- what f makes of each, or the first cause for which it makes nothing
+abbrev pub each : {A B : Type 0} → (A → Result B LineCause) → List A → Result (List B) LineCause
+each f [] = Ok []
+each f (x ∷ xs) = do
+  first ← f x
+  further ← each f xs
+  Ok (first ∷ further)
 
 -- the JSON value of a line: what `serde_json` reads of a text in UTF-8
 abbrev pub json_of : List ℕ → Result Data LineCause

@@ -1,6 +1,6 @@
 -- For private clauses: lines as JSON writers give them, with no white space, the shortest escapes in the bytes of replies and none
 -- elsewhere, and their members in the order of the profile's table.
-use Rattle.std.specs.Prelude.{ℕ, nat_lt, ◌==◌, ◌||◌, not, Bool, true, false, cond, List, ◌++◌, codes, decimal, None, Result, Ok}
+use Rattle.std.specs.Prelude.{ℕ, nat_lt, ◌==◌, ◌||◌, not, Bool, true, false, cond, List, [], ◌∷◌, ◌++◌, codes, decimal, None, Result, Ok}
 use Rattle.fed_origin.specs.declared.options.Context.TheVariants.{SignIn}
 use Rattle.fed_origin.specs.declared.options.Mediation.TheVariants.{Optional}
 use Rattle.fed_origin.specs.declared.options.Mode.TheVariants.{Passive, Active}
@@ -62,7 +62,7 @@ plain_members page call config client active =
       page = page;
       call = call;
       options = record { mediation = Optional; mode = cond active Active Passive; activation = active; context = SignIn };
-      provider =
+      providers =
           record {
             config = config;
             client = client;
@@ -70,7 +70,7 @@ plain_members page call config client active =
             login_hint = None;
             domain_hint = None;
             params = None;
-          };
+          } ∷ [];
     }
 
 -- the event that such a line names

@@ -1,7 +1,6 @@
 -- What a line says under the names that lines have, for private clauses.
-use Rattle.std.specs.Prelude.{◌≡◌, ℕ, List, [], ◌∷◌, codes, Option, Some, None, option_map, option_and_then, bytes_eq}
+use Rattle.std.specs.Prelude.{◌≡◌, ℕ, List, [], ◌∷◌, Option, Some, None, bytes_eq}
 use Rattle.std.specs.Prelude.{Result, Ok, Err, ⊤, slice_index_or, if◌then◌else◌}
-use Rattle.std.specs.Result.{result_map_both}
 use Rattle.serde_json.specs.Data.{Data, object, Members, no_members, member}
 use Rattle.serde_json.specs.Find.{get}
 use Rattle.fed_io.specs.declared.error.Fault.{Fault}
@@ -9,18 +8,18 @@ use Rattle.fed_io.specs.declared.error.Fault.TheVariants.{Step, NoRoom}
 use Rattle.fed_json.specs.declared.reading.Begun.{Begun}
 use Rattle.fed_json.specs.declared.reading.Begun.TheVariants.{Null}
 use Rattle.fed_json.specs.Begun.{begun_data}
+use Rattle.fed_json.specs.declared.reading.Invalid.{Invalid}
 use Rattle.fed_json.specs.Values.{IsBegun}
 use Rattle.fed_script.specs.declared.cause.LineCause.{LineCause}
-use Rattle.fed_script.specs.declared.cause.LineCause.TheVariants.{Member}
 use Rattle.fed_script.specs.declared.cause.MemberName.{MemberName}
 use Rattle.fed_script.specs.declared.cause.MemberName.TheVariants as names
 use Rattle.fed_script.specs.declared.event.Event.{Event}
-use Rattle.fed_script.specs.declared.get.ProviderMembers as provider
 use Rattle.fed_script.specs.declared.said.Said.{Said}
 use Rattle.fed_script.specs.declared.saying.SaidLine.{SaidLine}
 use Rattle.fed_script.specs.Cause.{name_text}
-use Rattle.fed_script.specs.Get.{ProviderMembers, GetMembers, provider_seen, as_provider, provider_members, get_by}
-use Rattle.fed_script.specs.Member.{◌>>=◌, or_cause, json_of, required, as_u32}
+use Rattle.fed_script.specs.Entries.{all_said, entries_seen, providers_named}
+use Rattle.fed_script.specs.Get.{ProviderMembers, GetMembers, get_by}
+use Rattle.fed_script.specs.Member.{◌>>=◌, json_of, required, as_u32}
 use Rattle.fed_script.specs.Options.{option_members}
 
 -- the names, those first that most lines have
@@ -96,31 +95,21 @@ MayBegin first (Some d) = IsBegun first d
 abbrev pub Says : Said → Data → Type 0
 Says s d = (name : MemberName) → MayBegin (under name s) (get (name_text name) d)
 
--- what borrowed members of a provider point to
-abbrev pub provider_shown : Option (Result provider.ProviderMembers LineCause) → Option (Result ProviderMembers LineCause)
-provider_shown found = option_map (result_map_both provider_seen (λ e. e)) found
-
--- the members of the only provider that a value names
-abbrev pub provider_of : Data → Option (Result ProviderMembers LineCause)
-provider_of d = option_map provider_members (as_provider d)
-
--- a value names this provider alone, if there is one
-abbrev pub SaysProvider : Option (Result provider.ProviderMembers LineCause) → Data → Type 0
-SaysProvider found d = provider_shown found ≡ provider_of d
-
--- the provider that members name, after one of this name that is d
-abbrev pub provider_after : List ℕ → Data → Option (Result ProviderMembers LineCause) → Option (Result ProviderMembers LineCause)
-provider_after name d before = if bytes_eq name (codes "providers") then provider_of d else before
-
 -- nothing is said
 pub record SaysNothing (line : SaidLine) : Type 0 where
   pub members : IsEmpty line.members
-  pub provider : line.provider ≡ None
+  pub providers : all_said (entries_seen line.providers) ≡ providers_named None
 
 -- a line says this
 pub record SaysLine (line : SaidLine) (d : Data) : Type 0 where
   pub members : Says line.members d
-  pub provider : provider_shown line.provider ≡ option_and_then provider_of (get (name_text names.Providers) d)
+  pub providers : all_said (entries_seen line.providers) ≡ providers_named (get (name_text names.Providers) d)
+
+-- this was read of a text of this data, unless there was no memory
+abbrev pub SaysWhole : SaidLine → Option Data → Result ⊤ (Fault Invalid) → Type 0
+SaysWhole said found (Ok done) = (d : Data) × (found ≡ Some d) × SaysLine said d
+SaysWhole said found (Err (Step invalid)) = found ≡ None
+SaysWhole said found (Err NoRoom) = ⊤
 
 -- this was read of a line, unless there was no memory
 abbrev pub Reads : List ℕ → Result ⊤ (Fault LineCause) → SaidLine → Type 0
@@ -128,15 +117,15 @@ Reads line (Ok done) said = (d : Data) × (json_of line ≡ Ok d) × SaysLine sa
 Reads line (Err (Step cause)) said = json_of line ≡ Err cause
 Reads line (Err NoRoom) said = ⊤
 
--- the members of a get whose provider has these
-abbrev pub get_members_by : Data → Option (Result ProviderMembers LineCause) → Result GetMembers LineCause
+-- the members of a get whose providers have these
+abbrev pub get_members_by : Data → Result (List ProviderMembers) LineCause → Result GetMembers LineCause
 get_members_by d found = do
   page ← required as_u32 names.Page d
   call ← required as_u32 names.Call d
   options ← option_members d
-  provider ← or_cause (Member names.Providers) found >>= λ members. members
-  Ok (record { page = page; call = call; options = options; provider = provider })
+  providers ← found
+  Ok (record { page = page; call = call; options = options; providers = providers })
 
 -- the get that a line names whose members say this
-abbrev pub get_said : Data → Option (Result ProviderMembers LineCause) → Result Event LineCause
+abbrev pub get_said : Data → Result (List ProviderMembers) LineCause → Result Event LineCause
 get_said d found = get_members_by d found >>= get_by

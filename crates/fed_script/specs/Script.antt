@@ -8,7 +8,7 @@ use Rattle.fed_script.specs.declared.event.Header.{Header}
 use Rattle.fed_script.specs.declared.event.Numbered.{Numbered}
 use Rattle.fed_script.specs.declared.cause.BadLine.{BadLine}
 use Rattle.fed_script.specs.Line.{header_of, event_of}
-use Rattle.fed_script.specs.Used.{UsedState, unused, used_after, IsUnused, HasOneProvider, HasKnownStatus}
+use Rattle.fed_script.specs.Used.{UsedState, unused, used_after, IsUnused, HasProviders, HasKnownStatus}
 
 -- the lines of bytes, each up to its LF; a rest that is not empty is a line too
 abbrev pub lines_of : List ℕ → List (List ℕ)
@@ -106,7 +106,7 @@ or_bad_line (Err stop) = Err (bad_line stop)
 pub record MayFollow (used : UsedState) (event : Event) : Type 0 where
   pub few : used.events < 1000000
   pub once : IsUnused used event
-  pub provider : HasOneProvider event
+  pub provider : HasProviders event
   pub status : HasKnownStatus event
 
 -- each event may follow those before it
@@ -114,6 +114,7 @@ abbrev pub AreRead : UsedState → List Numbered → Type 0
 AreRead used [] = ⊤
 AreRead used (n ∷ ns) = MayFollow used n.event × AreRead (used_after n.event used) ns
 
--- A readable script has at most 1,000,000 events, no two gets of one number, one provider for each get, and no unknown status.
+-- A readable script has at most 1,000,000 events, no two gets of one number, one to ten providers for each get,
+-- and no unknown status.
 abbrev pub IsRead : Script → Type 0
 IsRead script = AreRead (unused script.header.now) script.events

@@ -1,5 +1,5 @@
 -- What the events before a line leave for it.
-use Rattle.std.specs.Prelude.{◌≡◌, ◌≢◌, ℕ, ◌+◌, Bool, true, false, nat_eq, nat_lt, List, [], ◌∷◌, ◌++◌, length, ⊤}
+use Rattle.std.specs.Prelude.{◌≡◌, ◌≢◌, ◌≤◌, ℕ, ◌+◌, Bool, true, false, nat_eq, nat_lt, List, [], ◌∷◌, ◌++◌, length, ⊤}
 use Rattle.std.specs.List.{list_any}
 use Rattle.fed_origin.specs.declared.status.LoginStatus.{LoginStatus}
 use Rattle.fed_origin.specs.declared.status.LoginStatus.TheVariants.{Unknown}
@@ -42,10 +42,10 @@ is_back used _ = false
 abbrev pub IsUnused : UsedState → Event → Type 0
 IsUnused used event = is_used used event ≡ false
 
--- a get has exactly one provider
-abbrev pub HasOneProvider : Event → Type 0
-HasOneProvider (events.Get page call options) = length options.providers ≡ 1
-HasOneProvider _ = ⊤
+-- a get has one to ten providers
+abbrev pub HasProviders : Event → Type 0
+HasProviders (events.Get page call options) = (1 ≤ length options.providers) × (length options.providers ≤ 10)
+HasProviders _ = ⊤
 
 -- a status that was said
 abbrev pub IsKnown : LoginStatus → Type 0

@@ -1,8 +1,9 @@
 //! Lines of the kind `get`.
-ghost use Rattle.std.specs.Prelude.{◌≡◌, IfOk};
+ghost use Rattle.std.specs.Prelude.{◌≡◌, map, IfOk};
 ghost use Rattle.std.specs.Result.{result_map_both};
-ghost use Rattle.fed_script.specs.Said.{shown, provider_shown, get_members_by, get_said};
-ghost use Rattle.fed_io.specs.Fault.{Answers};
+ghost use Rattle.fed_script.specs.Entries.{all_said, entries_seen, all_after};
+ghost use Rattle.fed_script.specs.Said.{shown, get_members_by, get_said};
+ghost use Rattle.fed_io.specs.Fault.{Answers, AnswersBy};
 ghost use Rattle.fed_script.specs.Get as spec;
 
 use crate::cause::{LineCause, MemberName};
@@ -27,13 +28,14 @@ pub(crate) struct ProviderMembers<'a> {
     pub params: Option<&'a str>,
 }
 
-/// The members of a get.
+/// The members of a get, with those of its first provider and of the others.
 #[derive(Clone, Copy, Drop)]
 pub(crate) struct GetMembers<'a> {
     pub page: u32,
     pub call: u32,
     pub options: OptionMembers,
     pub provider: ProviderMembers<'a>,
+    pub further: &'a [ProviderMembers<'a>],
 }
 
 /// The members of an entry.
@@ -50,23 +52,23 @@ pub(crate) fn provider_members<'a>(d: &Said<'a>) -> Result<ProviderMembers<'a>, 
     })
 }
 
-fn get_members<'a>(line: &SaidLine<'a>) -> Result<GetMembers<'a>, LineCause>
+fn get_members<'a>(line: &'a SaidLine<'_>) -> Result<GetMembers<'a>, LineCause>
     ensures { result_map_both spec.get_seen (λ e. e) result
-        ≡ get_members_by (shown line.now.members) (provider_shown line.now.provider) }
+        ≡ get_members_by (shown line.now.members) (all_said (entries_seen line.now.providers)) }
 {
     let page = number(&line.members, MemberName::Page)?;
     let call = number(&line.members, MemberName::Call)?;
     let options = option_members(&line.members)?;
-    let Some(provider) = line.provider else {
-        return Err(LineCause::Member(MemberName::Providers));
-    };
-    let provider = provider?;
-    Ok(GetMembers {
-        page,
-        call,
-        options,
-        provider,
-    })
+    match line.providers.members() {
+        Ok((provider, further)) => Ok(GetMembers {
+            page,
+            call,
+            options,
+            provider,
+            further,
+        }),
+        Err(cause) => Err(cause),
+    }
 }
 
 // The options of a provider.
@@ -87,21 +89,44 @@ fn provider_of(
     })
 }
 
-// The options of a call with one provider.
-fn options_of(
+// The options of a provider, with the URL that its members name.
+fn provider_by(
     alloc: Global,
-    members: OptionMembers,
-    provider: ProviderOptions,
-) -> Result<GetOptions, NoRoom>
-    ensures { IfOk result (λ options. options ≡ spec.options_of members provider) }
+    kept: &mut KeptConfigs,
+    members: &ProviderMembers<'_>,
+) -> Result<ProviderOptions, Fault<LineCause>>
+    ensures { Answers result (spec.provider_by (spec.provider_seen members.now)) }
 {
-    Ok(GetOptions {
+    let config = kept.read(alloc, members.config)?;
+    Ok(provider_of(alloc, config, members)?)
+}
+
+// The providers, and after them those that have these members.
+fn with_further(
+    alloc: Global,
+    kept: &mut KeptConfigs,
+    mut providers: Vec<ProviderOptions>,
+    further: &[ProviderMembers<'_>],
+) -> Result<Vec<ProviderOptions>, Fault<LineCause>>
+    ensures { AnswersBy (λ v. v.items) result (all_after providers.items (map spec.provider_seen further.now)) }
+{
+    for members in further {
+        providers.push(provider_by(alloc, kept, members)?)?;
+    }
+    Ok(providers)
+}
+
+// The options of a call with these providers.
+fn options_of(members: OptionMembers, providers: Vec<ProviderOptions>) -> GetOptions
+    ensures { result ≡ spec.options_of members providers.items }
+{
+    GetOptions {
         mediation: members.mediation,
         mode: members.mode,
         activation: members.activation,
         context: members.context,
-        providers: Items::from_vec(Vec::from_array(alloc, [provider])?),
-    })
+        providers: Items::from_vec(providers),
+    }
 }
 
 /// The get that a line names; `kept` are configuration URLs of lines before it.
@@ -110,7 +135,7 @@ pub(crate) fn get(
     kept: &mut KeptConfigs,
     line: &SaidLine<'_>,
 ) -> Result<Event, Fault<LineCause>>
-    ensures { Answers result (get_said (shown line.now.members) (provider_shown line.now.provider)) }
+    ensures { Answers result (get_said (shown line.now.members) (all_said (entries_seen line.now.providers))) }
 {
     match get_members(line) {
         Err(cause) => Err(Fault::Step(cause)),
@@ -126,11 +151,12 @@ pub(crate) fn get_by(
 ) -> Result<Event, Fault<LineCause>>
     ensures { Answers result (spec.get_by (spec.get_seen members.now)) }
 {
-    let config = kept.read(alloc, members.provider.config)?;
-    let provider = provider_of(alloc, config, &members.provider)?;
+    let first = provider_by(alloc, kept, &members.provider)?;
+    let first = Vec::from_array(alloc, [first])?;
+    let providers = with_further(alloc, kept, first, members.further)?;
     Ok(Event::Get {
         page: members.page,
         call: members.call,
-        options: options_of(alloc, members.options, provider)?,
+        options: options_of(members.options, providers),
     })
 }

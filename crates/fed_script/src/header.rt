@@ -77,7 +77,7 @@ fn header_said(
 ) -> Result<Header, Fault<LineCause>>
     ensures { Answers result (header_of line.now) }
 {
-    let mut said = SaidLine::nothing();
+    let mut said = SaidLine::nothing(alloc);
     read_said(scratch, line, &mut said)?;
     header_named(alloc, &said.members)
 }

@@ -4,7 +4,7 @@ ghost use Rattle.fed_script.specs.Said.{shown};
 ghost use Rattle.fed_io.specs.Fault.{Answers};
 ghost use Rattle.fed_script.specs.Line as spec;
 ghost use Rattle.fed_script.specs.Line.{event_of};
-ghost use Rattle.fed_script.specs.Used.{used_after, IsUnused, HasOneProvider, HasKnownStatus};
+ghost use Rattle.fed_script.specs.Used.{used_after, IsUnused, HasProviders, HasKnownStatus};
 ghost use Rattle.std.specs.Result.{result_map_both};
 
 use crate::cause::{LineCause, MemberName};
@@ -213,7 +213,7 @@ fn event_of_members(
 ) -> Result<Event, Fault<LineCause>>
     ensures { Answers result (spec.event_named line.now) }
 {
-    let mut said = SaidLine::nothing();
+    let mut said = SaidLine::nothing(alloc);
     read_said(scratch, line, &mut said)?;
     match kind_of(&said.members) {
         Ok("get") => get(alloc, kept, &said),
@@ -250,7 +250,7 @@ pub fn read_event(alloc: Global, line: &[u8], used: &mut Used) -> Result<Event, 
     ensures err { OnErr result (used.new ≡ used.old) }
     ensures few { OnOk result (used.old.events < 1000000) }
     ensures once { IfOk result (IsUnused used.old) }
-    ensures provider { IfOk result HasOneProvider }
+    ensures provider { IfOk result HasProviders }
     ensures status { IfOk result HasKnownStatus }
 {
     let event = used.event_named(alloc, line)?;

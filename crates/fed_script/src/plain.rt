@@ -267,6 +267,7 @@ fn members<'a>(
             domain_hint: None,
             params: None,
         },
+        further: &[],
     }
 }
 

@@ -1,34 +1,36 @@
 //! What a line says, read from left to right.
 ghost use Rattle.std.specs.Prelude.{◌≡◌, Some, None, MatchResult};
-ghost use Rattle.serde_json.specs.Data.{Data, no_members, object, array};
-ghost use Rattle.fed_json.specs.Values.{value_in, items_in, members_in, begun_in, whole_in, Took, IsBegun};
-ghost use Rattle.fed_script.specs.Said.{IsEmpty, Says, SaysNothing, SaysLine, SaysProvider, Reads, provider_shown, provider_after};
+ghost use Rattle.serde_json.specs.Data.{no_members, object};
+ghost use Rattle.fed_json.specs.Values.{value_in, items_in, members_in, begun_in, whole_in, Took, Takes, IsBegun};
+ghost use Rattle.fed_script.specs.Entries.{with_entry, with_entries, all_said, entries_seen};
+ghost use Rattle.fed_script.specs.Entries.{providers_in, providers_after};
+ghost use Rattle.fed_script.specs.Get.{as_entry};
+ghost use Rattle.fed_script.specs.Said.{IsEmpty, Says, SaysNothing, SaysLine, SaysWhole, Reads};
 
 use crate::cause::LineCause;
-use crate::get::{ProviderMembers, provider_members};
+use crate::get::provider_members;
+use crate::providers::SaidProviders;
 use crate::said::Said;
 use fed_io::{Fault, NoRoom};
 use fed_json::{Begun, Invalid, LEVELS, Values};
 use json::Scratch;
-
-/// The members of the only provider that a line names, if it names one alone, by the list `providers`.
-pub(crate) type OneProvider<'a> = Option<Result<ProviderMembers<'a>, LineCause>>;
+use std::alloc::Global;
 
 /// What a line says.
-#[derive(Clone, Copy)]
+#[derive(Drop)]
 pub(crate) struct SaidLine<'a> {
     pub(crate) members: Said<'a>,
-    pub(crate) provider: OneProvider<'a>,
+    pub(crate) providers: SaidProviders<'a>,
 }
 
 impl<'a> SaidLine<'a> {
     /// Nothing is said. What a line says is filled in where it lies, since it is large.
-    pub(crate) fn nothing() -> SaidLine<'a>
+    pub(crate) fn nothing(alloc: Global) -> SaidLine<'a>
         ensures { SaysNothing result }
     {
         SaidLine {
             members: Said::nothing(),
-            provider: None,
+            providers: SaidProviders::none(alloc),
         }
     }
 }
@@ -51,62 +53,73 @@ fn read_members<'a>(
     Ok(())
 }
 
-// The provider that is the only item that is left of a list, where that is an object.
-fn read_only<'a>(values: &mut Values<'a>, depth: usize) -> Result<OneProvider<'a>, Invalid>
-    ensures { MatchResult result
-        (λ found. Took (λ ds. SaysProvider found (array ds)) (items_in depth values.old) values.new)
-        (λ _. items_in depth values.old ≡ None) }
+// Reads what an entry says.
+fn read_entry<'a>(
+    values: &mut Values<'a>,
+    depth: usize,
+    providers: &mut SaidProviders<'a>,
+) -> Result<(), Fault<Invalid>>
+    ensures { Takes (λ _ d. entries_seen providers.new ≡ with_entry (as_entry d) (entries_seen providers.old))
+        (value_in depth values.old) result values.new }
 {
-    if values.ends() {
-        return Ok(None);
-    }
     let first = values.begin(depth)?;
     let Begun::Object(inner) = first else {
         values.finish(&first)?;
-        values.skip_items(depth)?;
-        return Ok(None);
+        providers.refuse();
+        return Ok(());
     };
     let mut said = Said::nothing();
     read_members(values, inner, &mut said)?;
-    if values.ends() {
-        return Ok(Some(provider_members(&said)));
-    }
-    values.skip_items(depth)?;
-    Ok(None)
+    providers.add(provider_members(&said))?;
+    Ok(())
 }
 
-// The provider that a value that began so names.
-fn read_provider<'a>(values: &mut Values<'a>, first: &Begun<'a>) -> Result<OneProvider<'a>, Invalid>
-    ensures { MatchResult result
-        (λ found. Took (λ d. IsBegun first.now d × SaysProvider found d) (begun_in first.now values.old) values.new)
-        (λ _. begun_in first.now values.old ≡ None) }
+// Reads what the entries say that are left of a list.
+fn read_entries<'a>(
+    values: &mut Values<'a>,
+    depth: usize,
+    providers: &mut SaidProviders<'a>,
+) -> Result<(), Fault<Invalid>>
+    ensures { Takes (λ _ ds. entries_seen providers.new ≡ with_entries ds (entries_seen providers.old))
+        (items_in depth values.old) result values.new }
 {
+    while !values.ends() {
+        read_entry(values, depth, providers)?;
+    }
+    Ok(())
+}
+
+// Reads the providers that a value that began so names.
+fn read_providers<'a>(
+    values: &mut Values<'a>,
+    first: &Begun<'a>,
+    providers: &mut SaidProviders<'a>,
+) -> Result<(), Fault<Invalid>>
+    ensures { Takes (λ _ d. IsBegun first.now d × (all_said (entries_seen providers.new) ≡ providers_in d))
+        (begun_in first.now values.old) result values.new }
+{
+    providers.clear();
     match first {
-        Begun::Array(depth) => read_only(values, *depth),
-        _ => {
-            values.finish(first)?;
-            Ok(None)
-        }
+        Begun::Array(depth) => read_entries(values, *depth, providers),
+        _ => Ok(values.finish(first)?),
     }
 }
 
-// Reads what is left of the value of a member of that name, and the provider that the member names.
+// Reads what is left of the value of a member of that name, and the providers that the member names.
 fn read_value<'a>(
     values: &mut Values<'a>,
     first: &Begun<'a>,
     name: &str,
-    provider: &mut OneProvider<'a>,
-) -> Result<(), Invalid>
-    ensures { MatchResult result
-        (λ _. Took (λ d. IsBegun first.now d × (provider_shown provider.new ≡ provider_after name.now d (provider_shown provider.old)))
-        (begun_in first.now values.old) values.new)
-        (λ _. begun_in first.now values.old ≡ None) }
+    providers: &mut SaidProviders<'a>,
+) -> Result<(), Fault<Invalid>>
+    ensures { Takes (λ _ d. IsBegun first.now d
+        × (all_said (entries_seen providers.new) ≡ providers_after name.now d (all_said (entries_seen providers.old))))
+        (begun_in first.now values.old) result values.new }
 {
     if name == "providers" {
-        *provider = read_provider(values, first)?;
-        Ok(())
+        read_providers(values, first, providers)
     } else {
-        values.finish(first)
+        Ok(values.finish(first)?)
     }
 }
 
@@ -115,46 +128,40 @@ fn read_line<'a>(
     values: &mut Values<'a>,
     depth: usize,
     said: &mut SaidLine<'a>,
-) -> Result<(), Invalid>
+) -> Result<(), Fault<Invalid>>
     requires { SaysNothing said.old }
-    ensures { MatchResult result
-        (λ _. Took (λ ms. SaysLine said.new (object ms)) (members_in depth no_members values.old) values.new)
-        (λ _. members_in depth no_members values.old ≡ None) }
+    ensures { Takes (λ _ ms. SaysLine said.new (object ms)) (members_in depth no_members values.old) result values.new }
 {
     while let Some(name) = values.next_name()? {
         let first = values.begin(depth)?;
-        read_value(values, &first, name, &mut said.provider)?;
+        read_value(values, &first, name, &mut said.providers)?;
         said.members.note(name, first);
     }
     Ok(())
 }
 
 // Reads what the value says that a line begins with.
-fn read_first<'a>(values: &mut Values<'a>, said: &mut SaidLine<'a>) -> Result<(), Invalid>
+fn read_first<'a>(values: &mut Values<'a>, said: &mut SaidLine<'a>) -> Result<(), Fault<Invalid>>
     requires { SaysNothing said.old }
-    ensures { MatchResult result
-        (λ _. Took (SaysLine said.new) (value_in 127 values.old) values.new)
-        (λ _. value_in 127 values.old ≡ None) }
+    ensures { Takes (λ _ d. SaysLine said.new d) (value_in 127 values.old) result values.new }
 {
     let first = values.begin(LEVELS)?;
     match first {
         Begun::Object(depth) => read_line(values, depth, said),
-        _ => values.finish(&first),
+        _ => Ok(values.finish(&first)?),
     }
 }
 
 // Reads what the whole text says.
-fn read_whole<'a>(values: &mut Values<'a>, said: &mut SaidLine<'a>) -> Result<(), Invalid>
+fn read_whole<'a>(values: &mut Values<'a>, said: &mut SaidLine<'a>) -> Result<(), Fault<Invalid>>
     requires { SaysNothing said.old }
-    ensures { MatchResult result
-        (λ _. (d : Data) × (whole_in values.old ≡ Some d) × SaysLine said.new d)
-        (λ _. whole_in values.old ≡ None) }
+    ensures { SaysWhole said.new (whole_in values.old) result }
 {
     read_first(values, said)?;
     if values.is_done() {
         Ok(())
     } else {
-        Err(Invalid)
+        Err(Fault::Step(Invalid))
     }
 }
 
@@ -170,7 +177,8 @@ pub(crate) fn read_said<'a>(
     match Values::of(scratch, line) {
         Ok(Some(mut values)) => match read_whole(&mut values, said) {
             Ok(()) => Ok(()),
-            Err(Invalid) => Err(Fault::Step(LineCause::NotJson)),
+            Err(Fault::Step(Invalid)) => Err(Fault::Step(LineCause::NotJson)),
+            Err(Fault::NoRoom) => Err(Fault::NoRoom),
         },
         Ok(None) => Err(Fault::Step(LineCause::NotJson)),
         Err(NoRoom) => Err(Fault::NoRoom),

@@ -32,7 +32,7 @@ use Rattle.fed_script.specs.declared.event.Have.TheVariants as haves
 use Rattle.fed_script.specs.Used.{IsKnown}
 use Rattle.fed_trace.specs.declared.out.Out.{Out}
 use Rattle.fed_session.specs.declared.sight.Sight.{Sight}
-use Rattle.fed_trace.specs.Effect.{Sent, Shown, Window, Result, Ignored}
+use Rattle.fed_trace.specs.Effect.{Sent, Dropped, Shown, Window, Result, Ignored}
 use Rattle.fed_trace.specs.Records.{record_of, records_of}
 use Rattle.fed_session.specs.Cookies.{CookieParts}
 use Rattle.fed_session.specs.Session.{State}
@@ -114,6 +114,7 @@ sight_after effects sight =
 abbrev pub call_record : ℕ → (Ask → List ℕ) → ℕ → ℕ → CallEffect → Option Out
 call_record line cookies call page (does.Send provider ask) = record_of line (Sent GetCall call provider ask (cookies ask))
 call_record line cookies call page (does.Dialog dialog) = record_of line (Shown call dialog)
+call_record line cookies call page (does.Dropped provider failure) = record_of line (Dropped call provider failure)
 call_record line cookies call page (does.Window provider url) = record_of line (Window call provider url)
 call_record line cookies call page (does.Finish finish) = record_of line (Result call page finish)
 call_record line cookies call page (does.Ignored why) = record_of line (Ignored why)
@@ -125,7 +126,7 @@ call_records line cookies call page effects = filter_map (call_record line cooki
 
 -- what is kept of a call that is taken, by whether its page has a pending get
 abbrev pub begun_as : World → Bool → Begun → Option Known
-begun_as world busy b = started b (first_row world busy b.origin b.options)
+begun_as world busy b = started world b (first_row world busy b.origin b.options)
 
 -- what is kept of a call of a page that stands, by whether it is trustworthy; none where it is not taken
 abbrev pub standing_kept : World → Bool → Bool → Begun → Option (Option Known)

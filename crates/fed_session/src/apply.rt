@@ -83,6 +83,12 @@ fn answer(
         Effect::Send(provider, ask) => {
             outs.push(request(alloc, line, sight, call, provider, &ask)?)
         }
+        Effect::Dropped(provider, failure) => outs.push(Out::Dropped {
+            line,
+            call,
+            provider,
+            failure,
+        }),
         Effect::Dialog(dialog) => outs.push(Out::Dialog { line, call, dialog }),
         Effect::Finish(finish) => outs.push(Out::Answer {
             line,

@@ -7,7 +7,7 @@ ghost use Rattle.fed_trace.specs.Begun.{is_get};
 ghost use Rattle.fed_trace.specs.Call.{Known, OfGet, OfDisconnect, kind_of, page_of};
 ghost use Rattle.fed_session.specs.StepParts.{known_of, awaited_in, stage_in, outcome_at, kept_next};
 
-use fed_call::{CallState, Ended};
+use fed_call::CallState;
 use fed_consent::{Effect, Input};
 use fed_disconnect::DState;
 use fed_io::{Items, NoRoom};
@@ -72,10 +72,11 @@ impl Pending {
         }
     }
 
-    /// The configuration URL of a call whose well-known file and configuration are awaited; none of another call. It takes no memory.
-    pub(crate) fn reads(&self) -> Option<&WebUrl> {
+    /// The configuration URL of the provider at this place whose well-known file or configuration the call awaits; none of another. It takes
+    /// no memory.
+    pub(crate) fn reads(&self, place: u32) -> Option<&WebUrl> {
         match self {
-            Pending::Get(state) => state.reads(),
+            Pending::Get(state) => state.reads(place),
             Pending::Disconnect(state) => state.reads(),
         }
     }
@@ -159,6 +160,6 @@ impl Kept {
     pub(crate) fn over() -> Kept
         ensures { result ≡ None }
     {
-        Kept::of_get(CallState::Ended(Ended))
+        Kept::of_get(CallState::ended())
     }
 }

@@ -1,8 +1,9 @@
 //! Calls of `navigator.credentials.get`.
 ghost use Rattle.std.specs.Prelude.{◌≡◌, ◌≤◌, ◌+◌, length, nat_eq, is_some, false, Some, IfOk, IfSome, OnOk};
-ghost use Rattle.std.specs.List.{list_any};
+ghost use Rattle.std.specs.List.{AllZip, list_any};
 ghost use Rattle.std.specs.Map.{lookup};
 ghost use Rattle.fed_call.specs.Facts.{provider_at, stage_of, started};
+ghost use Rattle.fed_call.specs.Opening.{Knows};
 ghost use Rattle.fed_call.specs.Row.{start_row};
 ghost use Rattle.fed_call.specs.State.{facts_of};
 ghost use Rattle.fed_consent.specs.Outcomes.{fails, only_place};
@@ -21,7 +22,8 @@ use crate::tabs::Tabs;
 use fed_call::CallState;
 use fed_consent::{Effect, FailStep, Failure, Finish, ONLY_PLACE, Why};
 use fed_io::{Items, NoRoom, Steps};
-use fed_origin::{GetOptions, Scheme, SharedOrigin, WebUrl};
+use fed_origin::{GetOptions, ProviderOptions, Scheme, SharedOrigin, WebUrl};
+use fed_provider::ProviderStep;
 use fed_trace::Out;
 use std::alloc::Global;
 use std::sync::ledger::Ledger;
@@ -37,7 +39,8 @@ pub(crate) fn get<L: Ledger>(
     options: &GetOptions,
     steps: &mut Steps<L>,
 ) -> Result<Items<Out>, NoRoom>
-    requires one { length options.now.providers ≡ 1 }
+    requires some { 1 ≤ length options.now.providers }
+    requires few { length options.now.providers ≤ 10 }
     requires fresh { list_any (nat_eq call) tabs.old.taken ≡ false }
     ensures outs { IfOk result (λ outs. outs ≡ records_of line (begin_effects (world_in sight.old) (cookies_of sight.old)
         (lookup (nat_eq page) tabs.old.pages) (is_some (lookup (nat_eq page) tabs.old.gets)) page call (ToGet options.now))) }
@@ -76,7 +79,8 @@ fn begin(
     origin: &SharedOrigin,
     options: &GetOptions,
 ) -> Result<(Kept, Items<Effect>), NoRoom>
-    requires { length options.now.providers ≡ 1 }
+    requires some { 1 ≤ length options.now.providers }
+    requires few { length options.now.providers ≤ 10 }
     ensures effects { IfOk result (λ r. r.1 ≡ (first_row (world_in sight.old) busy origin.now (ToGet options.now)).effects) }
     ensures kept { IfOk result (λ r. r.0 ≡ begun_as (world_in sight.old) busy (record
         { call = call; page = page; origin = origin.now; options = ToGet options.now })) }
@@ -104,8 +108,32 @@ fn config_of(options: &GetOptions) -> &WebUrl
     &options.providers.as_slice()[ONLY_PLACE as usize].config
 }
 
-// A call that begins, whose page has no pending get. The well-known URL is looked for among those that are known.
+// A call that begins, whose page has no pending get.
 fn start(
+    alloc: Global,
+    sight: &mut Sight,
+    page: u32,
+    call: u32,
+    origin: SharedOrigin,
+    options: GetOptions,
+) -> Result<(CallState, Items<Effect>), NoRoom>
+    requires some { 1 ≤ length options.providers }
+    requires few { length options.providers ≤ 10 }
+    ensures effects { IfOk result (λ r. r.1 ≡ (start_row (world_in sight.old) origin options).effects) }
+    ensures state { IfOk result (λ r. facts_of r.0
+        ≡ started (world_in sight.old) call page origin options (start_row (world_in sight.old) origin options)) }
+    ensures stage { IfOk result (λ r. Some (stage_of (facts_of r.0)) ≡ (start_row (world_in sight.old) origin options).stage) }
+    ensures sight { sight.new ≡ sight.old }
+{
+    if options.providers.len() == 1 {
+        start_only(alloc, sight, page, call, origin, options)
+    } else {
+        start_several(alloc, sight, page, call, origin, options)
+    }
+}
+
+// The same with one provider. Its well-known URL is looked for among those that are known.
+fn start_only(
     alloc: Global,
     sight: &mut Sight,
     page: u32,
@@ -116,7 +144,7 @@ fn start(
     requires { length options.providers ≡ 1 }
     ensures effects { IfOk result (λ r. r.1 ≡ (start_row (world_in sight.old) origin options).effects) }
     ensures state { IfOk result (λ r. facts_of r.0
-        ≡ started call page origin options (start_row (world_in sight.old) origin options)) }
+        ≡ started (world_in sight.old) call page origin options (start_row (world_in sight.old) origin options)) }
     ensures stage { IfOk result (λ r. Some (stage_of (facts_of r.0)) ≡ (start_row (world_in sight.old) origin options).stage) }
     ensures sight { sight.new ≡ sight.old }
 {
@@ -127,6 +155,59 @@ fn start(
     }
     let wellknown = sight.cookies.wellknown(alloc, config)?;
     CallState::start_with(alloc, call, page, origin, options, wellknown, &sight.lent())
+}
+
+// The same with several providers.
+fn start_several(
+    alloc: Global,
+    sight: &mut Sight,
+    page: u32,
+    call: u32,
+    origin: SharedOrigin,
+    options: GetOptions,
+) -> Result<(CallState, Items<Effect>), NoRoom>
+    requires several { 2 ≤ length options.providers }
+    requires few { length options.providers ≤ 10 }
+    ensures effects { IfOk result (λ r. r.1 ≡ (start_row (world_in sight.old) origin options).effects) }
+    ensures state { IfOk result (λ r. facts_of r.0
+        ≡ started (world_in sight.old) call page origin options (start_row (world_in sight.old) origin options)) }
+    ensures stage { IfOk result (λ r. Some (stage_of (facts_of r.0)) ≡ (start_row (world_in sight.old) origin options).stage) }
+    ensures sight { sight.new ≡ sight.old }
+{
+    let wellknown = wellknowns(alloc, sight, options.providers.as_slice())?;
+    CallState::start_several(alloc, call, page, origin, options, wellknown, &sight.lent())
+}
+
+// The well-known URL of each provider, in their order.
+fn wellknowns(
+    alloc: Global,
+    sight: &mut Sight,
+    providers: &[ProviderOptions],
+) -> Result<Items<Result<WebUrl, ProviderStep>>, NoRoom>
+    ensures known { IfOk result (λ all. AllZip (Knows (world_in sight.old).rules) providers.now all) }
+    ensures sight { sight.new ≡ sight.old }
+{
+    let mut all = Items::from_vec(Vec::with_capacity(alloc, providers.len())?);
+    for provider in providers {
+        let wellknown = wellknown(alloc, sight, provider)?;
+        all.push(wellknown)?;
+    }
+    Ok(all)
+}
+
+// The well-known URL of a provider, where its configuration URL is https; it is looked for among those that are known.
+fn wellknown(
+    alloc: Global,
+    sight: &mut Sight,
+    provider: &ProviderOptions,
+) -> Result<Result<WebUrl, ProviderStep>, NoRoom>
+    ensures known { IfOk result (λ url. Knows (world_in sight.old).rules provider.now url) }
+    ensures sight { sight.new ≡ sight.old }
+{
+    if provider.config.scheme() == Scheme::Http {
+        return Ok(Err(ProviderStep::NoSite));
+    }
+    sight.cookies.wellknown(alloc, &provider.config)
 }
 
 // The page has a pending get.

@@ -58,11 +58,17 @@ pub(crate) fn take_input<L: Ledger>(
 fn learn(alloc: Global, sight: &mut Sight, state: &Pending, input: &Input) -> Result<(), NoRoom>
     ensures { sight.new ≡ sight.old }
 {
-    match (state.reads(), input) {
-        (Some(config), Input::Reply { kind, raw, .. }) => {
-            sight.cookies.learn(alloc, config, *kind, raw.as_slice())
-        }
-        _ => Ok(()),
+    let Input::Reply {
+        provider,
+        kind,
+        raw,
+    } = input
+    else {
+        return Ok(());
+    };
+    match state.reads(*provider) {
+        Some(config) => sight.cookies.learn(alloc, config, *kind, raw.as_slice()),
+        None => Ok(()),
     }
 }
 

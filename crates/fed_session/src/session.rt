@@ -3,7 +3,7 @@ ghost use Rattle.std.specs.Prelude.{◌≡◌, ◌<◌, ◌≤◌, ◌+◌, ◌*
 ghost use Rattle.std.specs.List.{list_any};
 ghost use Rattle.std.specs.Map.{lookup};
 ghost use Rattle.fed_script.specs.declared.event.Event.TheVariants as events;
-ghost use Rattle.fed_script.specs.Used.{HasOneProvider, HasKnownStatus, SaysKnown};
+ghost use Rattle.fed_script.specs.Used.{HasProviders, HasKnownStatus, SaysKnown};
 ghost use Rattle.fed_trace.specs.Known.{input_of};
 ghost use Rattle.fed_trace.specs.Records.{records};
 ghost use Rattle.fed_trace.specs.Row.{row_of, with_event};
@@ -108,7 +108,7 @@ impl Session {
     ) -> Result<Items<Out>, NoRoom>
         requires few { self.old.steps < 1000000 }
         requires fresh { IsFresh self.old event.now }
-        requires providers { HasOneProvider event.now }
+        requires providers { HasProviders event.now }
         requires status { HasKnownStatus event.now }
         ensures row { (T : Trace) → Stands self.old T
             → IfOk result (λ outs. (outs ≡ records (row_of T line event.now)) × Stands self.new (with_event T line event.now)) }
@@ -136,7 +136,7 @@ impl Session {
         steps: &mut Steps<L>,
     ) -> Result<Items<Out>, NoRoom>
         requires fresh { IsFresh self.old event.now }
-        requires providers { HasOneProvider event.now }
+        requires providers { HasProviders event.now }
         requires status { HasKnownStatus event.now }
         requires off { self.old.alive ≡ false }
         requires few { self.old.steps < 1000000 }
@@ -245,7 +245,8 @@ impl Session {
         steps: &mut Steps<L>,
     ) -> Result<Items<Out>, NoRoom>
         requires fresh { list_any (nat_eq call) self.old.tabs.taken ≡ false }
-        requires one { length options.now.providers ≡ 1 }
+        requires some { 1 ≤ length options.now.providers }
+        requires few { length options.now.providers ≤ 10 }
         requires off { self.old.alive ≡ false }
         ensures stored { OnOk result (self.new.entered ≡ self.old.entered) }
         ensures row { (T : Trace) → Stands (revived self.old) T

@@ -124,6 +124,7 @@ impl Sight {
             }
             Effect::ClearFlag(origin) => self.flags.clear(origin),
             Effect::Send(_, _)
+            | Effect::Dropped(_, _)
             | Effect::Dialog(_)
             | Effect::Window(_, _)
             | Effect::Finish(_)

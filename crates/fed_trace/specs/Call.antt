@@ -46,13 +46,13 @@ at_stage stage (OfDisconnect facts) = option_map OfDisconnect (disconnect.at_sta
 
 -- ---- at its beginning
 
--- what is known of a call of which no input was taken
-abbrev pub fresh : ℕ → ℕ → Origin → CallOptions → Known
-fresh call page origin (ToGet options) = OfGet (get.fresh call page origin options)
-fresh call page origin (ToDisconnect options) = OfDisconnect (disconnect.fresh call page origin options)
+-- what is known of a call of which no input was taken, among what all calls look at as it begins
+abbrev pub fresh : World → ℕ → ℕ → Origin → CallOptions → Known
+fresh world call page origin (ToGet options) = OfGet (get.fresh world call page origin options)
+fresh world call page origin (ToDisconnect options) = OfDisconnect (disconnect.fresh call page origin options)
 
-abbrev pub known_first : Begun → Known
-known_first b = fresh b.call b.page b.origin b.options
+abbrev pub known_first : World → Begun → Known
+known_first world b = fresh world b.call b.page b.origin b.options
 
 -- the outcome of a get of a page of this origin that is taken: a page has at most one that is pending (row C1)
 abbrev pub get_outcome : World → Bool → Origin → GetOptions → Outcome
@@ -65,8 +65,8 @@ first_row world busy origin (ToGet options) = get_outcome world busy origin opti
 first_row world busy origin (ToDisconnect options) = disconnect_rows.disconnect_start_row world origin options
 
 -- the call after its first row
-abbrev pub started : Begun → Outcome → Option Known
-started b outcome = at_stage (unwrap_or outcome.stage Reading) (known_first b)
+abbrev pub started : World → Begun → Outcome → Option Known
+started world b outcome = at_stage (unwrap_or outcome.stage Reading) (known_first world b)
 
 -- ---- at an input
 

@@ -11,6 +11,7 @@ use Rattle.fed_origin.specs.declared.status.Triple.{Triple}
 use Rattle.fed_jar.specs.Cookie.{StoredCookie}
 use Rattle.fed_consent.specs.declared.table.ask.Ask.{Ask}
 use Rattle.fed_consent.specs.declared.table.dialog.Dialog.{Dialog}
+use Rattle.fed_consent.specs.declared.table.failure.Failure.{Failure}
 use Rattle.fed_consent.specs.declared.table.finish.Finish.{Finish}
 use Rattle.fed_consent.specs.declared.table.why.Why.{Why}
 use Rattle.fed_trace.specs.Begun.{Begun, CallKind, kind_asked, of_get}
@@ -33,6 +34,8 @@ pub data Effect : Type 0 where
   Move : (kind : CallKind) → (call : ℕ) → (stage : Stage) → Effect
   -- a request of the call, of this kind, to a provider, with the text of its cookies
   Sent : (kind : CallKind) → (call : ℕ) → (provider : ℕ) → (ask : Ask) → (cookies : List ℕ) → Effect
+  -- the provider at this place of the call drops out
+  Dropped : (call : ℕ) → (provider : ℕ) → (failure : Failure) → Effect
   -- a dialog of the call is shown
   Shown : (call : ℕ) → (dialog : Dialog) → Effect
   -- the login window of a provider of the call opens at this URL

@@ -51,8 +51,9 @@ with_said world ignored (Some input) known = with_input world ignored input know
 abbrev pub known_in : Header → List Row → ℕ → Option Known
 known_in header [] call = None
 known_in header (row ∷ rows) call =
-    option_or (option_map known_first (last_of (begins call) row.effects))
-    (option_map (with_said (world_at (record { header = header; rows = rows })) (list_any is_ignored row.effects) (input_to call row.event))
+    let world = world_at (record { header = header; rows = rows }) in
+    option_or (option_map (known_first world) (last_of (begins call) row.effects))
+    (option_map (with_said world (list_any is_ignored row.effects) (input_to call row.event))
     (known_in header rows call))
 
 abbrev pub known_by : Option Stage → Option Known → Option Known

@@ -7,7 +7,7 @@ use Rattle.fed_script.specs.declared.event.Event.{Event}
 use Rattle.fed_script.specs.declared.event.Event.TheVariants.{Load, ClosePage}
 use Rattle.fed_consent.specs.declared.table.ask.Ask.TheVariants as asks
 use Rattle.fed_trace.specs.Begun.{Begun}
-use Rattle.fed_trace.specs.Effect.{Effect, Sent, Result, begins}
+use Rattle.fed_trace.specs.Effect.{Effect, Sent, Dropped, Result, begins}
 use Rattle.fed_trace.specs.Trace.{Row, all_said, last_in}
 
 -- the effect is among the effects
@@ -29,6 +29,11 @@ assertions call rows = all_said (asked call) rows
 abbrev pub given : ℕ → Effect → Option (ℕ × Finish)
 given call (Result c page finish) = if nat_eq call c then Some (page, finish) else None
 given call _ = None
+
+-- the place of the provider of the call that drops out by an effect, if one does
+abbrev pub dropped : ℕ → Effect → Option ℕ
+dropped call (Dropped c place failure) = if nat_eq call c then Some place else None
+dropped call _ = None
 
 -- the effect is a result of the call
 abbrev pub is_result : ℕ → Effect → Bool

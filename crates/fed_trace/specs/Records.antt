@@ -5,12 +5,13 @@ use Rattle.fed_consent.specs.Ask.{kind_of}
 use Rattle.fed_request.specs.Request.{request_bytes}
 use Rattle.fed_trace.specs.declared.out.Out.{Out}
 use Rattle.fed_trace.specs.declared.out.Out.TheVariants as outs
-use Rattle.fed_trace.specs.Effect.{Effect, Sent, Shown, Window, Result, Ignored}
+use Rattle.fed_trace.specs.Effect.{Effect, Sent, Dropped, Shown, Window, Result, Ignored}
 use Rattle.fed_trace.specs.Trace.{Row}
 
 -- the record of an effect in a row of this line, if the effect is written
 abbrev pub record_of : ℕ → Effect → Option Out
 record_of line (Sent kind call provider ask cookies) = Some (outs.Request line call provider (kind_of ask) (request_bytes ask cookies))
+record_of line (Dropped call provider failure) = Some (outs.Dropped line call provider failure)
 record_of line (Shown call dialog) = Some (outs.Dialog line call dialog)
 record_of line (Window call provider url) = Some (outs.Window line call provider url)
 record_of line (Result call page finish) = Some (outs.Answer line call page finish)

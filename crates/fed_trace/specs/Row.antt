@@ -1,5 +1,5 @@
 -- What each event does, by what is looked up: the tables, row by row.
-use Rattle.std.specs.Prelude.{◌≡◌, ℕ, Bool, true, false, nat_eq, ◌==◌, List, [], ◌∷◌, ◌++◌, length, map, codes}
+use Rattle.std.specs.Prelude.{◌≡◌, ◌≤◌, ℕ, Bool, true, false, nat_eq, ◌==◌, List, [], ◌∷◌, ◌++◌, length, map, codes}
 use Rattle.std.specs.Prelude.{Option, Some, None}
 use Rattle.std.specs.Prelude.{option_and_then, Result as Answer, Ok, Err, ⊤}
 use Rattle.std.specs.List.{list_any, filter_map, flat_map}
@@ -39,7 +39,8 @@ use Rattle.fed_script.specs.declared.event.Event.TheVariants.{At, Load, ClosePag
 use Rattle.fed_script.specs.declared.event.Have.{Have}
 use Rattle.fed_script.specs.declared.event.Have.TheVariants as haves
 use Rattle.fed_script.specs.declared.event.Header.{Header}
-use Rattle.fed_trace.specs.Effect.{Effect, Time, Page, Closed, Cookie, Login, Begin, Move, Sent, Shown, Window, Kept, Flag, Result, Ignored}
+use Rattle.fed_trace.specs.Effect.{Effect, Time, Page, Closed, Cookie, Login, Begin, Move, Sent, Dropped, Shown, Window, Kept, Flag}
+use Rattle.fed_trace.specs.Effect.{Result, Ignored}
 use Rattle.fed_trace.specs.Known.{world_at, is_begun, input_of, known_at}
 use Rattle.fed_trace.specs.Trace.{Row, Trace, page_at, gets, pending_of, now_at, writes, begun}
 use Rattle.fed_trace.specs.Windows.{windows_of}
@@ -57,6 +58,7 @@ cookies_with T _ = []
 -- permissions, each of them goes, in their order
 abbrev pub call_effects : World → (Ask → List ℕ) → CallKind → ℕ → ℕ → CallEffect → List Effect
 call_effects world cookies kind call page (does.Send provider ask) = Sent kind call provider ask (cookies ask) ∷ []
+call_effects world cookies kind call page (does.Dropped provider failure) = Dropped call provider failure ∷ []
 call_effects world cookies kind call page (does.Dialog dialog) = Shown call dialog ∷ []
 call_effects world cookies kind call page (does.Window provider url) = Window call provider url ∷ []
 call_effects world cookies kind call page (does.SetLogin origin status) = Login origin status ∷ []
@@ -238,9 +240,9 @@ row_of T line event = record { line = line; event = event; effects = effects_of 
 abbrev pub with_event : Trace → ℕ → Event → Trace
 with_event T line event = record { header = T.header; rows = row_of T line event ∷ T.rows }
 
--- the call of a get or of a disconnect never began before, and a get has one provider
+-- the call of a get or of a disconnect never began before, and a get has a provider
 abbrev pub IsNew : List Row → Event → Type 0
-IsNew rows (Get page call options) = (list_any (nat_eq call) (begun rows) ≡ false) × (length options.providers ≡ 1)
+IsNew rows (Get page call options) = (list_any (nat_eq call) (begun rows) ≡ false) × (1 ≤ length options.providers)
 IsNew rows (Disconnect page call config client hint) = list_any (nat_eq call) (begun rows) ≡ false
 IsNew rows _ = ⊤
 

@@ -19,12 +19,12 @@ pages_loaded T = keys_of (standing nat_eq loaded_change T.rows)
 abbrev pub open_windows : Trace → List ℕ
 open_windows T = keys_of (standing nat_eq window_change T.rows)
 
--- the origin of the provider that a get asked
+-- the origin of the provider that a get asked, of several the first
 abbrev pub provider_asked : CallOptions → Option Origin
 provider_asked (ToGet options) = origin_at only_place options
 provider_asked (ToDisconnect options) = None
 
--- the origin of the provider of a get, where it began
+-- the same of a get, where it began
 abbrev pub provider_of : List Row → ℕ → Option Origin
 provider_of rows call = option_and_then (λ begun. provider_asked begun.options) (call_at rows call)
 

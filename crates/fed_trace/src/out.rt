@@ -1,6 +1,6 @@
 //! Records of a step.
 
-use fed_consent::{Dialog, Finish, Why};
+use fed_consent::{Dialog, Failure, Finish, Why};
 use fed_io::{Bytes, Placed};
 use fed_origin::{ReplyKind, WebUrl};
 
@@ -14,6 +14,13 @@ pub enum Out {
         provider: u32,
         kind: ReplyKind,
         bytes: Bytes,
+    },
+    /// The provider at this place in the call's list dropped out.
+    Dropped {
+        line: u32,
+        call: u32,
+        provider: u32,
+        failure: Failure,
     },
     /// A dialog of a call is shown.
     Dialog {

@@ -9,7 +9,7 @@ use Rattle.fed_script.specs.declared.event.Event.{Event}
 use Rattle.fed_script.specs.declared.event.Event.TheVariants as events
 use Rattle.fed_script.specs.declared.event.Have.TheVariants as haves
 use Rattle.fed_script.specs.declared.event.Header.{Header}
-use Rattle.fed_script.specs.Used.{HasOneProvider}
+use Rattle.fed_script.specs.Used.{HasProviders}
 use Rattle.fed_trace.specs.Row.{with_event}
 use Rattle.fed_trace.specs.Trace.{Trace}
 use Rattle.fed_trace.specs.OfScript.{start}
@@ -33,7 +33,7 @@ pub data Alike (p : Providers) : Event → Event → Type 0 where
   Prevents : (page : ℕ) → Alike p (events.Prevent page) (events.Prevent page)
   Statuses : (page : ℕ) → (status : LoginStatus) → Alike p (events.SetStatus page status) (events.SetStatus page status)
   Gets : (page call : ℕ) → (options options' : GetOptions) → SameOptions p options options'
-      → HasOneProvider (events.Get page call options)
+      → HasProviders (events.Get page call options)
       → Alike p (events.Get page call options) (events.Get page call options')
   Disconnects : (page call : ℕ) → (config : Parts) → (client client' hint : List ℕ)
       → Alike p (events.Disconnect page call config client hint) (events.Disconnect page call config client' hint)

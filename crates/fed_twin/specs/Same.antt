@@ -1,5 +1,5 @@
 -- What is the same of a call, and of all that happened, in two worlds that providers cannot tell apart.
-use Rattle.std.specs.Prelude.{◌≡◌, ℕ, Bool, true, false, List, length, Option, Some, None, is_some, IfSome, ⊤, ◌⊎◌}
+use Rattle.std.specs.Prelude.{◌≡◌, ℕ, Bool, true, false, List, Option, Some, None, IfSome, ⊤}
 use Rattle.std.specs.List.{AllByRecursion, AllZip}
 use Rattle.fed_origin.specs.declared.options.GetOptions.{GetOptions}
 use Rattle.fed_origin.specs.declared.options.ProviderOptions.{ProviderOptions}
@@ -8,7 +8,10 @@ use Rattle.fed_origin.specs.declared.stage.Stage.{Stage}
 use Rattle.fed_origin.specs.declared.stage.Stage.TheVariants as stages
 use Rattle.fed_origin.specs.WebUrl.{host_of}
 use Rattle.fed_status.specs.Flags.{has_flag}
-use Rattle.fed_consent.specs.Consent.{Listed}
+use Rattle.fed_provider.specs.declared.config.Config.{Config}
+use Rattle.fed_call.specs.declared.progress.Progress.{Progress}
+use Rattle.fed_call.specs.declared.progress.Progress.TheVariants as progress_is
+use Rattle.fed_call.specs.Accounts.{Offered}
 use Rattle.fed_call.specs.Facts.{Facts}
 use Rattle.fed_trace.specs.Known.{facts_at}
 use Rattle.fed_trace.specs.Trace.{Trace, flags}
@@ -36,15 +39,29 @@ pub record SameOptions (p : Providers) (a b : GetOptions) : Type 0 where
   pub activation : a.activation ≡ b.activation
   pub providers : AllZip (SameProvider p) a.providers b.providers
 
--- the same accounts are offered; which of them are connected is not said
-pub record SameListed (a b : Listed) : Type 0 where
-  pub accounts : a.accounts ≡ b.accounts
-  pub connected : length a.connected ≡ length b.connected
+-- the same account of the same provider is offered; whether it is connected is not said
+pub record SameOffered (p : Providers) (a b : Offered) : Type 0 where
+  pub place : a.place ≡ b.place
+  pub options : SameProvider p a.options b.options
+  pub config : a.config ≡ b.config
+  pub account : a.candidate.account ≡ b.candidate.account
+
+-- a configuration has its accounts at the party of a provider
+abbrev pub IsOwn : Providers → Config → Type 0
+IsOwn p config = is_provider p (host_of config.accounts) ≡ true
+
+-- so has the one that a provider of a call has come to
+abbrev pub HasOwn : Providers → Progress → Type 0
+HasOwn p (progress_is.Reading replies) = IfSome replies.config (IsOwn p)
+HasOwn p (progress_is.Listing config) = IsOwn p config
+HasOwn p (progress_is.Listed config accounts) = ⊤
+HasOwn p (progress_is.Dropped failure) = ⊤
 
 -- a call goes on, and asked for no token
 abbrev pub is_open : Stage → Bool
 is_open stages.Reading = true
 is_open stages.Listing = true
+is_open stages.Gathering = true
 is_open stages.Mismatch = true
 is_open stages.Window = true
 is_open stages.Choosing = true
@@ -55,16 +72,13 @@ is_open stages.Ended = false
 -- What the replies and the user said is the same. Which accounts are connected, which one is shown and whether a prompt waits is not said.
 pub record SameData (p : Providers) (f f' : Facts) : Type 0 where
   pub options : SameOptions p f.options f'.options
-  pub heard : f.heard ≡ f'.heard
-  pub config : f.config ≡ f'.config
-  pub known : IfSome f.config (λ config. is_provider p (host_of config.accounts) ≡ true)
-  pub listed : IfBoth SameListed f.listed f'.listed
+  pub progress : f.progress ≡ f'.progress
+  pub known : AllByRecursion (HasOwn p) f.progress
+  pub offered : AllZip (SameOffered p) f.offered f'.offered
 
 pub record SameFacts (p : Providers) (f f' : Facts) : Type 0 where
   pub stage : f.stage ≡ f'.stage
   pub goes_on : is_open f.stage ≡ true
-  -- past Reading its configuration is known
-  pub past : (f.stage ≡ stages.Reading) ⊎ (is_some f.config ≡ true)
   pub said : SameData p f f'
 
 -- The call is the same in both worlds: it is over or never began in both, or goes on in the same way. Events without a call use three facts

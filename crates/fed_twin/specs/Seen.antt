@@ -52,6 +52,7 @@ seen p (does.Login origin status) = if is_provider p origin.host then Some (Logi
 seen p (does.Begin begun) = of_get (kind_asked begun.options) (Some (Begin begun.call begun.page))
 seen p (does.Move kind call stage) = of_get kind (Some (Move call stage))
 seen p (does.Sent kind call provider ask cookies) = of_get kind (seen_sent call provider ask cookies)
+seen p (does.Dropped call provider failure) = None
 seen p (does.Shown call dialog) = None
 seen p (does.Window call provider url) = None
 seen p (does.Kept triple stays) = None

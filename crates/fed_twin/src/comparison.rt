@@ -1,7 +1,7 @@
 //! How far two twin scripts are compared.
 ghost use Rattle.std.specs.Prelude.{◌≡◌, ◌<◌, filter, length, IfOk};
 ghost use Rattle.std.specs.List.{list_any};
-ghost use Rattle.fed_script.specs.Used.{HasOneProvider, HasKnownStatus};
+ghost use Rattle.fed_script.specs.Used.{HasProviders, HasKnownStatus};
 ghost use Rattle.fed_trace.specs.OfScript.{start};
 ghost use Rattle.fed_trace.specs.Row.{row_of, with_event};
 ghost use Rattle.fed_session.specs.Session.{Stands, IsFresh};
@@ -101,7 +101,7 @@ fn take_event<L: Ledger>(
 ) -> Result<Option<u64>, NoRoom>
     requires few { session.old.steps < 1000000 }
     requires fresh { IsFresh session.old n.now.event }
-    requires providers { HasOneProvider n.now.event }
+    requires providers { HasProviders n.now.event }
     requires status { HasKnownStatus n.now.event }
     ensures { (T : Trace) → Stands session.old T
         → IfOk result (λ found. (found ≡ quiet_requests (row_of T n.now.line n.now.event))

@@ -22,6 +22,8 @@ mod program;
 mod ran;
 mod read;
 mod run;
+#[cfg(test)]
+mod several_tests;
 mod status;
 mod stop;
 mod stream;

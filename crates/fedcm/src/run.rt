@@ -4,7 +4,7 @@ ghost use Rattle.std.specs.Result.{IsErrOf};
 ghost use Rattle.std.specs.Io.KnownBytes.{Appends};
 ghost use Rattle.fed_io.specs.Io.{Rose, AppendsFront};
 ghost use Rattle.fed_script.specs.Reader.{LineMayFollow, header_in, used_by};
-ghost use Rattle.fed_script.specs.Used.{UsedState, unused, HasOneProvider, HasKnownStatus};
+ghost use Rattle.fed_script.specs.Used.{UsedState, unused, HasProviders, HasKnownStatus};
 ghost use Rattle.fed_session.specs.Session.{Stands, IsFresh};
 ghost use Rattle.fed_trace.specs.OfScript.{start};
 ghost use Rattle.fed_trace.specs.Row.{with_event};
@@ -44,7 +44,7 @@ fn take_event<K: Sink, L: Ledger>(
 ) -> Result<(), Stop>
     requires few { session.old.steps < 1000000 }
     requires fresh { IsFresh session.old event.now }
-    requires providers { HasOneProvider event.now }
+    requires providers { HasProviders event.now }
     requires status { HasKnownStatus event.now }
     ensures ok { OnOk result ((T : Trace) → Stands session.old T → Stands session.new (with_event T number event.now)
         × Appends (K.taken sink.old) (K.taken sink.new) (event_text T number event.now)) }

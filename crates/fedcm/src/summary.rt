@@ -4,7 +4,7 @@ ghost use Rattle.std.specs.Io.KnownBytes.{Appends, Keeps};
 ghost use Rattle.fed_io.specs.Io.{Rose, AppendsFront};
 ghost use Rattle.std.specs.List.{filter, fold};
 ghost use Rattle.fed_print.specs.Lines.{line_of, text_of};
-ghost use Rattle.fed_script.specs.Used.{HasOneProvider, HasKnownStatus};
+ghost use Rattle.fed_script.specs.Used.{HasProviders, HasKnownStatus};
 ghost use Rattle.fed_session.specs.Session.{Stands, IsFresh};
 ghost use Rattle.fed_trace.specs.declared.out.Out.{Out};
 ghost use Rattle.fed_trace.specs.OfScript.{start, trace_of};
@@ -156,7 +156,7 @@ fn take_event<L: Ledger>(
 ) -> Result<Tally, NoRoom>
     requires few { session.old.steps < 1000000 }
     requires fresh { IsFresh session.old numbered.now.event }
-    requires providers { HasOneProvider numbered.now.event }
+    requires providers { HasProviders numbered.now.event }
     requires status { HasKnownStatus numbered.now.event }
     ensures { IfOk result (λ new. (T : Trace) → Stands session.old T → tally ≡ spec.tally_of (records_in T.rows)
         → Stands session.new (with_event T numbered.now.line numbered.now.event)

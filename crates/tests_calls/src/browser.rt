@@ -77,6 +77,13 @@ impl Browser {
         Ok(browser)
     }
 
+    // The same where the account `u1` of the provider with this configuration URL may sign in at the page.
+    pub fn permitted(self, alloc: Global, config: &str) -> Result<Browser, NoRoom> {
+        let mut browser = self;
+        browser.kept.add(permission(alloc, PAGE, config)?)?;
+        Ok(browser)
+    }
+
     pub fn lent(&self) -> Shared<'_> {
         Shared {
             rules: &self.rules,
@@ -100,10 +107,15 @@ pub fn with_status(alloc: Global, of: &str, status: LoginStatus) -> Result<Brows
 // What calls look at where the account `u1` of the provider may sign in at pages of this URL's origin.
 pub fn with_permission(alloc: Global, page: &str) -> Result<Browser, NoRoom> {
     let mut browser = Browser::new(alloc);
-    browser.kept.add(Triple {
-        page: origin_of(alloc, page)?,
-        provider: origin_of(alloc, CONFIG)?,
-        account: Text::of(alloc, "u1")?,
-    })?;
+    browser.kept.add(permission(alloc, page, CONFIG)?)?;
     Ok(browser)
+}
+
+// That of the account `u1`.
+fn permission(alloc: Global, page: &str, config: &str) -> Result<Triple, NoRoom> {
+    Ok(Triple {
+        page: origin_of(alloc, page)?,
+        provider: origin_of(alloc, config)?,
+        account: Text::of(alloc, "u1")?,
+    })
 }

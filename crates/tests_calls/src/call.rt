@@ -38,7 +38,7 @@ wellknown config | accounts | listing";
 
 const NOT_TAKEN: &str = "wellknown wellknown | not-waited | reading
 config config | not-waited | reading
-other | not-waited | reading
+wellknown@1 | not-waited | reading
 accounts | not-waited | reading
 cancel | not-offered | reading
 signin | not-offered | reading

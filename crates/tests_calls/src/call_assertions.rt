@@ -7,7 +7,7 @@ const CHOSEN: &str = "wellknown linked both u1 | asserts u1 | asserting
 wellknown linked both u2 | metadata | prompting
 wellknown config both u2 | prompt | prompting
 wellknown config both u3 | no-account | choosing
-wellknown config both elsewhere | no-account | choosing
+wellknown config both u1@1 | no-account | choosing
 wellknown config ann u1 | not-offered | prompting";
 
 // The user chooses an account that is not connected, and goes on once the links are shown.

@@ -1,5 +1,7 @@
-//! Inputs of the calls in tests, each named by a word.
-use crate::replies::{DENIED, FILE, LOST, MEMBERS, OK, SHARED, reply};
+//! Inputs of the calls in tests, each named by a word. A word with `@1` is of the provider at place 1, and one with no place of that at
+//! place 0.
+use crate::replies::{DENIED, FILE, LOST, MEMBERS, OK, SHARED, TWO_FILE, reply};
+use crate::values::place_of;
 use fed_consent::Input;
 use fed_io::{Items, NoRoom, Text};
 use fed_origin::ReplyKind;
@@ -27,10 +29,14 @@ fn choice(alloc: Global, provider: u32, id: &str) -> Result<Input, NoRoom> {
     Ok(Input::Choose { provider, account })
 }
 
+// The well-known file of the provider at this place.
+fn file_of(place: u32) -> &'static str {
+    if place == 1 { TWO_FILE } else { FILE }
+}
+
 // The kind, the head and the body of the reply that a word names; any other word is the body of a good well-known reply.
 fn named(word: &str) -> (ReplyKind, &'static str, &str) {
     match word {
-        "wellknown" => (ReplyKind::WellKnown, OK, FILE),
         "lost" => (ReplyKind::WellKnown, LOST, ""),
         "config" => (ReplyKind::Config, OK, MEMBERS),
         "linked" => (ReplyKind::Config, OK, LINKED),
@@ -56,18 +62,30 @@ fn accounts(word: &str) -> Option<(&'static str, &'static str)> {
     }
 }
 
-fn reply_named(alloc: Global, word: &str) -> Result<Input, NoRoom> {
+fn reply_named(alloc: Global, place: u32, word: &str) -> Result<Input, NoRoom> {
+    if word == "wellknown" {
+        return reply(alloc, place, ReplyKind::WellKnown, OK, file_of(place));
+    }
     match accounts(word) {
-        Some((head, body)) => reply(alloc, 0, ReplyKind::Accounts, head, body),
+        Some((head, body)) => reply(alloc, place, ReplyKind::Accounts, head, body),
         None => {
             let (kind, head, body) = named(word);
-            reply(alloc, 0, kind, head, body)
+            reply(alloc, place, kind, head, body)
         }
+    }
+}
+
+// A word, and the place of the provider that it is of.
+fn placed(word: &str) -> (&str, u32) {
+    match word.split_once('@') {
+        Some((word, place)) => (word, place_of(place)),
+        None => (word, 0),
     }
 }
 
 // The input that a word of a test names.
 fn input(alloc: Global, word: &str) -> Result<Input, NoRoom> {
+    let (word, place) = placed(word);
     match word {
         "go" => Ok(Input::GoOn),
         "cancel" => Ok(Input::Cancel),
@@ -75,10 +93,8 @@ fn input(alloc: Global, word: &str) -> Result<Input, NoRoom> {
         "shut" => Ok(Input::Shut),
         "resume" => Ok(Input::Resume),
         "abort" => Ok(Input::Abort),
-        "u1" | "u2" | "u3" => choice(alloc, 0, word),
-        "elsewhere" => choice(alloc, 1, "u1"),
-        "other" => reply(alloc, 1, ReplyKind::WellKnown, OK, FILE),
-        word => reply_named(alloc, word),
+        "u1" | "u2" | "u3" => choice(alloc, place, word),
+        word => reply_named(alloc, place, word),
     }
 }
 

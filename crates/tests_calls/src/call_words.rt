@@ -268,10 +268,11 @@ fn last(alloc: Global, words: &str, browser: &Browser) -> Result<(&'static str, 
     end(alloc, inputs.as_slice(), browser)
 }
 
-fn stage_word(stage: Stage) -> &'static str {
+pub fn stage_word(stage: Stage) -> &'static str {
     match stage {
         Stage::Reading => "reading",
         Stage::Listing => "listing",
+        Stage::Gathering => "gathering",
         Stage::Mismatch => "mismatch",
         Stage::Window => "window",
         Stage::Choosing => "choosing",

@@ -34,7 +34,7 @@ pub fn consents(prompt: Prompt) -> Result<Consent, Prompt>
     prompt.ready().proceed()
 }
 
-/// A call of a page that begins, where it has exactly one provider; none else.
+/// A call of a page that begins, where it has one to ten providers; none else.
 pub fn begins(
     alloc: Global,
     call: u32,
@@ -44,9 +44,9 @@ pub fn begins(
     shared: &Shared<'_>,
 ) -> Result<Option<CallState>, NoRoom>
     ensures { IfOk result (λ begun. IfSome begun (λ state. facts_of state
-        ≡ started call page origin options (start_row (world_of shared.now) origin options))) }
+        ≡ started (world_of shared.now) call page origin options (start_row (world_of shared.now) origin options))) }
 {
-    if options.providers.len() != 1 {
+    if options.providers.len() == 0 || options.providers.len() > 10 {
         return Ok(None);
     }
     let (state, _) = CallState::start(alloc, call, page, origin, options, shared)?;

@@ -1,107 +1,18 @@
-//! Requests, words and consents.
-ghost use Rattle.std.specs.Prelude.{◌≡◌, IfOk, length};
+//! Consents over what one provider offers, and over what two offer.
+ghost use Rattle.std.specs.Prelude.{◌≡◌, ◌≤◌, true, IfOk, length};
+ghost use Rattle.fed_accounts.specs.Offers.{AreWhole};
+ghost use Rattle.fed_consent.specs.Consent.{AreRising, picks};
 
-use crate::lines::{assert_so, assert_word};
-use crate::values::{provider_with_nonce, url};
-use fed_accounts::{Accounts, read_accounts, reselect};
-use fed_consent::{
-    Ask, Chooser, Consent, Detail, FailStep, Failure, Finish, Picked, Prompt, Reselection, Why,
-};
-use fed_io::{Items, NoRoom, Placed, Text};
-use fed_origin::{Endpoint, Mediation, Origin, ProviderOptions, ReplyKind};
-use fed_reply::ReplyStep;
+use crate::lines::{assert_so, assert_word, parts};
+use crate::offers::{BOTH, OTHERS, offer, prompt};
+use crate::values::{place_of, provider_with_nonce};
+use fed_accounts::{Offer, Offers, reselect_all};
+use fed_consent::{Ask, Chooser, Consent, Picked, Prompt, Reselection};
+use fed_io::{Items, NoRoom, Text};
+use fed_origin::{Mediation, Origin, ProviderOptions};
 use std::alloc::Global;
+use std::process::Abort;
 use std::test::Fail;
-
-fn metadata(alloc: Global) -> Result<Ask, NoRoom> {
-    let to = url(alloc, "https://accounts.idp.example/client")?;
-    Ok(Ask::Metadata {
-        client: Text::of(alloc, "c1")?,
-        origin: Placed::new(alloc, Origin::of_url(alloc, &to)?)?,
-        to,
-    })
-}
-
-fn names_no_page(ask: &Ask) -> bool {
-    ask.kind() == ReplyKind::Accounts && ask.origin().is_none()
-}
-
-#[test]
-fn accounts_requests_name_no_page(rt: HostRuntime) -> Result<(), Fail> {
-    let to = url(rt.alloc(), "https://accounts.idp.example/accounts")?;
-    let ask = Ask::Accounts { to };
-    assert_so(&rt, names_no_page(&ask), "accounts");
-    assert_word(&rt, ask.to().path(), "/accounts", "accounts");
-    Ok(())
-}
-
-#[test]
-fn metadata_requests_name_the_page(rt: HostRuntime) -> Result<(), Fail> {
-    let ask = metadata(rt.alloc())?;
-    assert_so(
-        &rt,
-        ask.kind() == ReplyKind::Metadata && ask.origin().is_some(),
-        "metadata",
-    );
-    Ok(())
-}
-
-#[test]
-fn words(rt: HostRuntime) -> Result<(), Fail> {
-    assert_word(
-        &rt,
-        FailStep::SilentNoAccount.as_str(),
-        "silent-no-account",
-        "words",
-    );
-    assert_word(
-        &rt,
-        FailStep::LoggedOut.error_name(),
-        "NetworkError",
-        "words",
-    );
-    assert_word(
-        &rt,
-        Detail::Reply(ReplyStep::Mime).as_str(),
-        "mime",
-        "words",
-    );
-    let member = Detail::Member(Endpoint::Assertion);
-    assert_word(&rt, member.as_str(), "id_assertion_endpoint", "words");
-    assert_word(&rt, Why::NobodyWaits.as_str(), "nobody-waits", "words");
-    Ok(())
-}
-
-#[test]
-fn what_a_page_sees(rt: HostRuntime) -> Result<(), Fail> {
-    let failure = Failure {
-        step: FailStep::Aborted,
-        detail: None,
-    };
-    assert_word(
-        &rt,
-        Finish::Failed(failure).seen(),
-        "AbortError",
-        "an abort",
-    );
-    assert_word(&rt, Finish::Disconnected.seen(), "disconnected", "the end");
-    Ok(())
-}
-
-// ---- consents
-
-const ANN: &[u8] =
-    b"HTTP/1.1 200 OK\r\nContent-Type: application/json\r\n\r\n{\"accounts\":[{\"id\":\"u1\",\"name\":\"Ann\",\"email\":\"ann@idp.example\"}]}";
-
-const BOTH: &[u8] =
-    b"HTTP/1.1 200 OK\r\nContent-Type: application/json\r\n\r\n{\"accounts\":[{\"id\":\"u1\",\"name\":\"Ann\",\"email\":\"ann@idp.example\"},{\"id\":\"u2\",\"name\":\"Bob\",\"email\":\"bob@idp.example\"}]}";
-
-fn accounts(alloc: Global, raw: &[u8]) -> Result<Accounts, NoRoom> {
-    match read_accounts(alloc, raw) {
-        Ok(accounts) => Ok(accounts),
-        Err(_) => Err(NoRoom),
-    }
-}
 
 // Whether this request asks for a token for the first account, and says this of what the user was shown.
 fn is_said(ask: &Ask, disclosure: bool) -> bool {
@@ -109,15 +20,6 @@ fn is_said(ask: &Ask, disclosure: bool) -> bool {
         Ask::Assertion(ask) => ask.account().as_str() == "u1" && ask.disclosure() == disclosure,
         _ => false,
     }
-}
-
-// The prompt for the only account, which waits for metadata; none where other accounts were read.
-fn prompt(alloc: Global, connected: bool) -> Result<Option<Prompt>, NoRoom> {
-    let accounts = accounts(alloc, ANN)?;
-    if accounts.list().len() != 1 {
-        return Ok(None);
-    }
-    Ok(Some(Prompt::single(1, 0, accounts, connected, true)))
 }
 
 // Going on with a prompt that waits: it is still there.
@@ -168,7 +70,7 @@ fn asks(
 fn goes_on(alloc: Global, connected: bool, disclosure: bool) -> Result<bool, NoRoom> {
     let options = provider_with_nonce(alloc)?;
     let origin = Origin::of_url(alloc, &options.config)?;
-    match prompt(alloc, connected)? {
+    match prompt(alloc, connected, true)? {
         Some(prompt) => match too_early(prompt) {
             Some(prompt) => asks(alloc, prompt, &origin, &options, disclosure),
             None => Ok(false),
@@ -188,24 +90,66 @@ fn a_prompt_makes_a_consent(rt: HostRuntime) -> Result<(), Fail> {
     Ok(())
 }
 
-// Of two accounts, that the second is connected.
-fn second_connected(alloc: Global) -> Result<Items<bool>, NoRoom>
-    ensures { IfOk result (λ connected. length connected ≡ 2) }
-{
-    let mut connected = Items::new(alloc);
-    connected.push(false)?;
-    connected.push(true)?;
-    Ok(connected)
+// ---- choices
+
+// A line: the provider and the id that are chosen, whose account that is, and what comes of it. The second account of provider 0 and
+// the first of provider 3 are connected.
+const OF_ONE: &str = "0 u1 | Ann | prompt
+0 u2 | Bob | consent
+0 u3 | none | of one
+1 u1 | none | of one";
+
+const OF_TWO: &str = "0 u1 | Ann | prompt
+0 u2 | Bob | consent
+3 u1 | Amy | consent
+3 u3 | Cem | prompt
+0 u3 | none | of two
+3 u2 | none | of two
+1 u1 | none | of two
+2 u1 | none | of two";
+
+// Of two accounts, which are kept.
+fn kept(alloc: Global, digits: &str) -> Result<Items<bool>, NoRoom> {
+    let kept = [digits.starts_with('1'), digits.ends_with('1')];
+    Ok(Items::from_vec(Vec::from_array(alloc, kept)?))
 }
 
-// Two accounts to choose among, of which the second is connected; none where other accounts were read.
-fn two_to_choose(alloc: Global) -> Result<Option<Chooser>, NoRoom> {
-    let connected = second_connected(alloc)?;
-    let accounts = accounts(alloc, BOTH)?;
-    if accounts.list().len() != 2 {
-        return Ok(None);
+// What provider 0 offers, where of its two accounts these are kept.
+fn of_one(alloc: Global, digits: &str) -> Result<Offers, NoRoom>
+    ensures whole { IfOk result (λ offers. AreWhole offers) }
+    ensures rising { IfOk result (λ offers. AreRising offers) }
+{
+    let only = offer(alloc, 0, BOTH, kept(alloc, digits)?)?;
+    Ok(Offers::one(only))
+}
+
+// The same, and what provider 3 offers.
+fn of_two(alloc: Global, digits: &str, others: &str) -> Result<Offers, NoRoom>
+    ensures whole { IfOk result (λ offers. AreWhole offers) }
+    ensures rising { IfOk result (λ offers. AreRising offers) }
+{
+    let first = offer(alloc, 0, BOTH, kept(alloc, digits)?)?;
+    let second = offer(alloc, 3, OTHERS, kept(alloc, others)?)?;
+    Ok(Offers::several(Items::from_vec(Vec::from_array(alloc, [first, second])?)))
+}
+
+// Whether the first of these providers offers two accounts.
+fn are_several(offers: &[Offer]) -> bool
+    requires { AreWhole offers.now }
+    ensures { result ≡ true → 2 ≤ length (picks (record { call = 1; offers = offers.now })) }
+{
+    offers.len() > 0 && offers[0].accounts.list().len() == 2
+}
+
+// A choice among these offers; none where others were read.
+fn to_choose(offers: Offers) -> Option<Chooser>
+    requires whole { AreWhole offers }
+    requires rising { AreRising offers }
+{
+    if !are_several(offers.as_slice()) {
+        return None;
     }
-    Ok(Some(Chooser::new(1, 0, accounts, connected)))
+    Some(Chooser::new(1, offers))
 }
 
 fn prompt_word(prompt: &Prompt) -> &'static str {
@@ -223,46 +167,83 @@ fn picked_word(picked: Picked) -> &'static str {
     }
 }
 
-// What comes of the choice of this account of the two.
-fn chosen(alloc: Global, id: &str) -> Result<&'static str, NoRoom> {
-    let id = Text::of(alloc, id)?;
-    match two_to_choose(alloc)? {
-        Some(chooser) => match chooser.choose(&id) {
-            Ok(picked) => Ok(picked_word(picked)),
-            Err(_) => Ok("none"),
-        },
-        None => Ok("another list"),
+// How many providers still offer accounts to choose among.
+fn left_word(chooser: &Chooser) -> &'static str {
+    match chooser.offers().len() {
+        1 => "of one",
+        2 => "of two",
+        _ => "of others",
     }
 }
 
-#[test]
-fn a_choice_makes_a_consent(rt: HostRuntime) -> Result<(), Fail> {
-    assert_word(&rt, chosen(rt.alloc(), "u1")?, "prompt", "u1");
-    assert_word(&rt, chosen(rt.alloc(), "u2")?, "consent", "u2");
-    assert_word(&rt, chosen(rt.alloc(), "u3")?, "none", "u3");
+// Whose account it is that was chosen, and what comes of it; none where it is not offered.
+fn chosen(
+    rt: &impl Abort,
+    chooser: Chooser,
+    provider: u32,
+    id: &Text,
+    line: &str,
+) -> Result<(), Fail> {
+    let (choice, more) = parts(line)?;
+    let (name, word) = parts(more)?;
+    match chooser.choose(provider, id) {
+        Ok(picked) => {
+            assert_word(rt, picked.account().name.as_str(), name, choice);
+            assert_word(rt, picked_word(picked), word, choice);
+        }
+        Err(chooser) => {
+            assert_word(rt, "none", name, choice);
+            assert_word(rt, left_word(&chooser), word, choice);
+        }
+    }
     Ok(())
 }
 
-// The only one of two accounts whose permission is kept; none where there is none, or other accounts were read.
-fn reselection(alloc: Global, kept: &[bool]) -> Result<Option<Reselection>, NoRoom> {
-    let client = Text::of(alloc, "c1")?;
-    let accounts = accounts(alloc, BOTH)?;
-    if kept.len() != accounts.list().len() {
-        return Ok(None);
+// The provider and the id of a choice.
+fn choice_in(alloc: Global, line: &str) -> Result<(u32, Text), Fail> {
+    let (choice, _) = parts(line)?;
+    let (provider, id) = choice.split_once(' ').ok_or("a choice")?;
+    Ok((place_of(provider), Text::of(alloc, id)?))
+}
+
+#[test]
+fn a_choice_of_one_provider(rt: HostRuntime) -> Result<(), Fail> {
+    for line in OF_ONE.split('\n') {
+        let (provider, id) = choice_in(rt.alloc(), line)?;
+        let chooser = to_choose(of_one(rt.alloc(), "01")?).ok_or("a choice")?;
+        chosen(&rt, chooser, provider, &id, line)?;
     }
-    match reselect(&accounts, &client, kept, false, Mediation::Optional) {
-        Some(place) => Ok(Some(Reselection::new(
-            1,
-            0,
-            accounts,
-            &client,
-            kept,
-            false,
-            Mediation::Optional,
-            place,
-        ))),
-        None => Ok(None),
+    Ok(())
+}
+
+#[test]
+fn a_choice_of_two_providers(rt: HostRuntime) -> Result<(), Fail> {
+    for line in OF_TWO.split('\n') {
+        let (provider, id) = choice_in(rt.alloc(), line)?;
+        let chooser = to_choose(of_two(rt.alloc(), "01", "10")?).ok_or("a choice")?;
+        chosen(&rt, chooser, provider, &id, line)?;
     }
+    Ok(())
+}
+
+// ---- reselections
+
+// A line: which accounts are kept of provider 0 and of provider 3, and whose account is signed in again, of which provider.
+const RESELECTED: &str = "00 00 | none
+10 00 | 0 Ann
+01 00 | 0 Bob
+00 10 | 3 Amy
+00 01 | 3 Cem
+11 00 | none
+10 10 | none
+01 01 | none";
+
+// The only account whose permission is kept.
+fn reselection(offers: Offers, flag: bool, mediation: Mediation) -> Option<Reselection>
+    requires { AreWhole offers }
+{
+    let places = reselect_all(offers.as_slice(), flag, mediation)?;
+    Some(Reselection::new(1, offers, flag, mediation, places))
 }
 
 // Whether this request asks for a token for this account, of which the user was neither asked nor shown anything.
@@ -273,31 +254,70 @@ fn is_silent(ask: &Ask, id: &str) -> bool {
     }
 }
 
-// Whether a token for this account is asked for without the user.
-fn asks_silently(alloc: Global, kept: &[bool], id: &str) -> Result<bool, NoRoom> {
+// Whether a token for the account that is reselected is asked for without the user.
+fn asks_silently(alloc: Global, again: Reselection) -> Result<bool, NoRoom> {
     let options = provider_with_nonce(alloc)?;
     let origin = Origin::of_url(alloc, &options.config)?;
-    match reselection(alloc, kept)? {
+    let id = again.account().id.copy(alloc)?;
+    let ask = spent(alloc, again.proceed(), &origin, &options)?;
+    Ok(is_silent(&ask, id.as_str()))
+}
+
+// The provider of the account that is reselected, and whose it is, in words.
+fn named(alloc: Global, again: &Reselection) -> Result<String, NoRoom> {
+    let provider = again.provider();
+    let name = again.account().name.as_str();
+    Ok(format!(in alloc; "{provider} {name}")?)
+}
+
+fn reselects(rt: &impl Abort, alloc: Global, line: &str) -> Result<(), Fail> {
+    let (digits, wanted) = parts(line)?;
+    let (first, second) = digits.split_once(' ').ok_or("digits")?;
+    let offers = of_two(alloc, first, second)?;
+    match reselection(offers, false, Mediation::Optional) {
         Some(again) => {
-            let named = again.account().id.as_str() == id;
-            let ask = spent(alloc, again.proceed(), &origin, &options)?;
-            Ok(named && is_silent(&ask, id))
+            assert_word(rt, named(alloc, &again)?.as_str(), wanted, line);
+            assert_so(rt, asks_silently(alloc, again)?, line);
         }
-        None => Ok(false),
+        None => assert_word(rt, "none", wanted, line),
     }
+    Ok(())
 }
 
 #[test]
 fn a_reselection_makes_a_consent(rt: HostRuntime) -> Result<(), Fail> {
+    for line in RESELECTED.split('\n') {
+        reselects(&rt, rt.alloc(), line)?;
+    }
+    Ok(())
+}
+
+// Nothing is signed in again where the flag is set, or the user has to take part; of one provider as of two.
+#[test]
+fn no_reselection(rt: HostRuntime) -> Result<(), Fail> {
+    let only = of_one(rt.alloc(), "10")?;
     assert_so(
         &rt,
-        asks_silently(rt.alloc(), &[false, true], "u2")?,
-        "the only one",
+        reselection(only, false, Mediation::Silent).is_some(),
+        "of one",
     );
+    let only = of_one(rt.alloc(), "10")?;
     assert_so(
         &rt,
-        !asks_silently(rt.alloc(), &[true, true], "u2")?,
-        "one of two",
+        reselection(only, true, Mediation::Silent).is_none(),
+        "the flag",
+    );
+    let two = of_two(rt.alloc(), "00", "10")?;
+    assert_so(
+        &rt,
+        reselection(two, true, Mediation::Optional).is_none(),
+        "the flag",
+    );
+    let two = of_two(rt.alloc(), "00", "10")?;
+    assert_so(
+        &rt,
+        reselection(two, false, Mediation::Required).is_none(),
+        "required",
     );
     Ok(())
 }

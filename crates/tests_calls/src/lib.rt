@@ -2,6 +2,8 @@
 #![tactic(auto)]
 
 #[cfg(test)]
+mod asks;
+#[cfg(test)]
 mod browser;
 #[cfg(test)]
 mod call;
@@ -27,8 +29,18 @@ mod disconnect_words;
 #[cfg(test)]
 mod lines;
 #[cfg(test)]
+mod offers;
+#[cfg(test)]
 mod replies;
 #[cfg(test)]
 mod request;
+#[cfg(test)]
+mod several;
+#[cfg(test)]
+mod several_effects;
+#[cfg(test)]
+mod several_settled;
+#[cfg(test)]
+mod several_words;
 #[cfg(test)]
 mod values;

@@ -16,6 +16,8 @@ pub const LOST: &str = "HTTP/1.1 404 Not Found\r\nContent-Type: application/json
 
 pub const FILE: &str = "{\"provider_urls\":[\"https://accounts.idp.example/fedcm.json\"]}";
 
+pub const TWO_FILE: &str = "{\"provider_urls\":[\"https://login.two.example/fedcm.json\"]}";
+
 pub const MEMBERS: &str =
     "{\"accounts_endpoint\":\"/accounts\",\"id_assertion_endpoint\":\"/assert\",\"login_url\":\"/login\"}";
 

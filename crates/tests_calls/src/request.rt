@@ -4,8 +4,8 @@ ghost use Rattle.fed_cookie.specs.SetCookie.{HasNoLineEnd};
 ghost use Rattle.fed_request.specs.Request.{TakesCookies};
 
 use crate::lines::assert_so;
+use crate::offers::prompt;
 use crate::values::{PAGE, origin_of, provider_with_nonce, url};
-use fed_accounts::{Accounts, read_accounts};
 use fed_consent::{Ask, Consent, Prompt};
 use fed_io::{NoRoom, Placed, Text};
 use fed_origin::{Origin, ProviderOptions, WebUrl};
@@ -33,9 +33,6 @@ const MORE_METADATA: &[u8] =
 
 const ASSERTION: &[u8] =
     b"POST /assert HTTP/1.1\r\nHost: accounts.idp.example\r\nAccept: application/json\r\nSec-Fetch-Dest: webidentity\r\nOrigin: https://rp.example\r\nContent-Type: application/x-www-form-urlencoded\r\nContent-Length: 85\r\nCookie: a=5\r\n\r\nclient_id=c1&nonce=n1&account_id=u1&disclosure_text_shown=true&is_auto_selected=false";
-
-const ACCOUNT: &[u8] =
-    b"HTTP/1.1 200 OK\r\nContent-Type: application/json\r\n\r\n{\"accounts\":[{\"id\":\"u1\",\"name\":\"Ann\",\"email\":\"ann@idp.example\"}]}";
 
 const DISCONNECT: &[u8] =
     b"POST /bye HTTP/1.1\r\nHost: accounts.idp.example\r\nAccept: application/json\r\nSec-Fetch-Dest: webidentity\r\nOrigin: https://rp.example\r\nContent-Type: application/x-www-form-urlencoded\r\nContent-Length: 28\r\n\r\nclient_id=c1&account_hint=u1";
@@ -181,22 +178,6 @@ fn disconnect_requests(rt: HostRuntime) -> Result<(), Fail> {
     Ok(())
 }
 
-fn only_account(alloc: Global) -> Result<Accounts, NoRoom> {
-    match read_accounts(alloc, ACCOUNT) {
-        Ok(accounts) => Ok(accounts),
-        Err(_) => Err(NoRoom),
-    }
-}
-
-// The prompt for the only account; none where other accounts were read.
-fn prompt(alloc: Global) -> Result<Option<Prompt>, NoRoom> {
-    let accounts = only_account(alloc)?;
-    if accounts.list().len() != 1 {
-        return Ok(None);
-    }
-    Ok(Some(Prompt::single(1, 0, accounts, false, false)))
-}
-
 // The request that an agreement makes.
 fn spent(
     alloc: Global,
@@ -239,7 +220,7 @@ fn assertion(alloc: Global) -> Result<Option<Ask>, NoRoom>
     let to = url(alloc, "https://accounts.idp.example/assert")?;
     let origin = origin_of(alloc, PAGE)?;
     let options = provider_with_nonce(alloc)?;
-    match prompt(alloc)? {
+    match prompt(alloc, false, false)? {
         Some(prompt) => asked(alloc, prompt, &to, &origin, &options),
         None => Ok(None),
     }

@@ -236,7 +236,8 @@ fn hints(rt: HostRuntime) -> Result<(), Fail> {
     Ok(())
 }
 
-fn mediation_of(word: &str) -> Mediation {
+/// The mediation that a word names.
+pub fn mediation_of(word: &str) -> Mediation {
     match word {
         "silent" => Mediation::Silent,
         "required" => Mediation::Required,
@@ -244,7 +245,8 @@ fn mediation_of(word: &str) -> Mediation {
     }
 }
 
-fn kept_of(alloc: Global, digits: &str) -> Result<Vec<bool>, Fail> {
+/// Of each account whether its permission is kept, by a digit.
+pub fn kept_of(alloc: Global, digits: &str) -> Result<Vec<bool>, Fail> {
     let mut kept = Vec::new(alloc);
     for digit in digits.bytes() {
         kept.push(digit == b'1')?;

@@ -1,12 +1,13 @@
 //! What a caller concludes from the contracts of the lower crates alone.
 ghost use Rattle.std.specs.Prelude.{◌≡◌, IfOk, is_ok, length, None};
+ghost use Rattle.fed_accounts.specs.Offers.{AreWhole};
 ghost use Rattle.fed_io.specs.Fault.{Answers};
 ghost use Rattle.fed_origin.specs.Origin.{origin_text};
 ghost use Rattle.fed_origin.specs.WebUrl.{scheme_of};
 ghost use Rattle.fed_provider.specs.WellKnown.{WellKnownUrlOf};
 ghost use Rattle.fed_token.specs.Read.{DisconnectOf};
 
-use fed_accounts::{Accounts, reselect};
+use fed_accounts::{Accounts, Offer, reselect, reselect_all};
 use fed_io::{Fault, NoRoom, Text};
 use fed_origin::{Mediation, Origin, Scheme, WebUrl};
 use fed_provider::{ProviderStep, wellknown_url};
@@ -53,6 +54,22 @@ pub fn none_where_required(
     ensures { result ≡ None }
 {
     reselect(accounts, client, kept, flag, Mediation::Required)
+}
+
+/// The same of all providers of a call: none is signed in again under the flag.
+pub fn none_of_all_under_the_flag(offers: &[Offer], mediation: Mediation) -> Option<(usize, usize)>
+    requires { AreWhole offers.now }
+    ensures { result ≡ None }
+{
+    reselect_all(offers, true, mediation)
+}
+
+/// Nor where the user has to take part.
+pub fn none_of_all_where_required(offers: &[Offer], flag: bool) -> Option<(usize, usize)>
+    requires { AreWhole offers.now }
+    ensures { result ≡ None }
+{
+    reselect_all(offers, flag, Mediation::Required)
 }
 
 /// Whether a reply to a disconnect request names an account.

@@ -9,6 +9,8 @@ mod damage;
 #[cfg(test)]
 mod memory;
 #[cfg(test)]
+mod offers;
+#[cfg(test)]
 mod provider;
 #[cfg(test)]
 mod reply;

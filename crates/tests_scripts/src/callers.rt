@@ -5,7 +5,7 @@ ghost use Rattle.fed_print.specs.Lines.{record_line};
 ghost use Rattle.fed_reply.specs.Steps.{with_ok};
 ghost use Rattle.fed_script.specs.Line.{event_of};
 ghost use Rattle.fed_script.specs.Reader.{all_lines};
-ghost use Rattle.fed_script.specs.Used.{HasOneProvider, HasKnownStatus};
+ghost use Rattle.fed_script.specs.Used.{HasProviders, HasKnownStatus};
 ghost use Rattle.tests_scripts.specs.Named.{client_in, login_in};
 
 use fed_io::{Fault, Items, NoRoom, Text};
@@ -22,7 +22,7 @@ pub fn white_space_is_blank() -> bool
     is_blank(b" \t\r")
 }
 
-/// The client's id at the only provider of the get that a line names; none where it names another event.
+/// The client's id at the first provider of the get that a line names; none where it names another event.
 pub fn names_a_client(
     alloc: Global,
     line: &[u8],
@@ -36,9 +36,9 @@ pub fn names_a_client(
     }
 }
 
-// The client's id in a get.
+// The client's id at the first provider of a get.
 fn client_of(alloc: Global, event: &Event) -> Result<Option<Text>, NoRoom>
-    requires { HasOneProvider event.now }
+    requires { HasProviders event.now }
     ensures { IfOk result (λ client. client ≡ client_in event.now) }
 {
     match event {

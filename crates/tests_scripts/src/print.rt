@@ -69,6 +69,7 @@ fn many_requests(alloc: Global) -> Result<Vec<Out>, NoRoom> {
             line: 4,
             why: Why::NoPage,
         })?;
+        outs.push(dropped(1, at_status(FailStep::ConfigReply)))?;
     }
     Ok(outs)
 }
@@ -225,6 +226,31 @@ fn mismatches(rt: HostRuntime) -> Result<(), Fail> {
     let line =
         "{\"call\":1,\"detail\":\"status\",\"dialog\":\"mismatch\",\"line\":7,\"out\":\"dialog\",\"provider\":0,\"site\":\"rp.example\",\"step\":\"accounts-reply\"}\n";
     assert!(rt; is_printed(rt.alloc(), out, line)?);
+    Ok(())
+}
+
+fn dropped(provider: u32, failure: Failure) -> Out {
+    Out::Dropped {
+        line: 4,
+        call: 1,
+        provider,
+        failure,
+    }
+}
+
+#[test]
+fn providers_that_dropped_out(rt: HostRuntime) -> Result<(), Fail> {
+    let out = dropped(0, at_status(FailStep::WellKnownReply));
+    let line =
+        "{\"call\":1,\"detail\":\"status\",\"line\":4,\"out\":\"dropped\",\"provider\":0,\"step\":\"well-known-reply\"}\n";
+    assert!(rt; is_printed(rt.alloc(), out, line)?);
+    let failure = Failure {
+        step: FailStep::LoggedOut,
+        detail: None,
+    };
+    let line =
+        "{\"call\":1,\"line\":4,\"out\":\"dropped\",\"provider\":9,\"step\":\"logged-out\"}\n";
+    assert!(rt; is_printed(rt.alloc(), dropped(9, failure), line)?);
     Ok(())
 }
 

@@ -1,6 +1,6 @@
 use fed_io::Fault;
 use fed_script::{
-    Header, LineCause, MemberName, Used, is_blank, next_line, read_event, read_header,
+    Event, Header, LineCause, MemberName, Used, is_blank, next_line, read_event, read_header,
 };
 use fed_suffix::Suffixes;
 use std::alloc::{AllocError, Global};
@@ -258,7 +258,7 @@ member.providers | {"do":"get","page":1,"call":1}
 member.providers | {"do":"get","page":1,"call":1,"providers":{"config":"https://a","client":"c"}}
 member.providers | {"do":"get","page":1,"call":1,"providers":[]}
 member.providers | {"do":"get","page":1,"call":1,"providers":["x"]}
-member.providers | {"do":"get","page":1,"call":1,"providers":[{},{}]}
+member.config | {"do":"get","page":1,"call":1,"providers":[{},{}]}
 member.providers | {"do":"get","page":1,"call":1,"providers":[{"config":"https://a","client":"c"},1]}
 member.providers | {"do":"get","page":1,"call":1,"providers":[{"config":"https://a","client":"c"}],"providers":null}
 not-json | {"do":"get","page":1,"call":1,"providers":[{"config":"https://a","client":"c"},1e999]}
@@ -295,6 +295,97 @@ call-twice | {"do":"get","page":1,"call":1,"providers":[{"config":"https://accou
 fn causes_in_their_order(rt: HostRuntime) -> Result<(), Fail> {
     assert_eq!(rt; taken(rt.alloc(), 0, bad_rows())?, ("", 1));
     Ok(())
+}
+
+// Two providers, of whom the second names more, and the last of two lists; then lists that are too long or hold what is no object, entries
+// in their order, and members of all entries before URLs.
+fn provider_rows() -> &'static str {
+    r#"ok | {"do":"get","page":1,"call":1,"providers":[{"config":"https://a","client":"c"},{"nonce":"n","client":"","config":"https://b"}]}
+ok | {"do":"get","page":1,"call":2,"providers":[{},{},1],"providers":[{"config":"https://a","client":"c"}]}
+member.config | {"do":"get","page":1,"call":3,"providers":[{"config":"https://a","client":"c"}],"providers":[{},{}]}
+member.config | {"do":"get","page":1,"call":3,"providers":[{},{},{},{},{},{},{},{},{},{}]}
+member.providers | {"do":"get","page":1,"call":3,"providers":[{},{},{},{},{},{},{},{},{},{},{}]}
+member.providers | {"do":"get","page":1,"call":3,"providers":[{},{},{},{},{},{},{},{},{},{},{},{},1]}
+member.providers | {"do":"get","page":1,"call":3,"providers":[{"config":"https://a","client":1},{"config":"https://b","client":"c"},null]}
+member.providers | {"do":"get","page":1,"call":3,"providers":[{"config":"https://a","client":"c"},[],{"config":1}]}
+member.activation | {"do":"get","page":1,"call":3,"activation":0,"providers":[{},{},1]}
+member.nonce | {"do":"get","page":1,"call":3,"providers":[{"config":"","client":"","nonce":1},{}]}
+member.config | {"do":"get","page":1,"call":3,"providers":[{"config":"","client":""},{},{"config":"","client":"","nonce":1}]}
+member.client | {"do":"get","page":1,"call":3,"providers":[{"config":"ws://a","client":"c"},{"config":"https://b"}]}
+member.params | {"do":"get","page":1,"call":3,"providers":[{"config":"https://a","client":""},{"config":"ws://b","client":"","params":1}]}
+bad-url | {"do":"get","page":1,"call":3,"providers":[{"config":"https://a","client":"c"},{"config":"ws://b","client":"d"}]}
+bad-url | {"do":"get","page":1,"call":1,"providers":[{"config":"ws://a","client":"c"},{"config":"https://b","client":"d"}]}
+not-json | {"do":"get","page":1,"call":3,"providers":[{"config":"https://a","client":"c"},{"config":"https://b","client":"d"}}
+call-twice | {"do":"get","page":1,"call":2,"providers":[{"config":"https://a","client":"c"},{"config":"https://a","client":"d"}]}"#
+}
+
+#[test]
+fn several_providers(rt: HostRuntime) -> Result<(), Fail> {
+    assert_eq!(rt; taken(rt.alloc(), 0, provider_rows())?, ("", 2));
+    Ok(())
+}
+
+// A get from so many providers.
+fn get_from(alloc: Global, count: usize) -> Result<String, AllocError> {
+    let mut line = String::from_str(alloc, r#"{"do":"get","page":1,"call":1,"providers":["#)?;
+    for place in 0..count {
+        if place > 0 {
+            line.push_str(",")?;
+        }
+        line.push_str(r#"{"config":"https://a","client":"c"}"#)?;
+    }
+    line.push_str("]}")?;
+    Ok(line)
+}
+
+// Whether a get from so many providers has the answer of this word.
+fn gets_from(alloc: Global, count: usize, word: &str) -> bool {
+    let Ok(line) = get_from(alloc, count) else {
+        return false;
+    };
+    let mut used = Used::new(alloc, 0);
+    is_word(reads(alloc, line.as_bytes(), &mut used), word)
+}
+
+#[test]
+fn one_to_ten_providers(rt: HostRuntime) {
+    assert!(rt; gets_from(rt.alloc(), 0, "member.providers"));
+    assert!(rt; gets_from(rt.alloc(), 1, "ok"));
+    assert!(rt; gets_from(rt.alloc(), 10, "ok"));
+    assert!(rt; gets_from(rt.alloc(), 11, "member.providers"));
+}
+
+// Whether an event is a get from providers at which the page has these ids, which have a bar between.
+fn has_clients(event: &Event, clients: &str) -> bool {
+    let Event::Get { options, .. } = event else {
+        return false;
+    };
+    let mut wanted = clients.split('|');
+    for provider in options.providers.as_slice() {
+        match wanted.next() {
+            Some(client) if provider.client.as_str() == client => {}
+            _ => return false,
+        }
+    }
+    wanted.next().is_none()
+}
+
+// Whether a line is such a get.
+fn gets_from_clients(alloc: Global, line: &str, clients: &str) -> bool {
+    let mut used = Used::new(alloc, 0);
+    match read_event(alloc, line.as_bytes(), &mut used) {
+        Ok(event) => has_clients(&event, clients),
+        Err(_) => false,
+    }
+}
+
+#[test]
+fn providers_in_their_order(rt: HostRuntime) {
+    let line = concat!(
+        r#"{"do":"get","page":1,"call":1,"providers":[{"config":"https://a","client":"1"},"#,
+        r#"{"config":"https://a","client":"2"},{"config":"https://b","client":"3"}]}"#
+    );
+    assert!(rt; gets_from_clients(rt.alloc(), line, "1|2|3"));
 }
 
 // A load with a member that nests so many lists.

@@ -1,11 +1,12 @@
--- The place of the account that is reselected is one of the list.
-use Rattle.std.proofs.Common.{◌≡◌, ◌<◌, ◌+◌, ℕ, Bool, true, false, cond, ◌||◌, List, [], ◌∷◌, map, filter, zip}
-use Rattle.std.proofs.Common.{length}
-use Rattle.std.proofs.Common.{Some, None, arith, subst}
-use Rattle.std.specs.List.{AllByRecursion, enumerate_from}
+-- The places of the account that is reselected are those of an offer and of an account of it.
+use Rattle.std.proofs.Common.{◌≡◌, ◌<◌, ◌+◌, ℕ, suc, Bool, true, false, cond, ◌||◌, List, [], ◌∷◌, ◌++◌, map, filter, zip}
+use Rattle.std.proofs.Common.{length, Some, None, arith, subst}
+use Rattle.std.specs.List.{AllByRecursion, enumerate_from, slice_get}
 use Rattle.fed_origin.specs.declared.options.Mediation.{Mediation}
 use Rattle.fed_accounts.specs.declared.account.Account.{Account}
-use Rattle.fed_accounts.specs.Connection.{is_eligible, eligible_places, only, is_required, Reselect}
+use Rattle.fed_accounts.specs.declared.offer.Offer.{Offer}
+use Rattle.fed_accounts.specs.Offers.{HasAccount}
+use Rattle.fed_accounts.specs.Connection.{is_eligible, eligible_places, eligible_pairs, only, is_required, Reselect}
 
 -- no place is past the end
 abbrev AreWithin : ℕ → List ℕ → Type 0
@@ -26,17 +27,49 @@ places_within client end n (a ∷ accounts) (k ∷ kept) e =
     pick true h = (omega (arith, e), h)
     pick false h = h
 
-only_within : (end : ℕ) (places : List ℕ) (place : ℕ) → AreWithin end places → only places ≡ Some place → place < end
-only_within end [] place all e = cc
-only_within end (n ∷ []) place all e =
-    let same : n ≡ place = cc in
-    subst (λ m. m < end) same all.0
-only_within end (n ∷ m ∷ ns) place all e = cc
+-- these are places of an offer, where the first has the place n, and of an account of it
+record IsPair (n : ℕ) (offers : List Offer) (places : ℕ × ℕ) : Type 0 where
+  index : ℕ
+  same : n + index ≡ places.0
+  account : HasAccount places.1 (slice_get offers index)
 
-pub reselect_within : (accounts : List Account) (client : List ℕ) (kept : List Bool) (flag : Bool) (mediation : Mediation) (place : ℕ)
-    → Reselect accounts client kept flag mediation ≡ Some place → place < length accounts
-reselect_within accounts client kept flag mediation place e = by (flag || is_required mediation) e
+abbrev ArePairs : ℕ → List Offer → List (ℕ × ℕ) → Type 0
+ArePairs n offers pairs = AllByRecursion (IsPair n offers) pairs
+
+-- those of the first offer, and those of the offers after it
+joined : (n : ℕ) (offer : Offer) (offers : List Offer) (places : List ℕ) (more : List (ℕ × ℕ)) → AreWithin (length offer.accounts) places
+    → ArePairs (suc n) offers more → ArePairs n (offer ∷ offers) (map (λ place. (n, place)) places ++ more)
+joined n offer offers [] [] here there = tt
+joined n offer offers [] (pair ∷ more) here there = (
+  record { index = suc there.0.index; same = omega (arith, there.0.same); account = there.0.account },
+  joined n offer offers [] more here there.1,
+)
+joined n offer offers (place ∷ places) more here there =
+    (record { index = 0; same = omega arith; account = here.0 }, joined n offer offers places more here.1 there)
+
+pairs_within : (n : ℕ) (offers : List Offer) → ArePairs n offers (eligible_pairs n offers)
+pairs_within n [] = tt
+pairs_within n (offer ∷ offers) =
+    joined n offer offers (eligible_places 0 offer.client offer.accounts offer.kept) (eligible_pairs (suc n) offers)
+    (places_within offer.client (length offer.accounts) 0 offer.accounts offer.kept (omega arith)) (pairs_within (suc n) offers)
+
+only_within : (offers : List Offer) (pairs : List (ℕ × ℕ)) (pair : ℕ × ℕ) → ArePairs 0 offers pairs → only pairs ≡ Some pair
+    → IsPair 0 offers pair
+only_within offers [] pair all e = cc
+only_within offers (p ∷ []) pair all e =
+    let same : p ≡ pair = cc in
+    subst (λ m. IsPair 0 offers m) same all.0
+only_within offers (p ∷ q ∷ ps) pair all e = cc
+
+pub reselect_within : (offers : List Offer) (flag : Bool) (mediation : Mediation) (pair : ℕ × ℕ)
+    → Reselect offers flag mediation ≡ Some pair → HasAccount pair.1 (slice_get offers pair.0)
+reselect_within offers flag mediation pair e = placed (by (flag || is_required mediation) e)
   where
-    by : (b : Bool) → cond b None (only (eligible_places 0 client accounts kept)) ≡ Some place → place < length accounts
+    by : (b : Bool) → cond b None (only (eligible_pairs 0 offers)) ≡ Some pair → IsPair 0 offers pair
     by true f = cc
-    by false f = only_within (length accounts) _ place (places_within client (length accounts) 0 accounts kept (omega arith)) f
+    by false f = only_within offers _ pair (pairs_within 0 offers) f
+
+    placed : IsPair 0 offers pair → HasAccount pair.1 (slice_get offers pair.0)
+    placed is =
+        let same : is.index ≡ pair.0 = omega (arith, is.same) in
+        subst (λ k. HasAccount pair.1 (slice_get offers k)) same is.account

@@ -1,109 +1,108 @@
 //! A choice among several accounts.
-ghost use Rattle.std.specs.Prelude.{◌≡◌, ◌≤◌, ◌<◌, Some, IfSome, length, ok_or, option_map};
+ghost use Rattle.std.specs.Prelude.{◌≡◌, ◌≤◌, ◌<◌, Some, IfSome, length, ok_or, slice_get};
 ghost use Rattle.std.specs.List.{position};
-ghost use Rattle.fed_consent.specs.Consent.{chosen, candidate_at, has_id, pick_of};
+ghost use Rattle.fed_accounts.specs.Offers.{AreWhole, HasAccount};
+ghost use Rattle.fed_consent.specs.Consent.{AreRising, chosen, picks};
+ghost use Rattle.fed_consent.specs.Choice.{is_of, offered_at, place_in, places_of};
 
 use super::Picked;
-use fed_accounts::Accounts;
-use fed_io::{Items, Text};
+use fed_accounts::{Offer, Offers};
+use fed_io::Text;
 use std::marker::Model;
 
-/// Several accounts of a provider, among which the user is to choose (FedCM, "Browser API", the account chooser). Contracts
-/// see them with the call, the place of the provider in its list, and which of them are connected.
+/// Several accounts, of one provider or of several, among which the user is to choose (FedCM, "Browser API", the account chooser).
+/// Contracts see them with the call, as each provider offers them.
 pub struct Chooser {
     call: u32,
-    provider: u32,
-    accounts: Accounts,
-    connected: Items<bool>,
+    offers: Offers,
 }
 
 // Written out, so that one function lets it go wherever it ends.
 impl Drop for Chooser {
     fn drop(self) {
-        let Chooser {
-            call: _,
-            provider: _,
-            accounts: _,
-            connected: _,
-        } = self;
+        let Chooser { call: _, offers: _ } = self;
     }
 }
 
 impl Model for Chooser {
-    ghost use Rattle.std.specs.Prelude.{◌≡◌, length};
-    ghost use Rattle.fed_consent.specs.Consent.{Offer};
+    ghost use Rattle.fed_accounts.specs.Offers.{AreWhole};
+    ghost use Rattle.fed_consent.specs.Consent.{AreRising, Choices};
 
-    ghost Value = { Offer };
+    ghost Value = { Choices };
 
-    ghost view = { λ c. record { call = c.call; provider = c.provider; listed = record { accounts = c.accounts; connected = c.connected } } };
+    ghost view = { λ c. record { call = c.call; offers = c.offers } };
 
-    ghost invariant = { λ c. length c.connected ≡ length c.accounts };
+    ghost invariant = { λ c. record { rising : AreRising c.offers; whole : AreWhole c.offers } };
 }
 
 impl Chooser {
-    /// A choice among these accounts. There are at least two, and `connected` says of each, in their order, whether it is
-    /// connected. It takes no memory.
-    pub fn new(call: u32, provider: u32, accounts: Accounts, connected: Items<bool>) -> Chooser
-        requires each { length connected ≡ length accounts }
-        requires several { 2 ≤ length accounts }
-        ensures { result ≡ record { call = call; provider = provider; listed = record { accounts = accounts; connected = connected } } }
+    /// A choice among what these providers offer: at least two accounts in all, and each provider once, in the order of their places.
+    /// It takes no memory.
+    pub fn new(call: u32, offers: Offers) -> Chooser
+        requires rising { AreRising offers }
+        requires each { AreWhole offers }
+        requires several { 2 ≤ length (picks (record { call = call; offers = offers })) }
+        ensures { result ≡ record { call = call; offers = offers } }
     {
-        Chooser {
-            call,
-            provider,
-            accounts,
-            connected,
-        }
+        Chooser { call, offers }
     }
 
-    /// The account with this id. `Err` comes exactly where there is none, with the same chooser. It takes no memory.
-    pub fn choose(self, id: &Text) -> Result<Picked, Chooser>
-        ensures { result ≡ ok_or (option_map (pick_of self) (chosen id.now self.listed)) self }
+    /// The account with this id of the provider at this place in the call's list. `Err` comes exactly where that provider offers none,
+    /// with the same chooser. It takes no memory.
+    pub fn choose(self, provider: u32, id: &Text) -> Result<Picked, Chooser>
+        ensures { result ≡ ok_or (chosen provider id.now self) self }
     {
-        match self.place_of(id) {
-            Some(place) => Ok(self.pick(place)),
+        match places_in(self.offers(), provider, id) {
+            Some(places) => Ok(self.pick(places)),
             None => Err(self),
         }
     }
 
-    // The place of the account with this id.
-    fn place_of(&self, id: &Text) -> Option<usize>
-        ensures value { result ≡ position (has_id id.now) self.now.listed.accounts }
-        ensures inside { IfSome result (λ place. place < length self.now.listed.accounts) }
+    // The account at these places.
+    fn pick(self, places: (usize, usize)) -> Picked
+        requires { HasAccount places.1 (slice_get self.offers places.0) }
+        ensures { offered_at self.call self.offers places ≡ Some result }
     {
-        self.accounts
-            .list()
-            .iter()
-            .position(|account| account.id == *id)
+        let Chooser { call, offers } = self;
+        let offer = offers.take(places.0);
+        let connected = offer.connects(places.1);
+        Picked::new(call, offer.provider, offer.take(places.1), connected)
     }
 
-    // The account at this place.
-    fn pick(self, place: usize) -> Picked
-        requires { place < length self.listed.accounts }
-        ensures { option_map (pick_of self) (candidate_at self.listed place) ≡ Some result }
+    /// What the providers offer, in their order. It takes no memory.
+    pub fn offers(&self) -> &[Offer]
+        ensures value { result.now ≡ self.now.offers }
+        ensures rising { AreRising result.now }
+        ensures each { AreWhole result.now }
     {
-        let Chooser {
-            call,
-            provider,
-            accounts,
-            connected,
-        } = self;
-        let connected = connected.as_slice()[place];
-        Picked::new(call, provider, accounts.take(place), connected)
+        self.offers.as_slice()
     }
+}
 
-    /// The accounts, in the provider's order. It takes no memory.
-    pub fn accounts(&self) -> &Accounts
-        ensures { result.now ≡ self.now.listed.accounts }
-    {
-        &self.accounts
-    }
+// The places of the provider's offer and of the account with this id in it.
+fn places_in(offers: &[Offer], provider: u32, id: &Text) -> Option<(usize, usize)>
+    ensures { result ≡ places_of provider id.now offers.now }
+{
+    let offer = offer_of(offers, provider)?;
+    let account = place_of(&offers[offer], id)?;
+    Some((offer, account))
+}
 
-    /// Of each account, in their order, whether it is connected. It takes no memory.
-    pub fn connected(&self) -> &[bool]
-        ensures value { result.now ≡ self.now.listed.connected }
-        ensures each { length result.now ≡ length self.now.listed.accounts }
-    {
-        self.connected.as_slice()
-    }
+// The place of the provider's offer.
+fn offer_of(offers: &[Offer], provider: u32) -> Option<usize>
+    ensures value { result ≡ position (is_of provider) offers.now }
+    ensures inside { IfSome result (λ place. place < length offers.now) }
+{
+    offers.iter().position(|offer| provider == offer.provider)
+}
+
+// The place of the account with this id in an offer.
+fn place_of(offer: &Offer, id: &Text) -> Option<usize>
+    ensures { result ≡ place_in id.now offer.now.accounts }
+{
+    offer
+        .accounts
+        .list()
+        .iter()
+        .position(|account| account.id == *id)
 }

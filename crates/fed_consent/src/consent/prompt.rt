@@ -1,9 +1,9 @@
 //! An account that is to be confirmed.
-ghost use Rattle.std.specs.Prelude.{◌≡◌, false, Some, length, slice_get};
-ghost use Rattle.fed_consent.specs.Consent.{by_prompt};
+ghost use Rattle.std.specs.Prelude.{◌≡◌, ◌∷◌, [], false, length};
+ghost use Rattle.fed_consent.specs.Consent.{by_prompt, picks_of};
 
 use super::{Consent, Manner, Picked};
-use fed_accounts::{Account, Accounts};
+use fed_accounts::{Account, Offer};
 use std::marker::Model;
 
 /// An account that the user is asked to go on with (FedCM, "Browser API", the account prompt). Contracts see the account with
@@ -32,26 +32,16 @@ impl Model for Prompt {
 }
 
 impl Prompt {
-    /// A prompt for the only account, which waits for the metadata of the client where `waits` says so. It takes no memory.
-    pub fn single(
-        call: u32,
-        provider: u32,
-        accounts: Accounts,
-        connected: bool,
-        waits: bool,
-    ) -> Prompt
-        requires { length accounts ≡ 1 }
+    /// A prompt for the only account of an offer, which waits for the metadata of the client where `waits` says so. It takes no memory.
+    pub fn single(call: u32, offer: Offer, waits: bool) -> Prompt
+        requires one { length offer.accounts ≡ 1 }
+        requires kept { length offer.kept ≡ 1 }
         ensures waits { result.waits ≡ waits }
-        ensures pick { result.pick ≡ record {
-          call = call;
-          provider = provider;
-          candidate =
-              record { account = result.pick.candidate.account; connected = connected };
-        } }
-        ensures account { slice_get accounts 0 ≡ Some result.pick.candidate.account }
+        ensures pick { picks_of call offer ≡ result.pick ∷ [] }
     {
+        let connected = offer.connects(0);
         Prompt {
-            picked: Picked::new(call, provider, accounts.take(0), connected),
+            picked: Picked::new(call, offer.provider, offer.take(0), connected),
             waits,
         }
     }

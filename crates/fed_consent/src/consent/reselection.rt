@@ -1,11 +1,11 @@
 //! An account that is signed in again without the user.
-ghost use Rattle.std.specs.Prelude.{◌≡◌, Some, length};
+ghost use Rattle.std.specs.Prelude.{◌≡◌, Some};
 ghost use Rattle.fed_accounts.specs.Connection.{Reselect};
-ghost use Rattle.fed_consent.specs.Consent.{grounds_of, reselection_on, by_reselection};
+ghost use Rattle.fed_accounts.specs.Offers.{AreWhole};
+ghost use Rattle.fed_consent.specs.Consent.{reselection_on, by_reselection};
 
 use super::{Consent, Manner};
-use fed_accounts::{Account, Accounts};
-use fed_io::Text;
+use fed_accounts::{Account, Offers};
 use fed_origin::Mediation;
 use std::marker::Model;
 
@@ -38,26 +38,24 @@ impl Model for Reselection {
 }
 
 impl Reselection {
-    /// The account at `place`, which the rules name: `reselect` answers it for these accounts, the client, whether each
-    /// permission is `kept`, the flag of the page's origin and the mediation of the call. It takes no memory.
+    /// The account at `place`, which the rules name: `reselect_all` answers these places of its offer and in it for these offers, the
+    /// flag of the page's origin and the mediation of the call. It takes no memory.
     pub fn new(
         call: u32,
-        provider: u32,
-        accounts: Accounts,
-        client: &Text,
-        kept: &[bool],
+        offers: Offers,
         flag: bool,
         mediation: Mediation,
-        place: usize,
+        place: (usize, usize),
     ) -> Reselection
-        requires each { length kept.now ≡ length accounts }
-        requires named { Reselect accounts client.now kept.now flag mediation ≡ Some place }
-        ensures { reselection_on (grounds_of call provider accounts client.now kept.now flag mediation) ≡ Some result }
+        requires each { AreWhole offers }
+        requires named { Reselect offers flag mediation ≡ Some place }
+        ensures { reselection_on (record { call = call; offers = offers; flag = flag; mediation = mediation }) ≡ Some result }
     {
+        let offer = offers.take(place.0);
         Reselection {
             call,
-            provider,
-            account: accounts.take(place),
+            provider: offer.provider,
+            account: offer.take(place.1),
         }
     }
 
@@ -77,6 +75,13 @@ impl Reselection {
             manner: Manner::Reselected,
             disclosure: false,
         }
+    }
+
+    /// The place of its provider in the call's list. It takes no memory.
+    pub fn provider(&self) -> u32
+        ensures { result ≡ self.now.provider }
+    {
+        self.provider
     }
 
     /// The account. It takes no memory.

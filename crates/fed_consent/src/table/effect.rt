@@ -1,7 +1,7 @@
 //! What a call does.
 ghost use Rattle.std.specs.Prelude.{◌≡◌, [], ◌∷◌, IfOk};
 
-use super::{Ask, Dialog, Finish, Why};
+use super::{Ask, Dialog, Failure, Finish, Why};
 use fed_io::{Items, NoRoom, Placed};
 use fed_origin::{LoginStatus, Origin, Triple, WebUrl};
 use std::alloc::Global;
@@ -29,6 +29,8 @@ pub enum Effect {
     ForgetPair(Placed<Origin>, Placed<Origin>),
     /// The prevent-silent flag of a page's origin is cleared.
     ClearFlag(Origin),
+    /// The provider at this place in the call's list drops out, since this failed.
+    Dropped(u32, Failure),
     /// What the promise of the call gets.
     Finish(Finish),
     /// The event was not taken.

@@ -52,6 +52,10 @@ pub enum FailStep {
     WindowShut,
     /// The page aborted the call.
     Aborted,
+    /// The call is active, and has several providers.
+    ActiveMany,
+    /// Two providers of the call have one configuration URL.
+    ProviderTwice,
     /// The reply with the token is refused.
     AssertionReply,
     /// The reply with the token is not shared with the page's origin.
@@ -110,6 +114,8 @@ impl FailStep {
             FailStep::UserCancelled => "user-cancelled",
             FailStep::WindowShut => "window-shut",
             FailStep::Aborted => "aborted",
+            FailStep::ActiveMany => "active-many",
+            FailStep::ProviderTwice => "provider-twice",
             FailStep::AssertionReply => "assertion-reply",
             FailStep::AssertionCors => "assertion-cors",
             FailStep::AssertionShape => "assertion-shape",

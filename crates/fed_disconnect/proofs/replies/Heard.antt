@@ -94,6 +94,7 @@ set_twice stages.Window facts = refl
 set_twice stages.Choosing facts = refl
 set_twice stages.Prompting facts = refl
 set_twice stages.Mismatch facts = refl
+set_twice stages.Gathering facts = refl
 set_twice stages.Asserting facts = refl
 set_twice stages.Ended facts = refl
 

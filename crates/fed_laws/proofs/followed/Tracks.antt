@@ -1,369 +1,448 @@
--- What a call offers since its accounts were accepted.
-use Rattle.fed_call.specs.Accounts.{needs_metadata}
-use Rattle.fed_call.specs.DialogRows.{choice}
-use Rattle.fed_call.specs.Facts.{Facts, metadata_endpoint, with_input, with_choice, at_stage, with_candidate}
-use Rattle.fed_consent.specs.Outcomes.{Outcome, stays}
-use Rattle.fed_consent.specs.Consent.{Candidate, Listed, chosen}
-use Rattle.fed_consent.specs.declared.table.input.Input.{Input}
-use Rattle.fed_origin.specs.declared.stage.ReplyKind.{ReplyKind}
-use Rattle.fed_origin.specs.declared.stage.Stage.{Stage}
-use Rattle.fed_origin.specs.declared.stage.Stage.TheVariants.{Reading, Listing, Mismatch, Window, Choosing, Prompting, Asserting, Ended}
-use Rattle.fed_provider.specs.declared.config.Config.{Config}
-use Rattle.fed_script.specs.declared.event.Event.{Event}
-use Rattle.fed_script.specs.declared.event.Event.TheVariants.{Choose, Reply, Load, ClosePage, Get, At, SetStatus}
-use Rattle.fed_script.specs.declared.event.Header.{Header}
-use Rattle.fed_trace.specs.Begun.{Begun}
-use Rattle.fed_laws.specs.Cause.{FirstChoice, IsReady, chooses, is_metadata}
-use Rattle.fed_trace.specs.OfCall.{call_at}
-use Rattle.fed_trace.specs.Effect.{begins, last_of, begun_by}
-use Rattle.fed_trace.specs.Known.{world_at, input_to, is_begun, facts_at}
-use Rattle.fed_laws.specs.Laws.{at}
-use Rattle.fed_trace.specs.Row.{effects_of, row_of, with_event, IsNew, IsRun}
-use Rattle.fed_trace.specs.Trace.{Row, Trace, begun}
-use Rattle.std.proofs.Common.{◌≡◌, ℕ, Bool, true, false, List, [], ◌∷◌, Option, Some, None, refl, ap, ◌∙◌, ◌||◌}
-use Rattle.std.proofs.Common.{◌≤◌, ◌⊎◌, inl, inr, length}
-use Rattle.std.proofs.Common.{sym, arith, subst, nat_eq, ◌&&◌, ◌++◌, cond}
+-- What a call offers since its providers were settled.
+use Rattle.std.proofs.Common.{◌≡◌, ℕ, Bool, true, false, nat_eq, cond, ◌||◌, ◌&&◌, ◌≤◌, ◌⊎◌, inl, inr, List, [], ◌∷◌, length, map, Option}
+use Rattle.std.proofs.Common.{Some, None}
+use Rattle.std.proofs.Common.{refl, sym, ap, subst, ◌∙◌, arith}
 use Rattle.std.proofs.lemmas.Bool.Decides.{nat_tests}
-use Rattle.std.proofs.lemmas.List.Folds.{list_any-append}
-use Rattle.std.specs.List.{filter_map, list_any}
-use Rattle.std.specs.Option.{option_or}
-use Rattle.std.specs.Prelude.{option_and_then, unwrap_or}
+use Rattle.std.specs.Prelude.{option_map, unwrap_or, is_some, not}
+use Rattle.std.specs.List.{filter_map, find, list_any}
 use Rattle.url.specs.Parts.{Parts}
-use Rattle.fed_consent.specs.declared.table.input.Input.TheVariants as inputs
+use Rattle.fed_origin.specs.declared.stage.ReplyKind.{ReplyKind}
 use Rattle.fed_origin.specs.declared.stage.ReplyKind.TheVariants as kinds
+use Rattle.fed_origin.specs.declared.stage.Stage.{Stage}
+use Rattle.fed_origin.specs.declared.stage.Stage.TheVariants.{Reading, Listing, Gathering, Mismatch, Window, Choosing, Prompting}
+use Rattle.fed_origin.specs.declared.stage.Stage.TheVariants.{Asserting, Ended}
+use Rattle.fed_provider.specs.declared.config.Config.{Config}
+use Rattle.fed_status.specs.Shared.{World}
+use Rattle.fed_consent.specs.declared.table.finish.Finish.{Finish}
+use Rattle.fed_consent.specs.declared.table.input.Input.{Input}
+use Rattle.fed_consent.specs.declared.table.input.Input.TheVariants as inputs
+use Rattle.fed_consent.specs.Consent.{Choices, Pick, chosen, is_pick, picks}
+use Rattle.fed_consent.specs.Outcomes.{Outcome}
+use Rattle.fed_call.specs.Accounts.{Offered, needs_metadata}
+use Rattle.fed_call.specs.AssertingRows.{pick_of, picked_at}
+use Rattle.fed_call.specs.DialogRows.{metadata_reply}
+use Rattle.fed_call.specs.Facts.{Facts, at_stage, with_choice, with_input, with_picked}
+use Rattle.fed_call.specs.Row.{stage_reply}
+use Rattle.fed_script.specs.declared.event.Event.{Event}
 use Rattle.fed_script.specs.declared.event.Event.TheVariants as events
-use Rattle.std.proofs.lemmas.List.Folds.{list_any-append}
-use Rattle.fed_laws.proofs.causes.Cause.{chosen_id}
-use Rattle.fed_laws.proofs.causes.Caused.{chooses_no_account}
-use Rattle.fed_laws.proofs.turns.Config.{told}
-use Rattle.fed_laws.proofs.causes.Dialog.{one_provider}
-use Rattle.fed_trace.proofs.happens.Ends.{Happens, Left, Ends, Started, Took, Resumed, event_for}
+use Rattle.fed_script.specs.declared.event.Event.TheVariants.{Choose}
+use Rattle.fed_trace.specs.Known.{world_at, input_to, is_begun, facts_at}
+use Rattle.fed_trace.specs.OfCall.{asked, disturbs, is_result, replaces}
+use Rattle.fed_trace.specs.Effect.{call_change}
+use Rattle.fed_trace.specs.Row.{effects_of, row_of, with_event, IsNew}
+use Rattle.fed_trace.specs.Trace.{Row, Trace, pending}
+use Rattle.fed_trace.proofs.keyed.Keyed.{distinct_standing, lookup-standing}
+use Rattle.fed_trace.proofs.happens.Ends.{Happens, Left, Ends, Started, Took, Resumed, EndsWithPage, event_for}
+use Rattle.fed_trace.proofs.happens.First as starts
+use Rattle.fed_trace.proofs.happens.Gets.{facts_same}
 use Rattle.fed_trace.proofs.happens.Happens.{happens}
-use Rattle.fed_laws.proofs.turns.Open.{metadata_ready}
-use Rattle.fed_trace.proofs.happens.First.{is_first}
-use Rattle.fed_trace.proofs.happens.Gets.{takes_begins}
-use Rattle.fed_laws.proofs.pending.Stood.{Stood}
+use Rattle.fed_trace.proofs.happens.Says.{own, finish_of}
 use Rattle.fed_trace.proofs.happens.Taken.{Meets, facts_taken, outcome_of}
-use Rattle.fed_laws.proofs.turns.Way.{ChoosesNone, Elsewhere, OffersMany, OffersOne, Picks, Readies, TakesChoice, TakesMetadata, Unmoved}
-use Rattle.fed_laws.proofs.turns.Way.{Way, is_open}
-use Rattle.fed_laws.proofs.turns.Only.{first_place, only_there}
-
--- ---- how a call began does not change
-
-begins_once : (T : Trace) (event : Event) (call : ℕ) → IsNew T.rows event → is_begun T call ≡ true
-    → last_of (begins call) (effects_of T event) ≡ None
-begins_once T event call new begun = go (happens T event call)
-  where
-    go : Happens T event call → last_of (begins call) (effects_of T event) ≡ None
-    go (Left l) = l.quiet.begins_none
-    go (Ends e) = e.begins_none
-    go (Started s) =
-        let fresh : is_begun T call ≡ false =
-        subst (λ c. is_begun T c ≡ false) s.is_call (is_first T event s.begun.page s.begun.call s.begun.options new s.is_event).fresh in
-        let no : true ≡ false = sym begun ∙ fresh in
-        absurd (cc)
-    go (Took t) = takes_begins T event call call t
-    go (Resumed r) = r.begins_none
-
-begun_row : (header : Header) (row : Row) (rows : List Row) (call : ℕ) → list_any (nat_eq call) (begun rows) ≡ true
-    → list_any (nat_eq call) (begun (row ∷ rows)) ≡ true
-begun_row header row rows call is =
-    list_any-append (nat_eq call) (begun rows) (filter_map begun_by row.effects)
-    ∙ ap (λ b. b || list_any (nat_eq call) (filter_map begun_by row.effects)) is
-
-pub begun_on : (header : Header) (since rows : List Row) (call : ℕ) → list_any (nat_eq call) (begun rows) ≡ true
-    → list_any (nat_eq call) (begun (since ++ rows)) ≡ true
-begun_on header [] rows call is = is
-begun_on header (row ∷ since) rows call is = begun_row header row (since ++ rows) call (begun_on header since rows call is)
-
--- how it began is what it was before the rows
-pub began_before : (header : Header) (since rows : List Row) (call : ℕ) (o : Option Begun) → IsRun header (since ++ rows)
-    → list_any (nat_eq call) (begun rows) ≡ true
-    → call_at (since ++ rows) call ≡ o → call_at rows call ≡ o
-began_before header [] rows call o run begun is = is
-began_before header (row ∷ since) rows call o run begun is =
-    let T : Trace = record { header = header; rows = since ++ rows } in
-    let none : last_of (begins call) row.effects ≡ None =
-    ap (last_of (begins call)) run.0 ∙ begins_once T row.event call run.1 (begun_on header since rows call begun) in
-    began_before header since rows call o run.2 begun (sym (ap (λ x. option_or x (call_at (since ++ rows) call)) none) ∙ is)
-
--- ---- what a call offers since a reply
+use Rattle.fed_laws.specs.Cause.{FirstChoice, IsReady, chooses, is_metadata}
+use Rattle.fed_laws.proofs.pending.Resumed.{stage_resumed}
+use Rattle.fed_laws.proofs.pending.Stood.{Invariant, Stood, get_at}
+use Rattle.fed_laws.proofs.pending.Taken.{asks_at, gives_at}
+use Rattle.fed_laws.proofs.causes.Cause.{choice_on, left_unsaid, unsaid_chooses}
+use Rattle.fed_laws.proofs.causes.Known.{found_names}
+use Rattle.fed_laws.proofs.followed.Itself.{some_none}
+use Rattle.fed_laws.proofs.tokens.Answered.{listed_page, not_both, result_disturbs}
+use Rattle.fed_laws.proofs.turns.Settle.{found_chosen}
+use Rattle.fed_laws.proofs.turns.Turn.{Turn, Asks, Gives, Goes, told, turn_at}
+use Rattle.fed_laws.proofs.turns.Way.{ChoosesNone, Elsewhere, First, Hearing, Picks, Readies, Settling, TakesChoice, TakesMetadata}
+use Rattle.fed_laws.proofs.turns.Way.{Unmoved, Way}
+use Rattle.fed_laws.proofs.turns.Way.{is_first, is_live, way_at}
 
 -- how the account of a prompt came to be the one, and when it waits for nothing
-pub data How (waits : Bool) (config : Option Config) (call : ℕ) (candidate : Candidate) (listed : Listed) (since : List Row) : Type 0 where
-  AsOnly : listed.accounts ≡ candidate.account ∷ []
-      → ((candidate.connected ≡ true) ⊎ IsReady call 0 config since → waits ≡ false)
-      → How waits config call candidate listed since
-  AsChosen : (choice : FirstChoice call 0 candidate.account.id listed since) → (IsReady call 0 config choice.after → waits ≡ false)
-      → How waits config call candidate listed since
+pub data How (waits : Bool) (call : ℕ) (o : Offered) (pick : Pick) (choices : Choices) (since : List Row) : Type 0 where
+  AsOnly : picks choices ≡ pick ∷ []
+      → ((o.candidate.connected ≡ true) ⊎ IsReady call o.place o.config since → waits ≡ false)
+      → How waits call o pick choices since
+  AsChosen : (choice : FirstChoice o.place o.candidate.account.id choices since)
+      → (IsReady call o.place o.config choice.after → waits ≡ false)
+      → How waits call o pick choices since
 
-pub data Offering (f : Facts) (call : ℕ) (listed : Listed) (since : List Row) : Type 0 where
-  ToChoose : f.stage ≡ Choosing → f.listed ≡ Some listed → 2 ≤ length listed.accounts
-      → list_any (λ row. chooses call 0 listed row.event) since ≡ false
-      → Offering f call listed since
-  ToGoOn : (candidate : Candidate) → f.stage ≡ Prompting → f.picked ≡ Some candidate → chosen candidate.account.id listed ≡ Some candidate
-      → How f.waits f.config call candidate listed since → Offering f call listed since
+pub data Offering (f : Facts) (call : ℕ) (choices : Choices) (since : List Row) : Type 0 where
+  ToChoose : f.stage ≡ Choosing → picks choices ≡ map (pick_of f) f.offered → 2 ≤ length (picks choices)
+      → list_any (λ row. chooses choices row.event) since ≡ false
+      → Offering f call choices since
+  ToGoOn : (o : Offered) → f.stage ≡ Prompting → f.picked ≡ Some o
+      → chosen o.place o.candidate.account.id choices ≡ Some (pick_of f o)
+      → How f.waits call o (pick_of f o) choices since → Offering f call choices since
 
-pub record Tracks (T : Trace) (call page : ℕ) (listed : Listed) (since : List Row) : Type 0 where
+pub record Tracks (T : Trace) (call page : ℕ) (choices : Choices) (since : List Row) : Type 0 where
   pub facts : Facts
   pub found : facts_at T call ≡ Some facts
   pub of_page : facts.page ≡ page
-  pub offering : Offering facts call listed since
+  pub of_choices : choices.call ≡ call
+  pub offering : Offering facts call choices since
 
 -- ---- one row more
 
-less_ready : (call : ℕ) (config : Option Config) (row : Row) (since : List Row) → is_metadata call 0 row.event ≡ false
-    → IsReady call 0 config (row ∷ since) → IsReady call 0 config since
-less_ready call config row since none (inl without) = inl without
-less_ready call config row since none (inr came) = inr (sym (ap (λ b. b || list_any (λ r. is_metadata call 0 r.event) since) none) ∙ came)
+less_ready : (call place : ℕ) (config : Config) (row : Row) (since : List Row) → is_metadata call place row.event ≡ false
+    → IsReady call place config (row ∷ since) → IsReady call place config since
+less_ready call place config row since none (inl without) = inl without
+less_ready call place config row since none (inr came) =
+    inr (sym (ap (λ b. b || list_any (λ r. is_metadata call place r.event) since) none) ∙ came)
 
-longer : (call : ℕ) (id : List ℕ) (listed : Listed) (row : Row) (since : List Row) → FirstChoice call 0 id listed since
-    → FirstChoice call 0 id listed (row ∷ since)
-longer call id listed row since c =
-    record {
-      several = c.several;
-      after = row ∷ c.after;
-      choice = c.choice;
-      waiting = c.waiting;
-      rows = ap (λ rs. row ∷ rs) c.rows;
-      event = c.event;
-      first = c.first;
-    }
+how_ready : (waits : Bool) (call : ℕ) (o : Offered) (pick : Pick) (choices : Choices) (row : Row) (since : List Row) (w : Bool)
+    → waits ≡ false → How w call o pick choices since → How waits call o pick choices (row ∷ since)
+how_ready waits call o pick choices row since w ready (AsOnly one when) = AsOnly one (λ r. ready)
+how_ready waits call o pick choices row since w ready (AsChosen choice when) =
+    AsChosen (choice_on o.place o.candidate.account.id choices row since choice) (λ r. ready)
 
-how_ready : (waits : Bool) (config : Option Config) (call : ℕ) (candidate : Candidate) (listed : Listed) (row : Row) (since : List Row)
-    (w : Bool) → waits ≡ false
-    → How w config call candidate listed since → How waits config call candidate listed (row ∷ since)
-unfolding longer
-how_ready waits config call candidate listed row since w ready (AsOnly one when) = AsOnly one (λ r. ready)
-how_ready waits config call candidate listed row since w ready (AsChosen choice when) =
-    AsChosen (longer call candidate.account.id listed row since choice) (λ r. ready)
-
-how_quiet : (waits : Bool) (config : Option Config) (call : ℕ) (candidate : Candidate) (listed : Listed) (row : Row) (since : List Row)
-    → is_metadata call 0 row.event ≡ false
-    → How waits config call candidate listed since → How waits config call candidate listed (row ∷ since)
-unfolding longer
-how_quiet waits config call candidate listed row since none (AsOnly one when) = AsOnly one (λ r. when (less r))
+how_quiet : (waits : Bool) (call : ℕ) (o : Offered) (pick : Pick) (choices : Choices) (row : Row) (since : List Row)
+    → is_metadata call o.place row.event ≡ false
+    → How waits call o pick choices since → How waits call o pick choices (row ∷ since)
+unfolding choice_on
+how_quiet waits call o pick choices row since none (AsOnly one when) = AsOnly one (λ r. when (less r))
   where
-    less : (candidate.connected ≡ true) ⊎ IsReady call 0 config (row ∷ since) → (candidate.connected ≡ true) ⊎ IsReady call 0 config since
+    less : (o.candidate.connected ≡ true) ⊎ IsReady call o.place o.config (row ∷ since)
+        → (o.candidate.connected ≡ true) ⊎ IsReady call o.place o.config since
     less (inl connected) = inl connected
-    less (inr r) = inr (less_ready call config row since none r)
-how_quiet waits config call candidate listed row since none (AsChosen choice when) =
-    AsChosen (longer call candidate.account.id listed row since choice) (λ r. when (less_ready call config row choice.after none r))
+    less (inr r) = inr (less_ready call o.place o.config row since none r)
+how_quiet waits call o pick choices row since none (AsChosen choice when) =
+    AsChosen (choice_on o.place o.candidate.account.id choices row since choice)
+    (λ r. when (less_ready call o.place o.config row choice.after none r))
 
-how_on : (waits : Bool) (config : Option Config) (call : ℕ) (candidate : Candidate) (listed : Listed) (row : Row) (since : List Row)
-    → (is_metadata call 0 row.event ≡ true → waits ≡ false) → How waits config call candidate listed since
-    → How waits config call candidate listed (row ∷ since)
-how_on waits config call candidate listed row since ready how = go (is_metadata call 0 row.event) refl
+how_on : (waits : Bool) (call : ℕ) (o : Offered) (pick : Pick) (choices : Choices) (row : Row) (since : List Row)
+    → (is_metadata call o.place row.event ≡ true → waits ≡ false) → How waits call o pick choices since
+    → How waits call o pick choices (row ∷ since)
+how_on waits call o pick choices row since ready how = go (is_metadata call o.place row.event) refl
   where
-    go : (b : Bool) → is_metadata call 0 row.event ≡ b → How waits config call candidate listed (row ∷ since)
-    go true is = how_ready waits config call candidate listed row since waits (ready is) how
-    go false is = how_quiet waits config call candidate listed row since is how
+    go : (b : Bool) → is_metadata call o.place row.event ≡ b → How waits call o pick choices (row ∷ since)
+    go true is = how_ready waits call o pick choices row since waits (ready is) how
+    go false is = how_quiet waits call o pick choices row since is how
 
 -- the call stays as it was
-pub offering_on : (f : Facts) (call : ℕ) (listed : Listed) (row : Row) (since : List Row)
-    → (f.stage ≡ Choosing → f.listed ≡ Some listed → chooses call 0 listed row.event ≡ false)
-    → (f.stage ≡ Prompting → is_metadata call 0 row.event ≡ true → f.waits ≡ false) → Offering f call listed since
-    → Offering f call listed (row ∷ since)
-offering_on f call listed row since none ready (ToChoose at lists two unchosen) =
-    ToChoose at lists two (ap (λ b. b || list_any (λ r. chooses call 0 listed r.event) since) (none at lists) ∙ unchosen)
-offering_on f call listed row since none ready (ToGoOn candidate at picks is how) =
-    ToGoOn candidate at picks is (how_on f.waits f.config call candidate listed row since (ready at) how)
+offering_on : (f : Facts) (call : ℕ) (choices : Choices) (row : Row) (since : List Row)
+    → (f.stage ≡ Choosing → picks choices ≡ map (pick_of f) f.offered → chooses choices row.event ≡ false)
+    → ((o : Offered) → f.stage ≡ Prompting → f.picked ≡ Some o → is_metadata call o.place row.event ≡ true → f.waits ≡ false)
+    → Offering f call choices since
+    → Offering f call choices (row ∷ since)
+offering_on f call choices row since none ready (ToChoose at offers two unchosen) =
+    ToChoose at offers two (ap (λ b. b || list_any (λ r. chooses choices r.event) since) (none at offers) ∙ unchosen)
+offering_on f call choices row since none ready (ToGoOn o at picked is how) =
+    ToGoOn o at picked is (how_on f.waits call o (pick_of f o) choices row since (ready o at picked) how)
 
-pub unsaid_metadata : (event : Event) (call : ℕ) → input_to call event ≡ None → is_metadata call 0 event ≡ false
-unsaid_metadata (events.Reply c place kind raw) call none = go (nat_eq call c) refl kind
+unsaid_metadata : (event : Event) (call place : ℕ) → input_to call event ≡ None → is_metadata call place event ≡ false
+unsaid_metadata (events.Reply c p kind raw) call place none = go (nat_eq call c) refl kind
   where
-    go : (b : Bool) → nat_eq call c ≡ b → (kind : ReplyKind) → is_metadata call 0 (events.Reply c place kind raw) ≡ false
-    go false is kinds.Metadata = ap (λ t. t && nat_eq 0 place) is
+    go : (b : Bool) → nat_eq call c ≡ b → (kind : ReplyKind) → is_metadata call place (events.Reply c p kind raw) ≡ false
+    go false is kinds.Metadata = ap (λ t. t && nat_eq place p) is
     go true is kinds.Metadata =
-        let no : Some (inputs.Reply place kind raw) ≡ None = sym (ap (λ t. cond t (Some (inputs.Reply place kind raw)) None) is) ∙ none in
+        let no : Some (inputs.Reply p kind raw) ≡ None = sym (ap (λ t. cond t (Some (inputs.Reply p kind raw)) None) is) ∙ none in
         absurd (cc)
     go b is kinds.WellKnown = refl
     go b is kinds.Config = refl
     go b is kinds.Accounts = refl
     go b is kinds.Assertion = refl
     go b is kinds.Disconnect = refl
-unsaid_metadata (events.Have have) call none = refl
-unsaid_metadata (events.At time) call none = refl
-unsaid_metadata (events.Load page url raw) call none = refl
-unsaid_metadata (events.ClosePage page) call none = refl
-unsaid_metadata (events.Get page c options) call none = refl
-unsaid_metadata (events.Abort c) call none = refl
-unsaid_metadata (events.Choose c place id) call none = refl
-unsaid_metadata (events.GoOn c) call none = refl
-unsaid_metadata (events.Cancel c) call none = refl
-unsaid_metadata (events.SignIn c) call none = refl
-unsaid_metadata (events.ShutWindow c) call none = refl
-unsaid_metadata (events.IdpClose page) call none = refl
-unsaid_metadata (events.Prevent page) call none = refl
-unsaid_metadata (events.SetStatus page status) call none = refl
-unsaid_metadata (events.Disconnect page c config client hint) call none = refl
+unsaid_metadata (events.Have have) call place none = refl
+unsaid_metadata (events.At time) call place none = refl
+unsaid_metadata (events.Load page url raw) call place none = refl
+unsaid_metadata (events.ClosePage page) call place none = refl
+unsaid_metadata (events.Get page c options) call place none = refl
+unsaid_metadata (events.Abort c) call place none = refl
+unsaid_metadata (events.Choose c p id) call place none = refl
+unsaid_metadata (events.GoOn c) call place none = refl
+unsaid_metadata (events.Cancel c) call place none = refl
+unsaid_metadata (events.SignIn c) call place none = refl
+unsaid_metadata (events.ShutWindow c) call place none = refl
+unsaid_metadata (events.IdpClose page) call place none = refl
+unsaid_metadata (events.Prevent page) call place none = refl
+unsaid_metadata (events.SetStatus page status) call place none = refl
+unsaid_metadata (events.Disconnect page c config client hint) call place none = refl
 
 -- a metadata reply for the call leaves no prompt that waits
-ready_by_reply : (T : Trace) (event : Event) (call : ℕ) (f : Facts) (input : Input) → Some event ≡ event_for call input
-    → length f.options.providers ≡ 1 → f.stage ≡ Prompting
-    → told (world_at T) f input (outcome_of T f input) ≡ f → is_metadata call 0 event ≡ true → f.waits ≡ false
-ready_by_reply T event call f (inputs.Reply place kind raw) is one at same came = go kind refl
+ready_reply : (world : World) (f : Facts) (o : Offered) (raw : List ℕ) → f.picked ≡ Some o → (waits : Bool) → f.waits ≡ waits
+    → told world f (inputs.Reply o.place kinds.Metadata raw) (metadata_reply world f waits (picked_at o.place f.picked) raw) ≡ f
+    → f.waits ≡ false
+ready_reply world f o raw picked false is same = is
+ready_reply world f o raw picked true is same =
+    ap (λ g. g.waits) (sym (sym (ap (λ x. told world f (inputs.Reply o.place kinds.Metadata raw)
+    (metadata_reply world f true x raw)) here) ∙ same))
+  where
+    here : picked_at o.place f.picked ≡ Some o
+    here = ap (picked_at o.place) picked ∙ ap (λ b. cond b (Some o) None) (own o.place)
+
+ready_by_reply : (T : Trace) (event : Event) (call : ℕ) (f : Facts) (o : Offered) (input : Input) → Some event ≡ event_for call input
+    → f.stage ≡ Prompting → f.picked ≡ Some o
+    → told (world_at T) f input (outcome_of T f input) ≡ f → is_metadata call o.place event ≡ true → f.waits ≡ false
+ready_by_reply T event call f o (inputs.Reply place kind raw) is at picked same came = go kind refl
   where
     reply : event ≡ events.Reply call place kind raw
     reply = cc
 
-    place_is : (kind ≡ kinds.Metadata) → place ≡ 0
+    place_is : kind ≡ kinds.Metadata → place ≡ o.place
     place_is k =
-        let both : nat_eq call call && nat_eq 0 place ≡ true =
-        sym (ap (is_metadata call 0) reply ∙ ap (λ x. is_metadata call 0 (events.Reply call place x raw)) k) ∙ came in
+        let both : nat_eq call call && nat_eq o.place place ≡ true =
+        sym (ap (is_metadata call o.place) reply ∙ ap (λ x. is_metadata call o.place (events.Reply call place x raw)) k) ∙ came in
         grind (arith, nat_tests, both)
 
-    other : (x : ReplyKind) → kind ≡ x → is_metadata call 0 (events.Reply call place x raw) ≡ false → f.waits ≡ false
+    other : (x : ReplyKind) → kind ≡ x → is_metadata call o.place (events.Reply call place x raw) ≡ false → f.waits ≡ false
     other x k none =
         let no : false ≡ true =
-        sym none ∙ sym (ap (is_metadata call 0) reply ∙ ap (λ y. is_metadata call 0 (events.Reply call place y raw)) k) ∙ came in
+        sym none ∙ sym (ap (is_metadata call o.place) reply ∙ ap (λ y. is_metadata call o.place (events.Reply call place y raw)) k)
+        ∙ came in
         absurd (cc)
 
     go : (x : ReplyKind) → kind ≡ x → f.waits ≡ false
     go kinds.Metadata k =
-        let only = only_there f.options.providers one in
-        ap (λ g. g.waits) (sym same)
-        ∙ ap (λ x. (told (world_at T) f (inputs.Reply place x raw) (outcome_of T f (inputs.Reply place x raw))).waits) k
-        ∙ ap (λ p. (told (world_at T) f (inputs.Reply p kinds.Metadata raw) (outcome_of T f (inputs.Reply p kinds.Metadata raw))).waits)
+        let here = subst (λ p. told (world_at T) f (inputs.Reply p kinds.Metadata raw) (outcome_of T f
+        (inputs.Reply p kinds.Metadata raw)) ≡ f)
         (place_is k)
-        ∙ metadata_ready (world_at T) f raw only.0 at only.1
+        (subst (λ x. told (world_at T) f (inputs.Reply place x raw) (outcome_of T f (inputs.Reply place x raw)) ≡ f) k same) in
+        ready_reply (world_at T) f o raw picked f.waits refl
+        (subst (λ st. told (world_at T) f (inputs.Reply o.place kinds.Metadata raw) (stage_reply
+        (world_at T) f st o.place kinds.Metadata raw) ≡ f)
+        at here)
     go kinds.WellKnown k = other kinds.WellKnown k refl
     go kinds.Config k = other kinds.Config k refl
     go kinds.Accounts k = other kinds.Accounts k refl
     go kinds.Assertion k = other kinds.Assertion k refl
     go kinds.Disconnect k = other kinds.Disconnect k refl
-ready_by_reply T event call f (inputs.Choose place id) is one at same came =
-    let k : event ≡ events.Choose call place id = cc in let no : false ≡ true = ap (is_metadata call 0) (sym k) ∙ came in absurd (cc)
-ready_by_reply T event call f inputs.GoOn is one at same came =
-    let k : event ≡ events.GoOn call = cc in let no : false ≡ true = ap (is_metadata call 0) (sym k) ∙ came in absurd (cc)
-ready_by_reply T event call f inputs.Cancel is one at same came =
-    let k : event ≡ events.Cancel call = cc in let no : false ≡ true = ap (is_metadata call 0) (sym k) ∙ came in absurd (cc)
-ready_by_reply T event call f inputs.Abort is one at same came =
-    let k : event ≡ events.Abort call = cc in let no : false ≡ true = ap (is_metadata call 0) (sym k) ∙ came in absurd (cc)
-ready_by_reply T event call f inputs.SignIn is one at same came =
-    let k : event ≡ events.SignIn call = cc in let no : false ≡ true = ap (is_metadata call 0) (sym k) ∙ came in absurd (cc)
-ready_by_reply T event call f inputs.Shut is one at same came =
-    let k : event ≡ events.ShutWindow call = cc in let no : false ≡ true = ap (is_metadata call 0) (sym k) ∙ came in absurd (cc)
-ready_by_reply T event call f inputs.Resume is one at same came = let no : Some event ≡ None = is in absurd (cc)
+ready_by_reply T event call f o (inputs.Choose place id) is at picked same came =
+    let k : event ≡ events.Choose call place id = cc in let no : false ≡ true = ap (is_metadata call o.place) (sym k) ∙ came in absurd (cc)
+ready_by_reply T event call f o inputs.GoOn is at picked same came =
+    let k : event ≡ events.GoOn call = cc in let no : false ≡ true = ap (is_metadata call o.place) (sym k) ∙ came in absurd (cc)
+ready_by_reply T event call f o inputs.Cancel is at picked same came =
+    let k : event ≡ events.Cancel call = cc in let no : false ≡ true = ap (is_metadata call o.place) (sym k) ∙ came in absurd (cc)
+ready_by_reply T event call f o inputs.Abort is at picked same came =
+    let k : event ≡ events.Abort call = cc in let no : false ≡ true = ap (is_metadata call o.place) (sym k) ∙ came in absurd (cc)
+ready_by_reply T event call f o inputs.SignIn is at picked same came =
+    let k : event ≡ events.SignIn call = cc in let no : false ≡ true = ap (is_metadata call o.place) (sym k) ∙ came in absurd (cc)
+ready_by_reply T event call f o inputs.Shut is at picked same came =
+    let k : event ≡ events.ShutWindow call = cc in let no : false ≡ true = ap (is_metadata call o.place) (sym k) ∙ came in absurd (cc)
+ready_by_reply T event call f o inputs.Resume is at picked same came = let no : Some event ≡ None = is in absurd (cc)
 
-pub needs_back : (connected : Bool) (endpoint : Option Parts) → endpoint ≡ None → needs_metadata connected endpoint ≡ false
-needs_back true endpoint h = refl
-needs_back false None h = refl
-needs_back false (Some to) h = absurd (cc)
-
-pub is_open_at : (f : Facts) (call : ℕ) (listed : Listed) (since : List Row) → Offering f call listed since → is_open f.stage ≡ true
-is_open_at f call listed since (ToChoose at lists two unchosen) = ap is_open at
-is_open_at f call listed since (ToGoOn candidate at picks is how) = ap is_open at
-
-same_at : (f : Facts) → is_open f.stage ≡ true → at_stage f.stage f ≡ Some f
-same_at f opened = go f.stage refl
+-- an input that chooses none of the accounts is no choice of one
+chooses_no_account : (event : Event) (call : ℕ) (f : Facts) (input : Input) (choices : Choices) → Some event ≡ event_for call input
+    → picks choices ≡ map (pick_of f) f.offered → ChoosesNone f input → chooses choices event ≡ false
+chooses_no_account event call f (inputs.Choose place id) choices is offers none =
+    let chose : event ≡ Choose call place id = cc in
+    ap (chooses choices) chose
+    ∙ ap (λ x. nat_eq choices.call call && is_some x)
+    (ap (find (is_pick place id)) offers ∙ found_chosen f place id f.offered ∙ ap (option_map (pick_of f)) (none place id refl))
+    ∙ and_false (nat_eq choices.call call)
   where
-    go : (stage : Stage) → f.stage ≡ stage → at_stage f.stage f ≡ Some f
-    go Choosing at = ap (λ st. at_stage st f) at ∙ ap (λ st. let g : Facts = record f { stage = st } in Some g) (sym at)
-    go Prompting at = ap (λ st. at_stage st f) at ∙ ap (λ st. let g : Facts = record f { stage = st } in Some g) (sym at)
-    go Reading at = let no : false ≡ true = ap is_open (sym at) ∙ opened in absurd (cc)
-    go Listing at = let no : false ≡ true = ap is_open (sym at) ∙ opened in absurd (cc)
-    go Mismatch at = let no : false ≡ true = ap is_open (sym at) ∙ opened in absurd (cc)
-    go Window at = let no : false ≡ true = ap is_open (sym at) ∙ opened in absurd (cc)
-    go Asserting at = let no : false ≡ true = ap is_open (sym at) ∙ opened in absurd (cc)
-    go Ended at = let no : false ≡ true = ap is_open (sym at) ∙ opened in absurd (cc)
+    and_false : (b : Bool) → b && false ≡ false
+    and_false true = refl
+    and_false false = refl
+chooses_no_account event call f (inputs.Reply place kind raw) choices is offers none =
+    let came : event ≡ events.Reply call place kind raw = cc in ap (chooses choices) came
+chooses_no_account event call f inputs.GoOn choices is offers none = let came : event ≡ events.GoOn call = cc in ap (chooses choices) came
+chooses_no_account event call f inputs.Cancel choices is offers none = let came : event
+    ≡ events.Cancel call = cc in ap (chooses choices) came
+chooses_no_account event call f inputs.Abort choices is offers none = let came : event ≡ events.Abort call = cc in ap (chooses choices) came
+chooses_no_account event call f inputs.SignIn choices is offers none = let came : event
+    ≡ events.SignIn call = cc in ap (chooses choices) came
+chooses_no_account event call f inputs.Shut choices is offers none = let came : event
+    ≡ events.ShutWindow call = cc in ap (chooses choices) came
+chooses_no_account event call f inputs.Resume choices is offers none = let no : Some event ≡ None = is in absurd (cc)
 
--- after an input
-pub tracks_taken : (T : Trace) (line : ℕ) (event : Event) (call page : ℕ) (listed : Listed) (since : List Row)
-    (k : Tracks T call page listed since)
-    → (m : Meets T event call k.facts) → Stood T call k.facts
-    → Way (world_at T) k.facts m.takes.input (outcome_of T k.facts m.takes.input)
-    → is_open (unwrap_or (outcome_of T k.facts m.takes.input).stage k.facts.stage) ≡ true
-    → Tracks (with_event T line event) call page listed (row_of T line event ∷ since)
-tracks_taken T line event call page listed since k m s way stays = go way k.offering
+pub needs_back : (connected : Bool) (endpoint : Option Parts) → (connected ≡ true) ⊎ (endpoint ≡ None)
+    → needs_metadata connected endpoint ≡ false
+needs_back true endpoint h = refl
+needs_back false endpoint (inl connected) = absurd (cc)
+needs_back false None (inr h) = refl
+needs_back false (Some to) (inr h) = absurd (cc)
+
+-- ---- at a dialog
+
+at_dialog : (f : Facts) (call : ℕ) (choices : Choices) (since : List Row) → Offering f call choices since
+    → (f.stage ≡ Choosing) ⊎ (f.stage ≡ Prompting)
+at_dialog f call choices since (ToChoose at offers two unchosen) = inl at
+at_dialog f call choices since (ToGoOn o at picked is how) = inr at
+
+not_so : {A : Type 0} (P : Stage → Bool) (f : Facts) (b : Bool) → P Choosing ≡ b → P Prompting ≡ b
+    → (f.stage ≡ Choosing) ⊎ (f.stage ≡ Prompting) → P f.stage ≡ not b → A
+not_so P f true c p (inl at) h = let no : true ≡ false = sym c ∙ ap P (sym at) ∙ h in absurd (cc)
+not_so P f true c p (inr at) h = let no : true ≡ false = sym p ∙ ap P (sym at) ∙ h in absurd (cc)
+not_so P f false c p (inl at) h = let no : false ≡ true = sym c ∙ ap P (sym at) ∙ h in absurd (cc)
+not_so P f false c p (inr at) h = let no : false ≡ true = sym p ∙ ap P (sym at) ∙ h in absurd (cc)
+
+dead_is : (stage : Stage) → is_live stage ≡ false → (stage ≡ Asserting) ⊎ (stage ≡ Ended)
+dead_is Asserting h = inl refl
+dead_is Ended h = inr refl
+dead_is Reading h = absurd (cc)
+dead_is Listing h = absurd (cc)
+dead_is Gathering h = absurd (cc)
+dead_is Mismatch h = absurd (cc)
+dead_is Window h = absurd (cc)
+dead_is Choosing h = absurd (cc)
+dead_is Prompting h = absurd (cc)
+
+-- ---- an input
+
+module _ (T : Trace) (line : ℕ) (event : Event) (call page : ℕ) (choices : Choices) (since : List Row)
+    (k : Tracks T call page choices since)
+    (calm : disturbs call page (row_of T line event) ≡ false) (quiet : filter_map (asked call) (effects_of T event) ≡ [])
+    (m : Meets T event call k.facts) where
+  abbrev f : Facts
+  f = k.facts
+
+  abbrev Next : Type 0
+  Next = Tracks (with_event T line event) call page choices (row_of T line event ∷ since)
+
+  dialog : (f.stage ≡ Choosing) ⊎ (f.stage ≡ Prompting)
+  dialog = at_dialog f call choices since k.offering
+
+  abbrev o : Outcome
+  o = outcome_of T f m.takes.input
+
+  abbrev told_now : Facts
+  told_now = told (world_at T) f m.takes.input o
+
+  picks_one : (t : TakesChoice f m.takes.input o) → o.stage ≡ Some Prompting → picks choices ≡ map (pick_of f) f.offered
+      → 2 ≤ length (picks choices) → list_any (λ row. chooses choices row.event) since ≡ false → Next
+  unfolding choice_on
+  picks_one t to offers two unchosen =
+      let names = found_names t.place t.id f.offered t.offered t.is in
+      let came : Some event ≡ Some (Choose call t.place t.id) = m.takes.is_event ∙ ap (event_for call) t.is_choice in
+      let chose : event ≡ Choose call t.place t.id = cc in
+      let told_is : told_now ≡ with_picked t.offered f =
+      ap (λ b. with_input (world_at T) b m.takes.input f) t.taken ∙ ap (λ i. with_input (world_at T) false i f) t.is_choice
+      ∙ ap (λ x. with_choice x f) t.is in
+      record {
+        facts = record (with_picked t.offered f) { stage = Prompting };
+        found =
+            facts_taken T line event call f m ∙ ap (λ st. at_stage (unwrap_or st f.stage) told_now) to ∙ ap (at_stage Prompting) told_is;
+        of_page = k.of_page;
+        of_choices = k.of_choices;
+        offering = ToGoOn t.offered refl refl
+            (ap (λ p. chosen p t.offered.candidate.account.id choices) (sym names.place_is) ∙ ap (λ i. chosen t.place i choices) names.id_is
+            ∙ ap (find (is_pick t.place t.id)) offers ∙ found_chosen f t.place t.id f.offered ∙ ap (option_map (pick_of f)) t.is)
+            (AsChosen
+            (record {
+              several = two;
+              after = [];
+              choice = row_of T line event;
+              waiting = since;
+              rows = refl;
+              event = chose ∙ ap (λ c. Choose c t.place t.id) (sym k.of_choices) ∙ ap (λ p. Choose choices.call p t.id) names.place_is
+                  ∙ ap (λ i. Choose choices.call t.offered.place i) (sym names.id_is);
+              first = unchosen;
+            })
+            (λ r. back t.offered r));
+      }
+    where
+      back : (x : Offered) → IsReady call x.place x.config [] → needs_metadata x.candidate.connected x.config.metadata ≡ false
+      back x (inl none) = needs_back x.candidate.connected x.config.metadata (inr none)
+      back x (inr came) = absurd (cc)
+
+  readied : (t : TakesMetadata f m.takes.input o) → unwrap_or o.stage f.stage ≡ Prompting → (x : Offered)
+      → f.picked ≡ Some x → chosen x.place x.candidate.account.id choices ≡ Some (pick_of f x)
+      → How f.waits call x (pick_of f x) choices since → Next
+  readied t to x picked is how =
+      let told_is : told_now ≡ record f { waits = false } =
+      ap (λ b. with_input (world_at T) b m.takes.input f) t.taken ∙ ap (λ i. with_input (world_at T) false i f) t.is_reply in
+      record {
+        facts = record f { waits = false; stage = Prompting };
+        found = facts_taken T line event call f m ∙ ap (λ st. at_stage st told_now) to ∙ ap (at_stage Prompting) told_is;
+        of_page = k.of_page;
+        of_choices = k.of_choices;
+        offering =
+            ToGoOn x refl picked is (how_ready false call x (pick_of f x) choices (row_of T line event) since f.waits refl how);
+      }
+
+  same_at : (f.stage ≡ Choosing) ⊎ (f.stage ≡ Prompting) → at_stage f.stage f ≡ Some f
+  same_at (inl at) = ap (λ st. at_stage st f) at ∙ ap (λ st. let g : Facts = record f { stage = st } in Some g) (sym at)
+  same_at (inr at) = ap (λ st. at_stage st f) at ∙ ap (λ st. let g : Facts = record f { stage = st } in Some g) (sym at)
+
+  unmoved : o.stage ≡ None → told_now ≡ f → (f.stage ≡ Choosing → ChoosesNone f m.takes.input) → Next
+  unmoved still told_is none =
+      record {
+        facts = f;
+        found =
+            facts_taken T line event call f m ∙ ap (λ st. at_stage (unwrap_or st f.stage) told_now) still ∙ ap (at_stage f.stage) told_is
+            ∙ same_at dialog;
+        of_page = k.of_page;
+        of_choices = k.of_choices;
+        offering = offering_on f call choices (row_of T line event) since
+            (λ at offers. chooses_no_account event call f m.takes.input choices m.takes.is_event offers (none at))
+            (λ x at picked came. ready_by_reply T event call f x m.takes.input m.takes.is_event at picked told_is came)
+            k.offering;
+      }
+
+  by_way : filter_map finish_of o.effects ≡ [] → (unwrap_or o.stage f.stage ≡ Asserting → f.stage ≡ Asserting)
+      → Way (world_at T) f m.takes.input o → Offering f call choices since → Next
+  by_way gives back (Elsewhere dead asks settles over) offering = dies (dead_is (unwrap_or o.stage f.stage) dead)
+    where
+      ends : (f.stage ≡ Ended) ⊎ ((finish : Finish) × (filter_map finish_of o.effects ≡ finish ∷ [])) → Next
+      ends (inl at) = not_so is_live f true refl refl dialog (ap is_live at)
+      ends (inr some) = absurd (some_none some.0 [] (sym some.1 ∙ gives))
+
+      dies : (unwrap_or o.stage f.stage ≡ Asserting) ⊎ (unwrap_or o.stage f.stage ≡ Ended) → Next
+      dies (inl at) = not_so is_live f true refl refl dialog (ap is_live (back at))
+      dies (inr at) = ends (over at)
+  by_way gives back (First first then says told_is) offering = not_so is_first f false refl refl dialog first
+  by_way gives back (Hearing first then x) offering = not_so is_first f false refl refl dialog first
+  by_way gives back (Settling first t) offering = not_so is_first f false refl refl dialog first
+  by_way gives back (Picks at to t settles) (ToChoose choosing offers two unchosen) = picks_one t to offers two unchosen
+  by_way gives back (Picks at to t settles) (ToGoOn x prompting picked is how) =
+      let no : Choosing ≡ Prompting = sym at ∙ prompting in absurd (cc)
+  by_way gives back (Readies at to t settles) (ToChoose choosing offers two unchosen) =
+      let no : Prompting ≡ Choosing = sym at ∙ choosing in absurd (cc)
+  by_way gives back (Readies at to t settles) (ToGoOn x prompting picked is how) = readied t to x picked is how
+  by_way gives back (Unmoved later still brings settles told_is none) offering = unmoved still told_is none
+
+  taken : Turn (world_at T) f m.takes.input o → Next
+  taken (Asks a) = absurd (some_none _ [] (sym a.is.asks_it ∙ sym (asks_at T event call f m) ∙ quiet))
+  taken (Gives finish ended asks gives token) =
+      let result =
+      result_disturbs call (effects_of T event) (f.page, finish) [] (gives_at T event call f m
+      ∙ ap (map {B = ℕ × Finish} (λ x. (f.page, x))) gives) in
+      not_both (replaces page event) (list_any (is_result call) (effects_of T event)) calm (inr result)
+  taken (Goes asks gives leaves back) = by_way gives back (way_at (world_at T) f m.takes.input) k.offering
+
+-- ---- one row more
+
+pub tracks_on : (T : Trace) (line : ℕ) (event : Event) (call page : ℕ) (choices : Choices) (since : List Row) → IsNew T.rows event
+    → Invariant T call → (k : Tracks T call page choices since)
+    → disturbs call page (row_of T line event) ≡ false
+    → filter_map (asked call) (effects_of T event) ≡ []
+    → Tracks (with_event T line event) call page choices (row_of T line event ∷ since)
+tracks_on T line event call page choices since new h k calm quiet = go (happens T event call)
   where
     f : Facts
     f = k.facts
 
-    o : Outcome
-    o = outcome_of T f m.takes.input
+    s : Stood T call f
+    s = h.stood f k.found
 
-    listing : f.stage ≡ Listing → Tracks (with_event T line event) call page listed (row_of T line event ∷ since)
-    listing at = let no : false ≡ true = ap is_open (sym at) ∙ is_open_at f call listed since k.offering in absurd (cc)
+    dialog : (f.stage ≡ Choosing) ⊎ (f.stage ≡ Prompting)
+    dialog = at_dialog f call choices since k.offering
 
-    picks_one : (t : TakesChoice f m.takes.input o) → o.stage ≡ Some Prompting → f.listed ≡ Some listed → 2 ≤ length listed.accounts
-        → list_any (λ row. chooses call 0 listed row.event) since ≡ false
-        → Tracks (with_event T line event) call page listed (row_of T line event ∷ since)
-    picks_one t to lists two unchosen =
-        let both : Some t.listed ≡ Some listed = sym t.lists ∙ lists in
-        let listed_is : t.listed ≡ listed = cc in
-        let id_is = chosen_id t.id t.listed t.candidate t.is in
-        let place_is : t.place ≡ 0 = first_place f.options.providers t.place t.provider (one_provider T call f s) t.has_provider in
-        let came : Some event ≡ Some (Choose call t.place t.id) = m.takes.is_event ∙ ap (event_for call) t.is_choice in
-        let chose : event ≡ Choose call t.place t.id = cc in
-        let told_is : told (world_at T) f m.takes.input o ≡ with_candidate t.candidate f =
-        ap (λ b. with_input (world_at T) b m.takes.input f) t.taken ∙ ap (λ i. with_input (world_at T) false i f) t.is_choice
-        ∙ ap (λ l. with_choice (option_and_then (chosen t.id) l) f) t.lists ∙ ap (λ x. with_choice x f) t.is in
-        record {
-          facts = record (with_candidate t.candidate f) { stage = Prompting };
-          found =
-              facts_taken T line event call f m ∙ ap (λ st. at_stage (unwrap_or st f.stage) (told (world_at T) f m.takes.input o)) to
-              ∙ ap (at_stage Prompting) told_is;
-          of_page = k.of_page;
-          offering = ToGoOn t.candidate refl refl
-              (subst (λ l. chosen t.candidate.account.id l ≡ Some t.candidate) listed_is (subst (λ i. chosen i t.listed
-              ≡ Some t.candidate) (sym id_is) t.is))
-              (AsChosen
-              (record {
-                several = two;
-                after = [];
-                choice = row_of T line event;
-                waiting = since;
-                rows = refl;
-                event = chose ∙ ap (λ p. Choose call p t.id) place_is ∙ ap (λ i. Choose call 0 i) (sym id_is);
-                first = unchosen;
-              })
-              (λ r. back t r));
-        }
-      where
-        back : (t : TakesChoice f m.takes.input o) → IsReady call 0 f.config []
-            → needs_metadata t.candidate.connected (metadata_endpoint f.config) ≡ false
-        back t (inl none) = needs_back t.candidate.connected (metadata_endpoint f.config) none
-        back t (inr came) = absurd (cc)
+    Next : Type 0
+    Next = Tracks (with_event T line event) call page choices (row_of T line event ∷ since)
 
-    readied : (t : TakesMetadata f m.takes.input o) → unwrap_or o.stage f.stage ≡ Prompting → (candidate : Candidate)
-        → f.picked ≡ Some candidate
-        → chosen candidate.account.id listed ≡ Some candidate → How f.waits f.config call candidate listed since
-        → Tracks (with_event T line event) call page listed (row_of T line event ∷ since)
-    readied t to candidate picks is how =
-        let told_is : told (world_at T) f m.takes.input o ≡ record f { waits = false } =
-        ap (λ b. with_input (world_at T) b m.takes.input f) t.taken ∙ ap (λ i. with_input (world_at T) false i f) t.is_reply in
-        record {
-          facts = record f { waits = false; stage = Prompting };
-          found =
-              facts_taken T line event call f m ∙ ap (λ st. at_stage st (told (world_at T) f m.takes.input o)) to
-              ∙ ap (at_stage Prompting) told_is;
-          of_page = k.of_page;
-          offering =
-              ToGoOn candidate refl picks is (how_ready false f.config call candidate listed (row_of T line event) since f.waits refl how);
-        }
+    replaced : (e : EndsWithPage T event call) → replaces page event ≡ true
+    replaced e =
+        let at_page : f.page ≡ e.page =
+        listed_page call e.page (get_at f.page) (pending T) (distinct_standing call_change T.rows) (lookup-standing call_change call T.rows
+        ∙ s.pending) e.there in
+        ap (λ p. replaces p event) (sym k.of_page ∙ at_page) ∙ e.replaced
 
-    unmoved : o.stage ≡ None → told (world_at T) f m.takes.input o ≡ f → (f.stage ≡ Choosing → ChoosesNone f m.takes.input)
-        → Tracks (with_event T line event) call page listed (row_of T line event ∷ since)
-    unmoved still told_is none =
+    go : Happens T event call → Next
+    go (Left l) =
+        let none = left_unsaid T event call f s l in
         record {
           facts = f;
-          found = facts_taken T line event call f m ∙ ap (λ st. at_stage (unwrap_or st f.stage) (told (world_at T) f m.takes.input o)) still
-              ∙ ap (at_stage f.stage) told_is ∙ same_at f (is_open_at f call listed since k.offering);
+          found = facts_same T line event call l.quiet.stage l.quiet.begins_none l.same ∙ k.found;
           of_page = k.of_page;
-          offering = offering_on f call listed (row_of T line event) since
-              (λ at lists. chooses_no_account event call f m.takes.input listed m.takes.is_event (one_provider T call f s) lists (none at))
-              (λ at came. ready_by_reply T event call f m.takes.input m.takes.is_event (one_provider T call f s) at told_is came)
-              k.offering;
+          of_choices = k.of_choices;
+          offering = offering_on f call choices (row_of T line event) since
+              (λ at offers. unsaid_chooses event choices (ap (λ n. input_to n event) k.of_choices ∙ none))
+              (λ x at picked came. let no : false ≡ true = sym (unsaid_metadata event call x.place none) ∙ came in absurd (cc)) k.offering;
         }
-
-    go : Way (world_at T) f m.takes.input o → Offering f call listed since
-        → Tracks (with_event T line event) call page listed (row_of T line event ∷ since)
-    go (Elsewhere closed) offering = let no : false ≡ true = sym closed ∙ stays in absurd (cc)
-    go (OffersMany accounts two at to t) offering = listing at
-    go (OffersOne only at to t) offering = listing at
-    go (Picks at to t) (ToChoose choosing lists two unchosen) = picks_one t to lists two unchosen
-    go (Picks at to t) (ToGoOn candidate prompting picks is how) = let no : Choosing ≡ Prompting = sym at ∙ prompting in absurd (cc)
-    go (Readies at to t) (ToChoose choosing lists two unchosen) = let no : Prompting ≡ Choosing = sym at ∙ choosing in absurd (cc)
-    go (Readies at to t) (ToGoOn candidate prompting picks is how) = readied t to candidate picks is how
-    go (Unmoved is still told_is none) offering = unmoved still told_is none
+    go (Ends e) = not_both (replaces page event) (list_any (is_result call) (effects_of T event)) calm (inl (replaced e))
+    go (Started b) =
+        let fresh : is_begun T call ≡ false =
+        subst (λ c. is_begun T c
+        ≡ false) b.is_call (starts.is_first T event b.begun.page b.begun.call b.begun.options new b.is_event).fresh in
+        let no : true ≡ false = sym s.is_taken ∙ fresh in
+        absurd (cc)
+    go (Took t) =
+        let m : Meets T event call f = record { takes = t; found = k.found } in
+        taken T line event call page choices since k calm quiet m (turn_at (world_at T) f t.input)
+    go (Resumed r) = not_so is_first f false refl refl dialog (ap is_first (stage_resumed T event call f r k.found))

@@ -5,9 +5,8 @@ use Rattle.std.proofs.Common.{sym, ap, subst, ◌∙◌, arith}
 use Rattle.std.specs.Prelude.{unwrap_or}
 use Rattle.std.specs.List.{filter_map, list_any}
 use Rattle.fed_origin.specs.declared.stage.Stage.{Stage}
-use Rattle.fed_origin.specs.declared.stage.Stage.TheVariants.{Listing, Choosing, Prompting, Asserting, Ended}
+use Rattle.fed_origin.specs.declared.stage.Stage.TheVariants.{Choosing, Prompting, Asserting, Ended}
 use Rattle.fed_consent.specs.declared.table.input.Input.{Input}
-use Rattle.fed_consent.specs.Consent.{assertion_fields}
 use Rattle.fed_call.specs.Facts.{Facts, at_stage, with_input, facts_after}
 use Rattle.fed_consent.specs.Outcomes.{Outcome}
 use Rattle.fed_script.specs.declared.event.Event.{Event}
@@ -28,9 +27,8 @@ use Rattle.fed_trace.proofs.known.Facts.{get_page, same_call, same_origin_of, sa
 use Rattle.fed_trace.proofs.happens.Ends.{Happens, Left, Ends, Started, Took, Resumed, Takes}
 use Rattle.fed_trace.proofs.happens.Happens.{happens}
 use Rattle.fed_trace.proofs.happens.Says.{outcome_begins, outcome_pending, asks_token, finish_of}
-use Rattle.fed_laws.proofs.turns.Config.{told}
-use Rattle.fed_laws.proofs.turns.Turn.{AsksToken, Turn, Asks, Gives, Goes as GoesOn, Reason, Chose, WentOn, Suffices, turn_at}
-use Rattle.fed_laws.proofs.turns.Turn.{requests_stage, requests_asks, requests_gives}
+use Rattle.fed_laws.proofs.turns.Turn.{told, request_of, picks_asked, AsksToken, Turn, Asks, Gives, Goes as GoesOn, Reason, Chose, WentOn}
+use Rattle.fed_laws.proofs.turns.Turn.{Suffices, turn_at}
 use Rattle.fed_laws.proofs.pending.Stood.{AskedFor, Stood, Invariant, asked_on, left_page, stood_on, asks_same, unbegun_before}
 use Rattle.fed_laws.proofs.pending.Stood.{invariant_by}
 use Rattle.fed_laws.proofs.pending.Stood.{when_same, not_some, when_ended}
@@ -38,9 +36,7 @@ use Rattle.fed_laws.proofs.pending.Begun.{when_started}
 use Rattle.fed_laws.proofs.pending.Resumed.{when_resumed}
 use Rattle.fed_trace.proofs.happens.Taken.{Meets, outcome_of, does_at, facts_taken}
 use Rattle.fed_laws.proofs.pending.Taken.{input_keeps_pages, asks_at, gives_at, after_by, still_pending, IgnoresOrEnds, ends_asserting}
-use Rattle.fed_laws.proofs.pending.Taken.{requests_sends, picks_asked}
 use Rattle.fed_trace.proofs.happens.Gets.{others_ask, others_after}
-use Rattle.fed_laws.proofs.turns.Only.{first_place}
 
 -- what stands of a call that goes on after an input
 stood_after : (T : Trace) (line : ℕ) (event : Event) (call : ℕ) (f f' : Facts) → (m : Meets T event call f) → Stood T call f
@@ -80,44 +76,39 @@ asks_first T call f input o s a = go s.asks a.reason
         → assertions call T.rows ≡ []
     not_yet stage now at other = absurd (other (sym now ∙ at))
 
-    go : (assertions call T.rows ≡ []) ⊎ (f.stage ≡ Asserting) → Reason (world_at T) f input a.candidate a.provider
-        → assertions call T.rows ≡ []
+    go : (assertions call T.rows ≡ []) ⊎ (f.stage ≡ Asserting) → Reason (world_at T) f input a.offered → assertions call T.rows ≡ []
     go (inl none) why = none
-    go (inr at) (Chose place id listed choosing is has lists chosen connected) = not_yet Choosing choosing at (λ h. cc)
-    go (inr at) (WentOn prompting is has ready picks) = not_yet Prompting prompting at (λ h. cc)
-    go (inr at) (Suffices place raw accounts pick listing is has reads named same) = not_yet Listing listing at (λ h. cc)
+    go (inr at) (Chose place id choosing is found connected) = not_yet Choosing choosing at (λ h. cc)
+    go (inr at) (WentOn prompting is ready picks) = not_yet Prompting prompting at (λ h. cc)
+    go (inr at) (Suffices place kind raw progress open_still is settles_it named) = absurd (open_still at)
 
 when_asks : (T : Trace) (line : ℕ) (event : Event) (call : ℕ) (f : Facts) → (m : Meets T event call f) → Invariant T call
     → AsksToken (world_at T) f m.takes.input (outcome_of T f m.takes.input) → Invariant (with_event T line event) call
 when_asks T line event call f m h a =
     let s = h.stood f m.found in
     let o = outcome_of T f m.takes.input in
-    let ask = assertion_fields a.agreed a.config.assertion f.origin a.provider in
+    let place = a.offered.place in
+    let ask = request_of f a.offered a.manner a.disclosure in
     let cookies = cookies_with T (asks.Assertion ask) in
     let first = asks_first T call f m.takes.input o s a in
-    let place_is : a.place ≡ 0 =
-    first_place f.options.providers a.place a.provider (ap (λ o. length o.providers) s.of_options ∙ s.one) a.has_provider in
-    let all : assertions call (with_event T line event).rows ≡ (0, ask) ∷ [] =
-    ap (λ xs. xs ++ filter_map (asked call) (effects_of T event)) first ∙ asks_at T event call f m
-    ∙ requests_asks o a.place ask a.is
-    ∙ ap (λ p. (p, ask) ∷ []) place_is in
-    let sends : Has (effects_of T event) (Sent GetCall call 0 (asks.Assertion ask) cookies) =
-    subst (λ p. Has (effects_of T event) (Sent GetCall call p (asks.Assertion ask) cookies)) place_is
-    (subst (λ es. Has es (Sent GetCall call a.place (asks.Assertion ask) cookies)) (sym (does_at T event call f m))
-    (requests_sends (world_at T) (cookies_with T) call f.page o a.place ask a.is)) in
-    let asked_now : Asked (with_event T line event).rows call 0 =
+    let all : assertions call (with_event T line event).rows ≡ (place, ask) ∷ [] =
+    ap (λ xs. xs ++ filter_map (asked call) (effects_of T event)) first ∙ asks_at T event call f m ∙ a.is.asks_it in
+    let sends : Has (effects_of T event) (Sent GetCall call place (asks.Assertion ask) cookies) =
+    subst (λ es. Has es (Sent GetCall call place (asks.Assertion ask) cookies)) (sym (does_at T event call f m))
+    (a.is.sends (world_at T) (cookies_with T) call f.page) in
+    let asked_now : Asked (with_event T line event).rows call place =
     record { since = []; asking = row_of T line event; before = T.rows; rows_are = refl; ask = ask; cookies = cookies; sends = sends } in
     record {
       few = subst (λ xs. length xs ≤ 1) (sym all) (omega arith);
       unbegun = λ new. let no : true ≡ false = sym m.takes.begun ∙ unbegun_before T line event call new in absurd (cc);
       stood = λ f' is.
-          stood_after T line event call f f' m s (sym (facts_taken T line event call f m) ∙ is) (requests_gives o a.place ask a.is)
-          (λ at. inr (at ∙ ap (λ st. unwrap_or st f.stage) (requests_stage o a.place ask a.is)))
+          stood_after T line event call f f' m s (sym (facts_taken T line event call f m) ∙ is) a.is.gives
+          (λ at. inr (at ∙ ap (λ st. unwrap_or st f.stage) a.is.stage))
           (λ at picked asserting. record {
-            asked = asked_now;
-            candidate = a.candidate;
+            offered = a.offered;
             picks = picked ∙ picks_asked (world_at T) f m.takes.input o a;
-            account = a.account;
+            asked = asked_now;
+            account = refl;
           });
     }
 

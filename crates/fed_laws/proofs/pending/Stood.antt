@@ -7,7 +7,7 @@ use Rattle.std.specs.Prelude.{unwrap_or, is_some}
 use Rattle.std.specs.Option.{option_or}
 use Rattle.std.specs.List.{filter_map, cons_option, list_any}
 use Rattle.fed_origin.specs.declared.stage.Stage.TheVariants.{Asserting}
-use Rattle.fed_consent.specs.Consent.{Candidate}
+use Rattle.fed_call.specs.Accounts.{Offered}
 use Rattle.fed_consent.specs.declared.table.finish.Finish.{Finish}
 use Rattle.fed_call.specs.Facts.{Facts}
 use Rattle.fed_script.specs.declared.event.Event.{Event}
@@ -35,11 +35,11 @@ abbrev pub get_at : ℕ → PendingCall
 get_at page = record { page = page; kind = GetCall }
 
 -- the call asked for a token of the account that was picked
-pub record AskedFor (rows : List Row) (call : ℕ) (picked : Option Candidate) : Type 0 where
-  pub asked : Asked rows call 0
-  pub candidate : Candidate
-  pub picks : picked ≡ Some candidate
-  pub account : asked.ask.account ≡ candidate.account.id
+pub record AskedFor (rows : List Row) (call : ℕ) (picked : Option Offered) : Type 0 where
+  pub offered : Offered
+  pub picks : picked ≡ Some offered
+  pub asked : Asked rows call offered.place
+  pub account : asked.ask.account ≡ offered.candidate.account.id
 
 -- what stands of a get of which these facts are known
 pub record Stood (T : Trace) (call : ℕ) (f : Facts) : Type 0 where
@@ -55,7 +55,7 @@ pub record Stood (T : Trace) (call : ℕ) (f : Facts) : Type 0 where
   pub get : GetOptions
   pub is_get : begun.options ≡ ToGet get
   pub of_options : f.options ≡ get
-  pub one : length get.providers ≡ 1
+  pub some : 1 ≤ length get.providers
   pub undisturbed : Undisturbed T.rows call begun
   -- it asked for no token, or is at the stage at which it did
   pub asks : (assertions call T.rows ≡ []) ⊎ (f.stage ≡ Asserting)
@@ -126,11 +126,11 @@ asked_more rows row call provider a =
       sends = a.sends;
     }
 
-pub asked_on : (rows : List Row) (row : Row) (call : ℕ) (picked : Option Candidate) → AskedFor rows call picked
+pub asked_on : (rows : List Row) (row : Row) (call : ℕ) (picked : Option Offered) → AskedFor rows call picked
     → AskedFor (row ∷ rows) call picked
 unfolding asked_more
 asked_on rows row call picked a =
-    record { asked = asked_more rows row call 0 a.asked; candidate = a.candidate; picks = a.picks; account = a.account }
+    record { offered = a.offered; picks = a.picks; asked = asked_more rows row call a.offered.place a.asked; account = a.account }
 
 -- ---- the event leaves the call
 
@@ -199,7 +199,7 @@ stood_on T line event call f f' s kept pending begins_none gives number page ori
       get = s.get;
       is_get = s.is_get;
       of_options = options ∙ s.of_options;
-      one = s.one;
+      some = s.some;
       undisturbed = then.undisturbed;
       asks = asks;
       asked_for = asked_for;

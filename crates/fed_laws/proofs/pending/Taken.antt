@@ -1,49 +1,43 @@
 -- What a call that stands asks for and gives at an input, and how it goes on.
-use Rattle.std.proofs.Common.{◌≡◌, ℕ, false, nat_eq, ◌⊎◌, inl, inr, List, [], ◌∷◌, Option, Some, None, map, refl, sym}
+use Rattle.std.proofs.Common.{◌≡◌, ℕ, false, nat_eq, ◌⊎◌, inl, inr, List, Option, Some, None, map, refl, sym}
 use Rattle.std.proofs.Common.{ap, subst, ◌∙◌}
 use Rattle.std.specs.Prelude.{unwrap_or, option_and_then, Result as Answer, Ok, Err}
 use Rattle.std.specs.List.{filter_map}
-use Rattle.fed_origin.specs.declared.options.ProviderOptions.{ProviderOptions}
 use Rattle.fed_origin.specs.declared.stage.ReplyKind.{ReplyKind}
 use Rattle.fed_origin.specs.declared.stage.Stage.{Stage}
-use Rattle.fed_origin.specs.declared.stage.Stage.TheVariants.{Reading, Listing, Mismatch, Window, Choosing, Prompting, Asserting, Ended}
+use Rattle.fed_origin.specs.declared.stage.Stage.TheVariants.{Reading, Listing, Gathering, Mismatch, Window, Choosing, Prompting}
+use Rattle.fed_origin.specs.declared.stage.Stage.TheVariants.{Asserting, Ended}
 use Rattle.fed_origin.specs.Origin.{origin_text}
-use Rattle.fed_origin.specs.WebUrl.{origin_of}
 use Rattle.fed_token.specs.declared.step.TokenStep.{TokenStep}
 use Rattle.fed_token.specs.Read.{AssertionOf}
 use Rattle.fed_consent.specs.declared.table.finish.Finish.TheVariants.{Token}
 use Rattle.fed_consent.specs.declared.table.why.Why.{Why}
 use Rattle.fed_consent.specs.declared.table.why.Why.TheVariants.{NotOffered, NotWaited}
 use Rattle.fed_status.specs.Shared.{World}
-use Rattle.fed_consent.specs.declared.table.ask.Ask.{Ask}
-use Rattle.fed_consent.specs.declared.table.ask.Ask.TheVariants as asks
 use Rattle.fed_consent.specs.declared.table.input.Input.{Input}
-use Rattle.fed_consent.specs.Consent.{AssertionFields, assertion_fields, chosen}
-use Rattle.fed_origin.specs.declared.status.LoginStatus.TheVariants.{LoggedIn}
-use Rattle.fed_call.specs.AssertingRows.{asserting_reply, assertion_reply, by_token}
+use Rattle.fed_call.specs.Accounts.{Offered}
+use Rattle.fed_call.specs.AssertingRows.{asserting_reply, assertion_reply, by_token, picked_at}
 use Rattle.fed_call.specs.DialogRows.{chose, went_on, cancelled}
 use Rattle.fed_call.specs.WindowRows.{asked_to_sign_in, resumed, window_shut}
-use Rattle.fed_call.specs.Facts.{Facts, at_stage, by_account, provider_at, with_choice, with_input, with_list, with_listing}
+use Rattle.fed_call.specs.Facts.{Facts, at_stage}
 use Rattle.fed_consent.specs.Outcomes.{Outcome, ignored}
 use Rattle.fed_call.specs.Row.{input_row, stage_reply}
 use Rattle.fed_script.specs.declared.event.Event.{Event}
 use Rattle.fed_origin.specs.declared.stage.ReplyKind.TheVariants as kinds
 use Rattle.fed_consent.specs.declared.table.input.Input.TheVariants as inputs
 use Rattle.fed_script.specs.declared.event.Event.TheVariants as events
-use Rattle.fed_trace.specs.OfCall.{Has, asked, given, replaces}
+use Rattle.fed_trace.specs.OfCall.{asked, given, replaces}
 use Rattle.fed_trace.specs.Begun.{CallKind, GetCall}
 use Rattle.fed_trace.specs.Call.{Known, OfGet, OfDisconnect, get_facts}
-use Rattle.fed_trace.specs.Effect.{Login, Move, Sent, call_change}
+use Rattle.fed_trace.specs.Effect.{call_change}
 use Rattle.fed_trace.specs.Keyed.{last_said}
-use Rattle.fed_trace.specs.Row.{effects_of, cookies_with, moves, outcome_effects}
+use Rattle.fed_trace.specs.Row.{effects_of, cookies_with, moves}
 use Rattle.fed_trace.specs.Trace.{Trace}
 use Rattle.fed_trace.proofs.happens.Ends.{event_for}
 use Rattle.fed_trace.proofs.known.Stages.{Goes, goes_or_ends}
 use Rattle.fed_trace.proofs.happens.Says.{outcome_asks, outcome_gives, asks_token, finish_of}
 use Rattle.fed_laws.proofs.pending.Stood.{not_some}
-use Rattle.fed_laws.proofs.turns.Config.{told}
-use Rattle.fed_laws.proofs.turns.Turn.{AsksToken, Requests, ByItself, AfterLogin, Reason, Chose, WentOn, Suffices, gives_token}
-use Rattle.fed_laws.proofs.turns.Turn.{requests_taken}
+use Rattle.fed_laws.proofs.turns.Turn.{gives_token}
 use Rattle.fed_trace.proofs.happens.Taken.{Meets, does_at, outcome_of, facts_of_get}
 use Rattle.fed_trace.specs.Known.{world_at}
 
@@ -106,6 +100,7 @@ still_pending kind call k now None going = refl
 still_pending kind call k now (Some Reading) going = refl
 still_pending kind call k now (Some Listing) going = refl
 still_pending kind call k now (Some Mismatch) going = refl
+still_pending kind call k now (Some Gathering) going = refl
 still_pending kind call k now (Some Window) going = refl
 still_pending kind call k now (Some Choosing) going = refl
 still_pending kind call k now (Some Prompting) going = refl
@@ -116,30 +111,27 @@ still_pending kind call k now (Some Ended) going = ended_goes k going
 abbrev pub IgnoresOrEnds : Outcome → Type 0
 IgnoresOrEnds o = ((why : Why) × (o ≡ ignored why)) ⊎ (o.stage ≡ Some Ended)
 
-token_ends : (f : Facts) (place : ℕ) (provider : ProviderOptions) (read : Answer (List ℕ) TokenStep)
-    → (by_token f place provider read).stage ≡ Some Ended
-token_ends f place provider (Ok token) =
-    let g = gives_token f.origin (origin_of provider.config) f.picked f.auto (Token f.auto place token) in g.stage
-token_ends f place provider (Err step) = refl
+token_ends : (f : Facts) (offered : Offered) (read : Answer (List ℕ) TokenStep) → (by_token f offered read).stage ≡ Some Ended
+token_ends f offered (Ok token) =
+    let g = gives_token f.origin offered f.auto (Token f.auto offered.place token) in g.stage
+token_ends f offered (Err step) = refl
 
-assertion_ends : (f : Facts) (place : ℕ) (provider : Option ProviderOptions) (raw : List ℕ)
-    → IgnoresOrEnds (assertion_reply f place provider raw)
-assertion_ends f place None raw = inl (NotWaited, refl)
-assertion_ends f place (Some provider) raw = inr (token_ends f place provider (AssertionOf raw (origin_text f.origin)))
+assertion_ends : (f : Facts) (offered : Option Offered) (raw : List ℕ) → IgnoresOrEnds (assertion_reply f offered raw)
+assertion_ends f None raw = inl (NotWaited, refl)
+assertion_ends f (Some offered) raw = inr (token_ends f offered (AssertionOf raw (origin_text f.origin)))
 
-asserting_ends : (f : Facts) (place : ℕ) (provider : Option ProviderOptions) (kind : ReplyKind) (raw : List ℕ)
-    → IgnoresOrEnds (asserting_reply f place provider kind raw)
-asserting_ends f place provider kinds.Assertion raw = assertion_ends f place provider raw
-asserting_ends f place provider kinds.WellKnown raw = inl (NotWaited, refl)
-asserting_ends f place provider kinds.Config raw = inl (NotWaited, refl)
-asserting_ends f place provider kinds.Accounts raw = inl (NotWaited, refl)
-asserting_ends f place provider kinds.Metadata raw = inl (NotWaited, refl)
-asserting_ends f place provider kinds.Disconnect raw = inl (NotWaited, refl)
+asserting_ends : (f : Facts) (place : ℕ) (kind : ReplyKind) (raw : List ℕ) → IgnoresOrEnds (asserting_reply f place kind raw)
+asserting_ends f place kinds.Assertion raw = assertion_ends f (picked_at place f.picked) raw
+asserting_ends f place kinds.WellKnown raw = inl (NotWaited, refl)
+asserting_ends f place kinds.Config raw = inl (NotWaited, refl)
+asserting_ends f place kinds.Accounts raw = inl (NotWaited, refl)
+asserting_ends f place kinds.Metadata raw = inl (NotWaited, refl)
+asserting_ends f place kinds.Disconnect raw = inl (NotWaited, refl)
 
 pub ends_asserting : (world : World) (f : Facts) (input : Input) → f.stage ≡ Asserting → IgnoresOrEnds (input_row world f input)
 ends_asserting world f (inputs.Reply place kind raw) at =
     subst (λ st. IgnoresOrEnds (stage_reply world f st place kind raw)) (sym at)
-    (asserting_ends f place (provider_at place f.options) kind raw)
+    (asserting_ends f place kind raw)
 ends_asserting world f (inputs.Choose place id) at =
     subst (λ st. IgnoresOrEnds (chose world f st place id)) (sym at) (inl (NotOffered, refl))
 ends_asserting world f inputs.GoOn at = subst (λ st. IgnoresOrEnds (went_on f st)) (sym at) (inl (NotOffered, refl))
@@ -148,36 +140,3 @@ ends_asserting world f inputs.Abort at = inr refl
 ends_asserting world f inputs.SignIn at = subst (λ st. IgnoresOrEnds (asked_to_sign_in f st)) (sym at) (inl (NotOffered, refl))
 ends_asserting world f inputs.Shut at = subst (λ st. IgnoresOrEnds (window_shut st)) (sym at) (inl (NotOffered, refl))
 ends_asserting world f inputs.Resume at = subst (λ st. IgnoresOrEnds (resumed f st)) (sym at) (inl (NotOffered, refl))
-
--- ---- a request for a token
-
--- the row sends it
-pub requests_sends : (world : World) (cookies : Ask → List ℕ) (call page : ℕ) (o : Outcome) (place : ℕ) (ask : AssertionFields)
-    → Requests o place ask
-    → Has (outcome_effects world cookies GetCall call page o)
-    (Sent GetCall call place (asks.Assertion ask) (cookies (asks.Assertion ask)))
-requests_sends world cookies call page o place ask (ByItself is) =
-    record { before = []; after = Move GetCall call Asserting ∷ []; all = ap (outcome_effects world cookies GetCall call page) is }
-requests_sends world cookies call page o place ask (AfterLogin origin is) =
-    record {
-      before = Login origin LoggedIn ∷ [];
-      after = Move GetCall call Asserting ∷ [];
-      all = ap (outcome_effects world cookies GetCall call page) is;
-    }
-
--- it is for the account that is picked from then on
-pub picks_asked : (world : World) (f : Facts) (input : Input) (o : Outcome) → (a : AsksToken world f input o)
-    → (told world f input o).picked ≡ Some a.candidate
-picks_asked world f input o a =
-    ap (λ b. (with_input world b input f).picked)
-    (requests_taken o a.place (assertion_fields a.agreed a.config.assertion f.origin a.provider) a.is) ∙ go a.reason
-  where
-    go : Reason world f input a.candidate a.provider → (with_input world false input f).picked ≡ Some a.candidate
-    go (Chose place id listed at is_choice has lists is connected) =
-        ap (λ i. (with_input world false i f).picked) is_choice
-        ∙ ap (λ l. (with_choice (option_and_then (chosen id) l) f).picked) lists ∙ ap (λ x. (with_choice x f).picked) is
-    go (WentOn at is_going has ready picks) = ap (λ i. (with_input world false i f).picked) is_going ∙ picks
-    go (Suffices place raw accounts pick at is_reply has reads named same) =
-        ap (λ i. (with_input world false i f).picked) is_reply ∙ ap (λ p. (with_listing world raw place p f).picked) has
-        ∙ ap (λ r. (with_list world place a.provider r f).picked) reads
-        ∙ ap (λ p. (by_account world a.provider accounts p f).picked) named ∙ ap Some same

@@ -1,6 +1,6 @@
 -- By which events a permission may come or go.
 use Rattle.std.proofs.Common.{◌≡◌, ℕ, Bool, true, false, List, [], ◌∷◌, ◌++◌, Option, Some, None, refl, subst}
-use Rattle.std.specs.Prelude.{Result as Answer, Ok, Err, slice_get}
+use Rattle.std.specs.Prelude.{Result as Answer, Ok, Err}
 use Rattle.std.specs.List.{AllByRecursion, flat_map, list_any}
 use Rattle.url.specs.Parts.{Parts}
 use Rattle.fed_origin.specs.declared.options.GetOptions.{GetOptions}
@@ -19,8 +19,16 @@ use Rattle.fed_status.specs.Shared.{World}
 use Rattle.fed_consent.specs.declared.table.ask.Ask.{Ask}
 use Rattle.fed_consent.specs.declared.table.effect.Effect.{Effect as CallEffect}
 use Rattle.fed_consent.specs.declared.table.effect.Effect.TheVariants as does
-use Rattle.fed_consent.specs.Outcomes.{Outcome, only_place}
-use Rattle.fed_call.specs.ReadingRows.{by_activation, by_gate, by_scheme, by_silence, start_at}
+use Rattle.fed_consent.specs.Outcomes.{Outcome}
+use Rattle.std.proofs.Common.{suc, map}
+use Rattle.fed_origin.specs.declared.options.Mode.{Mode}
+use Rattle.fed_status.specs.Flags.{has_flag}
+use Rattle.fed_call.specs.Facts.{Conclusion, Awaits, NoneLeft, Reselects, NoneSilent, Offers, Prompts, conclusion_of}
+use Rattle.fed_call.specs.GatheringRows.{by_active, by_prevented, by_twice, first_settles, is_active, is_twice, opens, opens_from}
+use Rattle.fed_call.specs.GatheringRows.{start_all}
+use Rattle.fed_call.specs.Progress.{Closed, NotSecure, Siteless, Gated, first_progress, opening}
+use Rattle.fed_call.specs.Row.{start_with}
+use Rattle.fed_call.specs.ReadingRows.{is_prevented, start_by}
 use Rattle.fed_disconnect.specs.Facts.{provider_origin}
 use Rattle.fed_disconnect.specs.Rows as disconnect
 use Rattle.fed_trace.specs.Begun.{Begun, CallKind, CallOptions, ToGet, ToDisconnect, kind_asked}
@@ -66,6 +74,8 @@ does_leave world cookies kind call page (does.Finish finish ∷ effects) none =
 does_leave world cookies kind call page (does.Ignored why ∷ effects) none = (refl, does_leave world cookies kind call page effects none)
 does_leave world cookies kind call page (does.Dialog dialog ∷ effects) none =
     (refl, does_leave world cookies kind call page effects none)
+does_leave world cookies kind call page (does.Dropped place failure ∷ effects) none =
+    (refl, does_leave world cookies kind call page effects none)
 does_leave world cookies kind call page (does.Window place url ∷ effects) none =
     (refl, does_leave world cookies kind call page effects none)
 does_leave world cookies kind call page (does.SetLogin origin status ∷ effects) none =
@@ -88,31 +98,64 @@ outcome_leaves world cookies kind call page o none =
 
 -- ---- a call that begins
 
-gate_leaves : (place : ℕ) (config wellknown : Parts) (gated : Bool) → LeavesKept (by_gate place config wellknown gated)
-gate_leaves place config wellknown true = refl
-gate_leaves place config wellknown false = refl
+single_leaves : (provider : ProviderOptions) (opening : Answer Parts Closed) (lacking prevented : Bool)
+    → LeavesKept (start_by provider opening lacking prevented)
+single_leaves provider (Err NotSecure) lacking prevented = refl
+single_leaves provider (Err Siteless) true prevented = refl
+single_leaves provider (Err Siteless) false prevented = refl
+single_leaves provider (Err Gated) true prevented = refl
+single_leaves provider (Err Gated) false true = refl
+single_leaves provider (Err Gated) false false = refl
+single_leaves provider (Ok wellknown) true prevented = refl
+single_leaves provider (Ok wellknown) false true = refl
+single_leaves provider (Ok wellknown) false false = refl
 
-silence_leaves : (place : ℕ) (config wellknown : Parts) (prevented gated : Bool)
-    → LeavesKept (by_silence place config wellknown prevented gated)
-silence_leaves place config wellknown true gated = refl
-silence_leaves place config wellknown false gated = gate_leaves place config wellknown gated
+-- ---- several providers
 
-activation_leaves : (place : ℕ) (config : Parts) (wellknown : Answer Parts ProviderStep) (lacking prevented gated : Bool)
-    → LeavesKept (by_activation place config wellknown lacking prevented gated)
-activation_leaves place config wellknown true prevented gated = refl
-activation_leaves place config (Err step) false prevented gated = refl
-activation_leaves place config (Ok wellknown) false prevented gated = silence_leaves place config wellknown prevented gated
+early_leaves : (c : Conclusion) → LeavesKept (first_settles c)
+early_leaves Awaits = refl
+early_leaves (NoneLeft failure) = refl
+early_leaves (Reselects offered) = refl
+early_leaves NoneSilent = refl
+early_leaves (Offers offered) = refl
+early_leaves (Prompts offered) = refl
 
-scheme_leaves : (place : ℕ) (scheme : Scheme) (config : Parts) (wellknown : Answer Parts ProviderStep) (lacking prevented gated : Bool)
-    → LeavesKept (by_scheme place scheme config wellknown lacking prevented gated)
-scheme_leaves place Http config wellknown lacking prevented gated = refl
-scheme_leaves place Https config wellknown lacking prevented gated =
-    activation_leaves place config wellknown lacking prevented gated
+opens_leave : (world : World) (mode : Mode) (n : ℕ) (providers : List ProviderOptions) (rest : List CallEffect)
+    → list_any changes_kept rest ≡ false → list_any changes_kept (opens_from world mode n providers ++ rest) ≡ false
+opens_leave world mode n [] rest h = h
+opens_leave world mode n (provider ∷ providers) rest h =
+    go (opening world mode provider) (opens_leave world mode (suc n) providers rest h)
+  where
+    go : (opening : Answer Parts Closed) → list_any changes_kept (opens_from world mode (suc n) providers ++ rest) ≡ false
+        → list_any changes_kept ((opens n provider.config opening ++ opens_from world mode (suc n) providers) ++ rest) ≡ false
+    go (Ok wellknown) more = more
+    go (Err closed) more = more
 
-start_leaves : (world : World) (origin : Origin) (options : GetOptions) (provider : Option ProviderOptions)
-    → LeavesKept (start_at world origin options only_place provider)
-start_leaves world origin options None = refl
-start_leaves world origin options (Some provider) = scheme_leaves _ _ provider.config _ _ _ _
+all_leave : (world : World) (origin : Origin) (options : GetOptions) → LeavesKept (start_all world origin options)
+all_leave world origin options =
+    let c = conclusion_of world origin options (map (first_progress world options.mode) options.providers) in
+    opens_leave world options.mode 0 options.providers (first_settles c).effects (early_leaves c)
+
+prevented_leaves : (world : World) (origin : Origin) (options : GetOptions) (prevented : Bool)
+    → LeavesKept (by_prevented world origin options prevented)
+prevented_leaves world origin options true = refl
+prevented_leaves world origin options false = all_leave world origin options
+
+twice_leaves : (world : World) (origin : Origin) (options : GetOptions) (twice : Bool) → LeavesKept (by_twice world origin options twice)
+twice_leaves world origin options true = refl
+twice_leaves world origin options false =
+    prevented_leaves world origin options (is_prevented options.mediation (has_flag world.flags origin))
+
+active_leaves : (world : World) (origin : Origin) (options : GetOptions) (active : Bool)
+    → LeavesKept (by_active world origin options active)
+active_leaves world origin options true = refl
+active_leaves world origin options false = twice_leaves world origin options (is_twice options)
+
+start_leaves : (world : World) (origin : Origin) (options : GetOptions) (providers : List ProviderOptions)
+    → LeavesKept (start_with world origin options providers)
+start_leaves world origin options [] = refl
+start_leaves world origin options (provider ∷ []) = single_leaves provider _ _ _
+start_leaves world origin options (p ∷ q ∷ more) = active_leaves world origin options (is_active options.mode)
 
 site_leaves : (config : Parts) (wellknown : Answer Parts ProviderStep) (kept : Bool)
     → LeavesKept (disconnect.by_site config wellknown kept)
@@ -127,7 +170,7 @@ disconnect_leaves Https config wellknown kept = site_leaves config wellknown kep
 
 first_leaves : (world : World) (busy : Bool) (origin : Origin) (options : CallOptions) → LeavesKept (first_row world busy origin options)
 first_leaves world true origin (ToGet options) = refl
-first_leaves world false origin (ToGet options) = start_leaves world origin options (slice_get options.providers only_place)
+first_leaves world false origin (ToGet options) = start_leaves world origin options options.providers
 first_leaves world busy origin (ToDisconnect options) =
     disconnect_leaves (scheme_of options.config) options.config (WellKnownUrlOf world.rules options.config)
     (has_pair world.kept origin (provider_origin options))

@@ -58,6 +58,7 @@ stage_way world f stages.Reading at kind raw = heard_way world f _ (reply_heard 
 stage_way world f stages.Asserting at kind raw = sending_way world f kind raw at
 stage_way world f stages.Listing at kind raw = Rests refl refl refl
 stage_way world f stages.Mismatch at kind raw = Rests refl refl refl
+stage_way world f stages.Gathering at kind raw = Rests refl refl refl
 stage_way world f stages.Window at kind raw = Rests refl refl refl
 stage_way world f stages.Choosing at kind raw = Rests refl refl refl
 stage_way world f stages.Prompting at kind raw = Rests refl refl refl

@@ -1,5 +1,5 @@
 -- A permission that comes was kept before or is that of a token's call, and one that goes is taken by the reply to a disconnect call.
-use Rattle.std.proofs.Common.{◌≡◌, ℕ, Bool, true, false, nat_eq, List, [], ◌∷◌, ◌++◌, length, Some, None, refl, sym, ap}
+use Rattle.std.proofs.Common.{◌≡◌, ℕ, Bool, true, false, nat_eq, List, [], ◌∷◌, ◌++◌, Some, None, refl, sym, ap}
 use Rattle.std.proofs.Common.{subst}
 use Rattle.std.proofs.Common.{◌∙◌, ◌||◌, append_assoc, cond}
 use Rattle.std.proofs.lemmas.List.Folds.{list_any-append}
@@ -17,7 +17,6 @@ use Rattle.fed_token.specs.Read.{DisconnectOf}
 use Rattle.fed_status.specs.Kept.{has_triple, is_of_pair, triple_of, triples_of_pair}
 use Rattle.fed_status.specs.Shared.{World}
 use Rattle.fed_status.proofs.lists.Same.{same_triple_self}
-use Rattle.fed_consent.specs.Consent.{Candidate, assertion_fields}
 use Rattle.fed_consent.specs.declared.table.ask.Ask.{Ask}
 use Rattle.fed_consent.specs.declared.table.finish.Finish.{Finish}
 use Rattle.fed_consent.specs.declared.table.finish.Finish.TheVariants.{Token, Disconnected, Failed, ProviderError}
@@ -25,7 +24,8 @@ use Rattle.fed_consent.specs.declared.table.input.Input.{Input}
 use Rattle.fed_consent.specs.declared.table.input.Input.TheVariants as inputs
 use Rattle.fed_consent.specs.Outcomes.{Outcome, finishes, only_place}
 use Rattle.fed_call.specs.AssertingRows.{clears, keeps}
-use Rattle.fed_call.specs.Facts.{Facts, provider_at}
+use Rattle.fed_call.specs.Accounts.{Offered, provider_at}
+use Rattle.fed_call.specs.Facts.{Facts}
 use Rattle.fed_disconnect.specs.Facts.{DisconnectFacts, provider_origin}
 use Rattle.fed_disconnect.specs.Rows.{answer, answered, forgotten}
 use Rattle.fed_script.specs.declared.event.Event.{Event}
@@ -51,7 +51,8 @@ use Rattle.fed_trace.proofs.happens.Gets.{ByDisconnect, ByGet, ByNone, Taking, t
 use Rattle.fed_trace.proofs.happens.Over.{over_ignored}
 use Rattle.fed_trace.proofs.happens.Says.{own}
 use Rattle.fed_trace.proofs.happens.Taken.{Knows, Meets, does_at, does_it, outcome_of}
-use Rattle.fed_laws.specs.Cause.{Alone, AskedToDisconnect, BySigningIn, FromBefore, IsKept, IsTaken, Refused, Takes as TakesIt, WithPair}
+use Rattle.fed_laws.specs.Cause.{Alone, Asked, AskedToDisconnect, BySigningIn, FromBefore, IsKept, IsTaken, Refused, Takes as TakesIt}
+use Rattle.fed_laws.specs.Cause.{WithPair}
 use Rattle.fed_laws.specs.Laws.{ComesByToken, GoesByDisconnect, OfRuns, at}
 use Rattle.fed_laws.proofs.pending.Asked.{invariant}
 use Rattle.fed_laws.proofs.pending.Begun.{or_true}
@@ -61,8 +62,8 @@ use Rattle.fed_laws.proofs.permissions.Disconnects.{Answers, Ends, Rests, Sends,
 use Rattle.fed_laws.proofs.permissions.Sending.{Sending, sending}
 use Rattle.fed_laws.proofs.tokens.Answered.{gives_result}
 use Rattle.fed_laws.proofs.tokens.Token.{row_of_trace, says_one}
-use Rattle.fed_laws.proofs.turns.Only.{first_place}
-use Rattle.fed_laws.proofs.turns.Turn.{Asks, Gives, Goes, IfToken, InReply, LeavesKept, Turn, changes_kept, requests_leaves}
+use Rattle.fed_laws.proofs.causes.Picked.{Provided, provided}
+use Rattle.fed_laws.proofs.turns.Turn.{Asks, Gives, Goes, IfToken, InReply, LeavesKept, Turn, changes_kept}
 use Rattle.fed_laws.proofs.turns.Turn.{turn_at}
 
 -- why the permission comes, or why it goes
@@ -93,23 +94,22 @@ only_change effects triple one stays kept_on says has =
 
 -- ---- a token's row
 
-token_keeps : (world : World) (cookies : Ask
-    → List ℕ) (call page : ℕ) (origin provider : Origin) (candidate : Candidate) (auto : Bool)
+token_keeps : (world : World) (cookies : Ask → List ℕ) (call page : ℕ) (origin : Origin) (offered : Offered) (auto : Bool)
     (finish : Finish)
     → filter_map kept_change
-    (outcome_effects world cookies GetCall call page (keeps origin provider (Some candidate) (clears auto origin (finishes finish))))
-    ≡ key_change (triple_of origin provider candidate.account.id) true ∷ []
-token_keeps world cookies call page origin provider candidate true finish = refl
-token_keeps world cookies call page origin provider candidate false finish = refl
+    (outcome_effects world cookies GetCall call page (keeps origin offered (clears auto origin (finishes finish))))
+    ≡ key_change (triple_of origin (origin_of offered.options.config) offered.candidate.account.id) true ∷ []
+token_keeps world cookies call page origin offered true finish = refl
+token_keeps world cookies call page origin offered false finish = refl
 
 signs_in : (T : Trace) (event : Event) (call : ℕ) (f : Facts) (triple : Triple) (stays : Bool) → (m : Meets T event call f)
-    → Stood T call f → (from : ℕ) (token : List ℕ) → InReply f m.takes.input (outcome_of T f m.takes.input) from token
+    → Stood T call f → Provided f → (from : ℕ) (token : List ℕ) → InReply f m.takes.input (outcome_of T f m.takes.input) from token
     → Has (effects_of T event) (Kept triple stays) → Explained T event triple stays
-signs_in T event call f triple stays m s from token r has =
+signs_in T event call f triple stays m s provided_it from token r has =
     subst (Explained T event triple) (sym change.stays_is)
     (BySigningIn (record {
       call = call;
-      provider = 0;
+      provider = r.offered.place;
       auto = f.auto;
       token = token;
       begun = s.begun;
@@ -117,50 +117,51 @@ signs_in T event call f triple stays m s from token r has =
       gives = gives;
       get = s.get;
       is_get = s.is_get;
-      options = r.provider;
-      has_provider = ap (provider_at 0) (sym s.of_options) ∙ ap (λ n. provider_at n f.options) (sym first) ∙ r.has_provider;
-      asked = for_it.asked;
+      options = r.offered.options;
+      has_provider = ap (provider_at r.offered.place) (sym s.of_options) ∙ provided_it r.asserting r.offered r.picks;
+      asked = asked_it.0;
       is_triple =
-          change.triple_is ∙ ap (λ o. triple_of o provider for_it.candidate.account.id) s.of_origin
-          ∙ ap (triple_of s.begun.origin provider) (sym for_it.account);
+          change.triple_is ∙ ap (λ o. triple_of o provider r.offered.candidate.account.id) s.of_origin
+          ∙ ap (triple_of s.begun.origin provider)
+          (sym asked_it.1);
     }))
   where
     provider : Origin
-    provider = origin_of r.provider.config
+    provider = origin_of r.offered.options.config
 
     for_it : AskedFor T.rows call f.picked
     for_it = s.asked_for r.asserting
 
-    finish : Finish
-    finish = Token f.auto r.place token
+    offered_is : for_it.offered ≡ r.offered
+    offered_is = let both : Some for_it.offered ≡ Some r.offered = sym for_it.picks ∙ r.picks in cc
 
-    first : r.place ≡ 0
-    first = first_place f.options.providers r.place r.provider (ap (λ o. length o.providers) s.of_options ∙ s.one) r.has_provider
+    asked_it : (a : Asked T.rows call r.offered.place) × (a.ask.account ≡ r.offered.candidate.account.id)
+    asked_it = subst (λ x. (a : Asked T.rows call x.place) × (a.ask.account
+        ≡ x.candidate.account.id)) offered_is (for_it.asked, for_it.account)
+
+    finish : Finish
+    finish = Token f.auto r.offered.place token
 
     does : effects_of T event
         ≡ outcome_effects (world_at T) (cookies_with T) GetCall call f.page
-        (keeps f.origin provider (Some for_it.candidate) (clears f.auto f.origin (finishes finish)))
-    does =
-        does_at T event call f m ∙ ap (outcome_effects (world_at T) (cookies_with T) GetCall call f.page) r.is
-        ∙ ap (λ x. outcome_effects (world_at T) (cookies_with T) GetCall call f.page
-        (keeps f.origin provider x (clears f.auto f.origin (finishes finish)))) for_it.picks
+        (keeps f.origin r.offered (clears f.auto f.origin (finishes finish)))
+    does = does_at T event call f m ∙ ap (outcome_effects (world_at T) (cookies_with T) GetCall call f.page) r.is
 
-    change : IsTheOne triple (triple_of f.origin provider for_it.candidate.account.id) stays true
+    change : IsTheOne triple (triple_of f.origin provider r.offered.candidate.account.id) stays true
     change =
-        only_change (effects_of T event) triple (triple_of f.origin provider for_it.candidate.account.id) stays true
+        only_change (effects_of T event) triple (triple_of f.origin provider r.offered.candidate.account.id) stays true
         (ap (filter_map kept_change) does
-        ∙ token_keeps (world_at T) (cookies_with T) call f.page f.origin provider for_it.candidate f.auto finish) has
+        ∙ token_keeps (world_at T) (cookies_with T) call f.page f.origin r.offered f.auto finish) has
 
-    gives : Has (effects_of T event) (Result call s.begun.page (Token f.auto 0 token))
+    gives : Has (effects_of T event) (Result call s.begun.page (Token f.auto r.offered.place token))
     gives =
-        subst (λ n. Has (effects_of T event) (Result call s.begun.page (Token f.auto n token))) first
-        (subst (λ p. Has (effects_of T event) (Result call p finish)) s.of_page
+        subst (λ p. Has (effects_of T event) (Result call p finish)) s.of_page
         (subst (λ es. Has es (Result call f.page finish)) (sym does)
-        (gives_result (world_at T) (cookies_with T) call f.page f.origin provider (Some for_it.candidate) f.auto finish)))
+        (gives_result (world_at T) (cookies_with T) call f.page f.origin r.offered f.auto finish))
 
 by_get : (T : Trace) (event : Event) (call : ℕ) (f : Facts) (triple : Triple) (stays : Bool) → (m : Meets T event call f)
-    → Invariant T call → Has (effects_of T event) (Kept triple stays) → Explained T event triple stays
-by_get T event call f triple stays m h has = go (turn_at (world_at T) f m.takes.input)
+    → Invariant T call → Provided f → Has (effects_of T event) (Kept triple stays) → Explained T event triple stays
+by_get T event call f triple stays m h provided_it has = go (turn_at (world_at T) f m.takes.input)
   where
     o : Outcome
     o = outcome_of T f m.takes.input
@@ -172,13 +173,13 @@ by_get T event call f triple stays m h has = go (turn_at (world_at T) f m.takes.
         (outcome_leaves (world_at T) (cookies_with T) GetCall call f.page o leaves)) has
 
     gave : (finish : Finish) → IfToken f m.takes.input o finish → Explained T event triple stays
-    gave (Token auto from token) r = signs_in T event call f triple stays m (h.stood f m.found) from token r has
+    gave (Token auto from token) r = signs_in T event call f triple stays m (h.stood f m.found) provided_it from token r has
     gave Disconnected leaves = never leaves
     gave (Failed failure) leaves = never leaves
     gave (ProviderError code url) leaves = never leaves
 
     go : Turn (world_at T) f m.takes.input o → Explained T event triple stays
-    go (Asks a) = never (requests_leaves o a.place (assertion_fields a.agreed a.config.assertion f.origin a.provider) a.is)
+    go (Asks a) = never a.is.leaves
     go (Gives finish ended asks gives token) = gave finish token
     go (Goes asks gives leaves back) = never leaves
 
@@ -326,7 +327,8 @@ by_input T event call input triple stays run effects said is_event has = go (is_
     by begun is = effects ∙ ap (λ b. input_effects (world_at T) (cookies_with T) b call (known_at T call) input) is
 
     taken : Taking T event call → Explained T event triple stays
-    taken (ByGet f m) = by_get T event call f triple stays m (invariant T.header T.rows call run) has
+    taken (ByGet f m) = by_get T event call f triple stays m (invariant T.header T.rows call run)
+        (provided T.header T.rows call run f m.found) has
     taken (ByDisconnect f m) = by_disconnect T event call f triple stays m (sending T.header T.rows call run f m.found) has
     taken (ByNone t none) =
         unchanged (effects_of T event) triple stays (subst (AllSilent kept_change) (sym (over_ignored T event call t none)) (refl, tt)) has

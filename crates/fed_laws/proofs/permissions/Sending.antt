@@ -6,7 +6,7 @@ use Rattle.std.specs.Prelude.{option_map, unwrap_or}
 use Rattle.std.specs.List.{filter_map, list_any}
 use Rattle.fed_origin.specs.declared.origin.Origin.{Origin}
 use Rattle.fed_origin.specs.declared.stage.Stage.{Stage}
-use Rattle.fed_origin.specs.declared.stage.Stage.TheVariants.{Reading, Window, Asserting, Ended}
+use Rattle.fed_origin.specs.declared.stage.Stage.TheVariants.{Reading, Gathering, Window, Asserting, Ended}
 use Rattle.fed_status.specs.Shared.{World}
 use Rattle.fed_call.specs.Facts.{Facts}
 use Rattle.fed_call.specs.Facts as get
@@ -30,7 +30,8 @@ use Rattle.fed_trace.specs.OfCall.{given}
 use Rattle.fed_trace.specs.Row.{IsNew, IsRun, cookies_with, effects_of, outcome_effects, row_of, with_event}
 use Rattle.fed_trace.specs.Trace.{Row, Trace}
 use Rattle.fed_trace.proofs.happens.Ends.{Happens, Left, Ends as EndsNow, Started, Took, Resumed, Leaves, Starts}
-use Rattle.fed_trace.proofs.happens.First.{FirstTurn, FailsFirst, ReadsFirst, HasOne, first_turn, is_beginning, is_first, known_begun}
+use Rattle.fed_trace.proofs.happens.First.{FirstTurn, FailsFirst, ReadsFirst, GathersFirst, HasSome, first_turn, is_beginning, is_first}
+use Rattle.fed_trace.proofs.happens.First.{known_begun}
 use Rattle.fed_trace.proofs.happens.Gets.{Taking, ByGet, ByDisconnect, ByNone, taking}
 use Rattle.fed_trace.proofs.happens.Happens.{happens}
 use Rattle.fed_trace.proofs.happens.Over.{still_over}
@@ -104,28 +105,24 @@ sending_begun T line event call f new s is =
     o : Outcome
     o = first_row (world_at T) s.busy b.origin b.options
 
-    one : HasOne b.options
-    one = (is_first T event b.page b.call b.options new s.is_event).one
+    one : HasSome b.options
+    one = (is_first T event b.page b.call b.options new s.is_event).some
 
     known : (stage : Stage) → o.stage ≡ Some stage → (options : CallOptions) → b.options ≡ options
-        → at_stage stage (fresh b.call b.page b.origin options) ≡ Some (OfDisconnect f)
+        → at_stage stage (fresh (world_at T) b.call b.page b.origin options) ≡ Some (OfDisconnect f)
     known stage at options asked =
-        ap (λ x. at_stage stage (fresh b.call b.page b.origin x)) (sym asked)
+        ap (λ x. at_stage stage (fresh (world_at T) b.call b.page b.origin x)) (sym asked)
         ∙ sym (known_begun T line event b o stage s.effects at)
         ∙ subst (λ c. known_at (with_event T line event) c ≡ Some (OfDisconnect f)) (sym s.is_call) is
 
-    go : (options : CallOptions) → b.options ≡ options → FirstTurn o → Sending (with_event T line event) b.call f
-    go (ToGet options) asked (ReadsFirst reading none gives) =
-        not_of_get (get.at_stage Reading (get.fresh b.call b.page b.origin options)) f (known Reading reading (ToGet options) asked)
-    go (ToGet options) asked (FailsFirst failure ended none gives) =
-        not_of_get (get.at_stage Ended (get.fresh b.call b.page b.origin options)) f (known Ended ended (ToGet options) asked)
-    go (ToDisconnect options) asked (FailsFirst failure ended none gives) =
-        let no : None ≡ Some (OfDisconnect f) = known Ended ended (ToDisconnect options) asked in absurd (cc)
-    go (ToDisconnect options) asked (ReadsFirst reading none gives) =
-        let whole : Some (OfDisconnect (disconnect.fresh b.call b.page b.origin options)) ≡ Some (OfDisconnect f) =
-        known Reading reading (ToDisconnect options) asked in
-        let same : disconnect.fresh b.call b.page b.origin options ≡ f = cc in
-        let g = begun_now T line event b (is_beginning event b.page b.call b.options s.is_event) s.stands o reading s.effects in
+    goes_on : (options : DisconnectOptions) → b.options ≡ ToDisconnect options → (stage : Stage) → o.stage ≡ Some stage
+        → (stage ≡ Ended → ⊥) → (stage ≡ Asserting → ⊥)
+        → Some (OfDisconnect (record (disconnect.fresh b.call b.page b.origin options) { stage = stage })) ≡ Some (OfDisconnect f)
+        → Sending (with_event T line event) b.call f
+    goes_on options asked stage is_stage other later whole =
+        let same : record (disconnect.fresh b.call b.page b.origin options) { stage = stage } ≡ f = cc in
+        let g = begun_now T line event b
+        (is_beginning event b.page b.call b.options s.is_event) s.stands o stage is_stage other s.effects in
         subst (Sending (with_event T line event) b.call) same
         (record {
           begun = b;
@@ -133,8 +130,24 @@ sending_begun T line event call f new s is =
               (ap (λ x. let v : PendingCall = record { page = b.page; kind = kind_asked x } in v) asked) g;
           of_origin = refl;
           is_disconnect = asked;
-          asked = λ at. absurd (cc);
+          asked = λ at. absurd (later at);
         })
+
+    go : (options : CallOptions) → b.options ≡ options → FirstTurn o → Sending (with_event T line event) b.call f
+    go (ToGet options) asked (ReadsFirst reading none gives) =
+        not_of_get (get.at_stage Reading (get.fresh (world_at T) b.call b.page b.origin options)) f (known Reading reading
+        (ToGet options) asked)
+    go (ToGet options) asked (GathersFirst gathering none gives) =
+        not_of_get (get.at_stage Gathering (get.fresh (world_at T) b.call b.page b.origin options)) f
+        (known Gathering gathering (ToGet options) asked)
+    go (ToGet options) asked (FailsFirst failure ended none gives) =
+        not_of_get (get.at_stage Ended (get.fresh (world_at T) b.call b.page b.origin options)) f (known Ended ended (ToGet options) asked)
+    go (ToDisconnect options) asked (FailsFirst failure ended none gives) =
+        let no : None ≡ Some (OfDisconnect f) = known Ended ended (ToDisconnect options) asked in absurd (cc)
+    go (ToDisconnect options) asked (ReadsFirst reading none gives) =
+        goes_on options asked Reading reading (λ h. cc) (λ h. cc) (known Reading reading (ToDisconnect options) asked)
+    go (ToDisconnect options) asked (GathersFirst gathering none gives) =
+        goes_on options asked Gathering gathering (λ h. cc) (λ h. cc) (known Gathering gathering (ToDisconnect options) asked)
 
 -- ---- an input
 

@@ -1,12 +1,13 @@
 -- A token that a reply holds reaches the page that awaits it.
-use Rattle.fed_call.specs.AssertingRows.{asserting_reply, assertion_reply, by_token, clears, keeps, token_refused}
+use Rattle.fed_call.specs.AssertingRows.{asserting_reply, assertion_reply, by_token, clears, keeps, picked_at, token_refused}
+use Rattle.fed_call.specs.Accounts.{Offered}
 use Rattle.fed_call.specs.DialogRows.{chose, went_on, cancelled}
 use Rattle.fed_call.specs.WindowRows.{asked_to_sign_in, resumed, window_shut}
 use Rattle.fed_consent.specs.Outcomes as outcomes
-use Rattle.fed_call.specs.Facts.{Facts, at_stage, provider_at, with_input}
+use Rattle.fed_call.specs.Facts.{Facts, at_stage, with_input}
 use Rattle.fed_consent.specs.Outcomes.{Outcome, finishes}
 use Rattle.fed_call.specs.Row.{input_row, stage_reply}
-use Rattle.fed_consent.specs.Consent.{AssertionFields, Candidate, assertion_fields}
+use Rattle.fed_consent.specs.Consent.{AssertionFields}
 use Rattle.fed_consent.specs.declared.table.ask.Ask.{Ask}
 use Rattle.fed_consent.specs.declared.table.ask.Ask.TheVariants as asks
 use Rattle.fed_consent.specs.declared.table.finish.Finish.TheVariants.{Token}
@@ -16,7 +17,6 @@ use Rattle.fed_consent.specs.declared.table.input.Input.{Input}
 use Rattle.fed_origin.specs.Origin.{origin_text}
 use Rattle.fed_origin.specs.WebUrl.{origin_of}
 use Rattle.fed_status.specs.Kept.{triple_of}
-use Rattle.fed_origin.specs.declared.options.ProviderOptions.{ProviderOptions}
 use Rattle.fed_origin.specs.declared.origin.Origin.{Origin}
 use Rattle.fed_origin.specs.declared.stage.ReplyKind.TheVariants as kinds
 use Rattle.fed_origin.specs.declared.stage.ReplyKind.{ReplyKind}
@@ -37,9 +37,9 @@ use Rattle.fed_trace.proofs.calls.Pending.{is_among}
 use Rattle.fed_laws.proofs.pending.Stood.{Invariant, Stood, get_at}
 use Rattle.fed_trace.proofs.happens.Taken.{Meets, is_get, facts_taken, outcome_of}
 use Rattle.fed_laws.proofs.pending.Resumed.{stage_resumed}
-use Rattle.fed_laws.proofs.pending.Taken.{asks_at, gives_at}
+use Rattle.fed_laws.proofs.pending.Taken.{IgnoresOrEnds, asks_at, ends_asserting, gives_at}
 use Rattle.fed_laws.proofs.tokens.Token.{row_of_trace, says_none, says_one}
-use Rattle.fed_laws.proofs.turns.Turn.{Turn, Asks, Gives, Goes, gives_token, requests_asks, requests_stage, turn_at}
+use Rattle.fed_laws.proofs.turns.Turn.{Turn, Asks, Gives, Goes, gives_token, picks_asked, request_of, told, turn_at}
 use Rattle.fed_trace.specs.Begun.{Begun, CallKind, GetCall, kind_asked}
 use Rattle.fed_trace.specs.Call.{OfGet, first_row}
 use Rattle.fed_trace.specs.OfCall.{Has, asked, call_at, disturbs, given, is_result, replaces}
@@ -52,13 +52,12 @@ use Rattle.fed_status.specs.Shared.{World}
 use Rattle.fed_token.specs.Read.{AssertionOf}
 use Rattle.fed_token.specs.declared.step.TokenStep.{TokenStep}
 use Rattle.std.proofs.Common.{◌≡◌, ℕ, Bool, true, false, nat_eq, ◌==◌, ◌||◌, ◌⊎◌, inl, inr, List, [], ◌∷◌}
-use Rattle.std.proofs.Common.{◌++◌, length, Option, Some, None}
+use Rattle.std.proofs.Common.{◌++◌, Option, Some, None}
 use Rattle.std.proofs.Common.{Result as Answer, Ok, Err, map, refl, sym, ap, subst, ◌∙◌, arith, cond}
 use Rattle.std.proofs.lemmas.Bool.Decides.{nat_tests}
 use Rattle.std.specs.List.{filter_map, cons_option, list_any}
 use Rattle.std.specs.Map.{lookup}
 use Rattle.std.specs.Prelude.{filter, unwrap_or, is_some}
-use Rattle.fed_laws.proofs.turns.Only.{first_place, only_there}
 
 -- ---- a call that ends with its page is of that page
 
@@ -100,44 +99,44 @@ listed_page call page at (e ∷ es) distinct found listed =
 
 -- ---- a call that awaits its token
 
--- the call asked for a token, and is of this page and this origin
-record Awaits (T : Trace) (call page : ℕ) (origin : Origin) : Type 0 where
+-- the call asked this provider for a token, and is of this page and this origin
+record Awaits (T : Trace) (call page provider : ℕ) (origin : Origin) : Type 0 where
   facts : Facts
   found : facts_at T call ≡ Some facts
   at : facts.stage ≡ Asserting
   of_page : facts.page ≡ page
   of_origin : facts.origin ≡ origin
+  offered : Offered
+  picks : facts.picked ≡ Some offered
+  is_provider : offered.place ≡ provider
 
 -- at an input it stays, or gives its page a result
 abbrev StaysOrGives : Outcome → Type 0
 StaysOrGives o = (o.stage ≡ None) ⊎ ((finish : Finish) × (filter_map finish_of o.effects ≡ finish ∷ []))
 
-token_gives : (f : Facts) (place : ℕ) (provider : ProviderOptions) (read : Answer (List ℕ) TokenStep)
-    → StaysOrGives (by_token f place provider read)
-token_gives f place provider (Ok token) =
-    let finish = Token f.auto place token in
-    let g = gives_token f.origin (origin_of provider.config) f.picked f.auto finish in
+token_gives : (f : Facts) (offered : Offered) (read : Answer (List ℕ) TokenStep) → StaysOrGives (by_token f offered read)
+token_gives f offered (Ok token) =
+    let finish = Token f.auto offered.place token in
+    let g = gives_token f.origin offered f.auto finish in
     inr (finish, g.gives)
-token_gives f place provider (Err step) = inr (token_refused step, refl)
+token_gives f offered (Err step) = inr (token_refused step, refl)
 
-assertion_gives : (f : Facts) (place : ℕ) (provider : Option ProviderOptions) (raw : List ℕ)
-    → StaysOrGives (assertion_reply f place provider raw)
-assertion_gives f place None raw = inl refl
-assertion_gives f place (Some provider) raw = token_gives f place provider (AssertionOf raw (origin_text f.origin))
+assertion_gives : (f : Facts) (offered : Option Offered) (raw : List ℕ) → StaysOrGives (assertion_reply f offered raw)
+assertion_gives f None raw = inl refl
+assertion_gives f (Some offered) raw = token_gives f offered (AssertionOf raw (origin_text f.origin))
 
-asserting_gives : (f : Facts) (place : ℕ) (provider : Option ProviderOptions) (kind : ReplyKind) (raw : List ℕ)
-    → StaysOrGives (asserting_reply f place provider kind raw)
-asserting_gives f place provider kinds.Assertion raw = assertion_gives f place provider raw
-asserting_gives f place provider kinds.WellKnown raw = inl refl
-asserting_gives f place provider kinds.Config raw = inl refl
-asserting_gives f place provider kinds.Accounts raw = inl refl
-asserting_gives f place provider kinds.Metadata raw = inl refl
-asserting_gives f place provider kinds.Disconnect raw = inl refl
+asserting_gives : (f : Facts) (place : ℕ) (kind : ReplyKind) (raw : List ℕ) → StaysOrGives (asserting_reply f place kind raw)
+asserting_gives f place kinds.Assertion raw = assertion_gives f (picked_at place f.picked) raw
+asserting_gives f place kinds.WellKnown raw = inl refl
+asserting_gives f place kinds.Config raw = inl refl
+asserting_gives f place kinds.Accounts raw = inl refl
+asserting_gives f place kinds.Metadata raw = inl refl
+asserting_gives f place kinds.Disconnect raw = inl refl
 
 stays_or_gives : (world : World) (f : Facts) (input : Input) → f.stage ≡ Asserting → StaysOrGives (input_row world f input)
 stays_or_gives world f (inputs.Reply place kind raw) at =
     subst (λ st. StaysOrGives (stage_reply world f st place kind raw)) (sym at)
-    (asserting_gives f place (provider_at place f.options) kind raw)
+    (asserting_gives f place kind raw)
 stays_or_gives world f (inputs.Choose place id) at = subst (λ st. StaysOrGives (chose world f st place id)) (sym at) (inl refl)
 stays_or_gives world f inputs.GoOn at = subst (λ st. StaysOrGives (went_on f st)) (sym at) (inl refl)
 stays_or_gives world f inputs.Cancel at = subst (λ st. StaysOrGives (cancelled st)) (sym at) (inl refl)
@@ -167,10 +166,12 @@ not_both false false h (inl e) = absurd (cc)
 not_both false false h (inr e) = absurd (cc)
 
 -- the facts of a call that moves to Asserting, or stays there
-awaits_by : (T : Trace) (line : ℕ) (event : Event) (call page : ℕ) (origin : Origin) (f : Facts) → (m : Meets T event call f)
+awaits_by : (T : Trace) (line : ℕ) (event : Event) (call page provider : ℕ) (origin : Origin) (f : Facts) → (m : Meets T event call f)
     → unwrap_or (outcome_of T f m.takes.input).stage f.stage ≡ Asserting → f.page ≡ page → f.origin ≡ origin
-    → Awaits (with_event T line event) call page origin
-awaits_by T line event call page origin f m to of_page of_origin =
+    → (offered : Offered) → (told (world_at T) f m.takes.input (outcome_of T f m.takes.input)).picked ≡ Some offered
+    → offered.place ≡ provider
+    → Awaits (with_event T line event) call page provider origin
+awaits_by T line event call page provider origin f m to of_page of_origin offered picks is_provider =
     let input = m.takes.input in
     let ignored = list_any outcomes.is_ignored (outcome_of T f input).effects in
     let w = with_input (world_at T) ignored input f in
@@ -180,6 +181,9 @@ awaits_by T line event call page origin f m to of_page of_origin =
       at = refl;
       of_page = get_page (world_at T) ignored input f ∙ of_page;
       of_origin = same_origin_of (world_at T) ignored input f ∙ of_origin;
+      offered = offered;
+      picks = picks;
+      is_provider = is_provider;
     }
 
 pub or_left : (a b : Bool) → a || b ≡ false → a ≡ false
@@ -191,10 +195,10 @@ or_right true b h = absurd (cc)
 or_right false b h = h
 
 -- it awaits its token after a row that does not disturb it
-awaits_on : (T : Trace) (line : ℕ) (event : Event) (call page : ℕ) (origin : Origin) → IsNew T.rows event → Invariant T call
-    → (a : Awaits T call page origin)
-    → disturbs call page (row_of T line event) ≡ false → Awaits (with_event T line event) call page origin
-awaits_on T line event call page origin new h a calm = go (happens T event call)
+awaits_on : (T : Trace) (line : ℕ) (event : Event) (call page provider : ℕ) (origin : Origin) → IsNew T.rows event → Invariant T call
+    → (a : Awaits T call page provider origin)
+    → disturbs call page (row_of T line event) ≡ false → Awaits (with_event T line event) call page provider origin
+awaits_on T line event call page provider origin new h a calm = go (happens T event call)
   where
     s : Stood T call a.facts
     s = h.stood a.facts a.found
@@ -206,17 +210,25 @@ awaits_on T line event call page origin new h a calm = go (happens T event call)
         (lookup-standing call_change call T.rows ∙ s.pending) e.there in
         ap (λ p. replaces p event) (sym a.of_page ∙ at_page) ∙ e.replaced
 
+    keeps_pick : (m : Meets T event call a.facts) → IgnoresOrEnds (outcome_of T a.facts m.takes.input)
+        → (outcome_of T a.facts m.takes.input).stage ≡ None
+        → (told (world_at T) a.facts m.takes.input (outcome_of T a.facts m.takes.input)).picked ≡ a.facts.picked
+    keeps_pick m (inl ignores) stays = ap (λ x. (told (world_at T) a.facts m.takes.input x).picked) ignores.1
+    keeps_pick m (inr ended) stays = let no : None ≡ Some Ended = sym stays ∙ ended in absurd (cc)
+
     taken : (m : Meets T event call a.facts) → StaysOrGives (outcome_of T a.facts m.takes.input)
-        → Awaits (with_event T line event) call page origin
+        → Awaits (with_event T line event) call page provider origin
     taken m (inl stays) =
-        awaits_by T line event call page origin a.facts m (ap (λ st. unwrap_or st a.facts.stage) stays ∙ a.at) a.of_page a.of_origin
+        awaits_by T line event call page provider origin a.facts m (ap (λ st. unwrap_or st a.facts.stage) stays
+        ∙ a.at) a.of_page a.of_origin
+        a.offered (keeps_pick m (ends_asserting (world_at T) a.facts m.takes.input a.at) stays ∙ a.picks) a.is_provider
     taken m (inr gives) =
         let result =
         result_disturbs call (effects_of T event) (a.facts.page, gives.0) [] (gives_at T event call a.facts m
         ∙ ap (map {B = ℕ × Finish} (λ x. (a.facts.page, x))) gives.1) in
         not_both (replaces page event) (list_any (is_result call) (effects_of T event)) calm (inr result)
 
-    go : Happens T event call → Awaits (with_event T line event) call page origin
+    go : Happens T event call → Awaits (with_event T line event) call page provider origin
     go (Left l) =
         record {
           facts = a.facts;
@@ -224,6 +236,9 @@ awaits_on T line event call page origin new h a calm = go (happens T event call)
           at = a.at;
           of_page = a.of_page;
           of_origin = a.of_origin;
+          offered = a.offered;
+          picks = a.picks;
+          is_provider = a.is_provider;
         }
     go (Ends e) = not_both (replaces page event) (list_any (is_result call) (effects_of T event)) calm (inl (replaced e))
     go (Started b) =
@@ -240,7 +255,7 @@ awaits_on T line event call page origin new h a calm = go (happens T event call)
 awaits_first : (T : Trace) (line : ℕ) (event : Event) (kind : CallKind) (call provider : ℕ) (ask : AssertionFields) (cookies : List ℕ)
     (b : Begun) → IsNew T.rows event → Invariant T call
     → call_at T.rows call ≡ Some b → Has (effects_of T event) (Sent kind call provider (asks.Assertion ask) cookies)
-    → (provider ≡ 0) × Awaits (with_event T line event) call b.page b.origin
+    → Awaits (with_event T line event) call b.page provider b.origin
 awaits_first T line event kind call provider ask cookies b new h began has = go (happens T event call)
   where
     sent : Effect
@@ -249,35 +264,31 @@ awaits_first T line event kind call provider ask cookies b new h began has = go 
     is : asked call sent ≡ Some (provider, ask)
     is = ap (λ t. cond t (Some (provider, ask)) None) (own call)
 
-    never : filter_map (asked call) (effects_of T event) ≡ [] → (provider ≡ 0) × Awaits (with_event T line event) call b.page b.origin
+    never : filter_map (asked call) (effects_of T event) ≡ [] → Awaits (with_event T line event) call b.page provider b.origin
     never none = says_none (asked call) (effects_of T event) sent (provider, ask) has is none
 
     turned : (f : Facts) → (m : Meets T event call f) → Turn (world_at T) f m.takes.input (outcome_of T f m.takes.input)
-        → (provider ≡ 0) × Awaits (with_event T line event) call b.page b.origin
+        → Awaits (with_event T line event) call b.page provider b.origin
     turned f m (Gives finish ended none gives token) = never (asks_at T event call f m ∙ none)
     turned f m (Goes none gives leaves back) = never (asks_at T event call f m ∙ none)
     turned f m (Asks a) =
         let s = h.stood f m.found in
         let same : Some s.begun ≡ Some b = sym s.began ∙ began in
         let begun_is : s.begun ≡ b = cc in
-        let made = assertion_fields a.agreed a.config.assertion f.origin a.provider in
-        let place_is : a.place ≡ 0 =
-        first_place f.options.providers a.place a.provider (ap (λ o. length o.providers) s.of_options ∙ s.one) a.has_provider in
-        let both : ◌≡◌ {A = ℕ × AssertionFields} (provider, ask) (a.place, made) =
-        says_one (asked call) (effects_of T event) sent (provider, ask) (a.place, made) has is
-        (asks_at T event call f m ∙ requests_asks (outcome_of T f m.takes.input) a.place made a.is) in (
-          ap (λ x. x.0) both ∙ place_is,
-          awaits_by T line event call b.page b.origin f m
-              (ap (λ st. unwrap_or st f.stage) (requests_stage (outcome_of T f m.takes.input) a.place made a.is)) (s.of_page
-              ∙ ap (λ x. x.page) begun_is) (s.of_origin ∙ ap (λ x. x.origin) begun_is),
-        )
+        let made = request_of f a.offered a.manner a.disclosure in
+        let both : ◌≡◌ {A = ℕ × AssertionFields} (provider, ask) (a.offered.place, made) =
+        says_one (asked call) (effects_of T event) sent (provider, ask) (a.offered.place, made) has is
+        (asks_at T event call f m ∙ a.is.asks_it) in
+        awaits_by T line event call b.page provider b.origin f m (ap (λ st. unwrap_or st f.stage) a.is.stage)
+        (s.of_page ∙ ap (λ x. x.page) begun_is) (s.of_origin ∙ ap (λ x. x.origin) begun_is) a.offered
+        (picks_asked (world_at T) f m.takes.input (outcome_of T f m.takes.input) a) (sym (ap (λ x. x.0) both))
 
     taken : (t : Takes T event call) → (o : Option Facts) → facts_at T call ≡ o
-        → (provider ≡ 0) × Awaits (with_event T line event) call b.page b.origin
+        → Awaits (with_event T line event) call b.page provider b.origin
     taken t None found = never (others_ask T event call t found)
     taken t (Some f) found = turned f (record { takes = t; found = found }) (turn_at (world_at T) f t.input)
 
-    begins_with : (s : Starts T event call) → (provider ≡ 0) × Awaits (with_event T line event) call b.page b.origin
+    begins_with : (s : Starts T event call) → Awaits (with_event T line event) call b.page provider b.origin
     begins_with s =
         let o = first_row (world_at T) s.busy s.begun.origin s.begun.options in
         never (ap (filter_map (asked call)) s.effects
@@ -285,9 +296,9 @@ awaits_first T line event kind call provider ask cookies b new h began has = go 
         s.begun.page o)) (sym s.is_call)
         ∙ outcome_asks (world_at T) (cookies_with T) (kind_asked s.begun.options) s.begun.call s.begun.page o
         ∙ first_asks_none o (first_turn (world_at T) s.busy s.begun.origin s.begun.options
-        (is_first T event s.begun.page s.begun.call s.begun.options new s.is_event).one))
+        (is_first T event s.begun.page s.begun.call s.begun.options new s.is_event).some))
 
-    go : Happens T event call → (provider ≡ 0) × Awaits (with_event T line event) call b.page b.origin
+    go : Happens T event call → Awaits (with_event T line event) call b.page provider b.origin
     go (Left l) = never l.quiet.asks
     go (Ends e) = never e.asks
     go (Started s) = begins_with s
@@ -300,11 +311,11 @@ awaits_since : (header : Header) (since before : List Row) (asking : Row) (kind 
     → IsRun header (since ++ asking ∷ before) → call_at before call ≡ Some b
     → Has asking.effects (Sent kind call provider (asks.Assertion ask) cookies)
     → list_any (disturbs call b.page) since ≡ false
-    → (provider ≡ 0) × Awaits (record { header = header; rows = since ++ asking ∷ before }) call b.page b.origin
+    → Awaits (record { header = header; rows = since ++ asking ∷ before }) call b.page provider b.origin
 awaits_since header [] before asking kind call provider ask cookies b run began has calm =
     let T : Trace = record { header = header; rows = before } in
     let same = row_is T asking run.0 in
-    subst (λ r. (provider ≡ 0) × Awaits (record { header = header; rows = r ∷ before }) call b.page b.origin) (sym same)
+    subst (λ r. Awaits (record { header = header; rows = r ∷ before }) call b.page provider b.origin) (sym same)
     (awaits_first T asking.line asking.event kind call provider ask cookies b run.1 (invariant header before call run.2) began
     (subst (λ es. Has es (Sent kind call provider (asks.Assertion ask) cookies)) run.0 has))
 awaits_since header (row ∷ since) before asking kind call provider ask cookies b run began has calm =
@@ -312,66 +323,63 @@ awaits_since header (row ∷ since) before asking kind call provider ask cookies
     let same = row_is T row run.0 in
     let here : disturbs call b.page row ≡ false = or_left (disturbs call b.page row) (list_any (disturbs call b.page) since) calm in
     let earlier = awaits_since header since before asking kind call provider ask cookies b run.2 began has
-    (or_right (disturbs call b.page row) (list_any (disturbs call b.page) since) calm) in (
-      earlier.0,
-      subst (λ r. Awaits (record { header = header; rows = r ∷ (since ++ asking ∷ before) }) call b.page b.origin) (sym same)
-          (awaits_on T row.line row.event call b.page b.origin run.1 (invariant header (since ++ asking ∷ before) call run.2) earlier.1
-          (subst (λ r. disturbs call b.page r ≡ false) same here)),
-    )
+    (or_right (disturbs call b.page row) (list_any (disturbs call b.page) since) calm) in
+    subst (λ r. Awaits (record { header = header; rows = r ∷ (since ++ asking ∷ before) }) call b.page provider b.origin) (sym same)
+    (awaits_on T row.line row.event call b.page provider b.origin run.1 (invariant header (since ++ asking ∷ before) call run.2) earlier
+    (subst (λ r. disturbs call b.page r ≡ false) same here))
 
 -- ---- the reply
 
 -- what a call does that awaits the token of this reply
-answer_row : (world : World) (f : Facts) (raw token : List ℕ) (p : ProviderOptions) → f.stage ≡ Asserting → provider_at 0 f.options ≡ Some p
+answer_row : (world : World) (f : Facts) (raw token : List ℕ) (offered : Offered) → f.stage ≡ Asserting → f.picked ≡ Some offered
     → AssertionOf raw (origin_text f.origin) ≡ Ok token
-    → input_row world f (inputs.Reply 0 kinds.Assertion raw) ≡ by_token f 0 p (Ok token)
-answer_row world f raw token p at has reads =
-    ap (λ st. stage_reply world f st 0 kinds.Assertion raw) at ∙ ap (λ o. assertion_reply f 0 o raw) has ∙ ap (by_token f 0 p) reads
+    → input_row world f (inputs.Reply offered.place kinds.Assertion raw) ≡ by_token f offered (Ok token)
+answer_row world f raw token offered at picks reads =
+    ap (λ st. stage_reply world f st offered.place kinds.Assertion raw) at
+    ∙ ap (λ o. assertion_reply f (picked_at offered.place o) raw) picks
+    ∙ ap (λ b. assertion_reply f (cond b (Some offered) None) raw) (own offered.place)
+    ∙ ap (by_token f offered) reads
 
 -- the result is among the effects, after the permission and the flag
-pub gives_result : (world : World) (cookies : Ask → List ℕ) (call page : ℕ) (origin provider : Origin) (picked : Option Candidate)
+pub gives_result : (world : World) (cookies : Ask → List ℕ) (call page : ℕ) (origin : Origin) (offered : Offered)
     (auto : Bool) (finish : Finish)
-    → Has (outcome_effects world cookies GetCall call page (keeps origin provider picked (clears auto origin (finishes finish))))
+    → Has (outcome_effects world cookies GetCall call page (keeps origin offered (clears auto origin (finishes finish))))
     (Result call page finish)
-gives_result world cookies call page origin provider None true finish =
-    record { before = []; after = Move GetCall call Ended ∷ []; all = refl }
-gives_result world cookies call page origin provider None false finish =
-    record { before = Flag origin false ∷ []; after = Move GetCall call Ended ∷ []; all = refl }
-gives_result world cookies call page origin provider (Some candidate) true finish =
+gives_result world cookies call page origin offered true finish =
     record {
-      before = Kept (triple_of origin provider candidate.account.id) true ∷ [];
+      before = Kept (triple_of origin (origin_of offered.options.config) offered.candidate.account.id) true ∷ [];
       after = Move GetCall call Ended ∷ [];
       all = refl;
     }
-gives_result world cookies call page origin provider (Some candidate) false finish =
+gives_result world cookies call page origin offered false finish =
     record {
-      before = Kept (triple_of origin provider candidate.account.id) true ∷ Flag origin false ∷ [];
+      before = Kept (triple_of origin (origin_of offered.options.config) offered.candidate.account.id) true ∷ Flag origin false ∷ [];
       after = Move GetCall call Ended ∷ [];
       all = refl;
     }
 
 answered : (T : Trace) (event : Event) (call provider page : ℕ) (origin : Origin) (raw token : List ℕ) → Invariant T call
-    → Awaits T call page origin → provider ≡ 0
+    → Awaits T call page provider origin
     → event ≡ Reply call provider kinds.Assertion raw → AssertionOf raw (origin_text origin) ≡ Ok token
     → (auto : Bool) × Has (effects_of T event) (Result call page (Token auto provider token))
-answered T event call provider page origin raw token h a first is reads =
+answered T event call provider page origin raw token h a is reads =
     let f = a.facts in
     let s = h.stood f a.found in
-    let only = only_there f.options.providers (ap (λ o. length o.providers) s.of_options ∙ s.one) in
-    let comes : event ≡ Reply call 0 kinds.Assertion raw = is ∙ ap (λ p. Reply call p kinds.Assertion raw) first in
+    let x = a.offered in
+    let comes : event ≡ Reply call x.place kinds.Assertion raw = is ∙ ap (λ p. Reply call p kinds.Assertion raw) (sym a.is_provider) in
     let known : known_at T call ≡ Some (OfGet f) = is_get (known_at T call) f a.found in
-    let does : effects_of T event ≡ outcome_effects (world_at T) (cookies_with T) GetCall call f.page (by_token f 0 only.0 (Ok token)) =
+    let does : effects_of T event ≡ outcome_effects (world_at T) (cookies_with T) GetCall call f.page (by_token f x (Ok token)) =
     ap (effects_of T) comes
-    ∙ ap (λ t. input_effects (world_at T) (cookies_with T) t call (known_at T call) (inputs.Reply 0 kinds.Assertion raw)) s.is_taken
-    ∙ ap (λ o. input_effects (world_at T) (cookies_with T) true call o (inputs.Reply 0 kinds.Assertion raw)) known
+    ∙ ap (λ t. input_effects (world_at T) (cookies_with T) t call (known_at T call) (inputs.Reply x.place kinds.Assertion raw)) s.is_taken
+    ∙ ap (λ o. input_effects (world_at T) (cookies_with T) true call o (inputs.Reply x.place kinds.Assertion raw)) known
     ∙ ap (outcome_effects (world_at T) (cookies_with T) GetCall call f.page)
-    (answer_row (world_at T) f raw token only.0 a.at only.1 (ap (λ o. AssertionOf raw (origin_text o)) a.of_origin ∙ reads)) in
-    let result : Has (effects_of T event) (Result call f.page (Token f.auto 0 token)) =
-    subst (λ es. Has es (Result call f.page (Token f.auto 0 token))) (sym does)
-    (gives_result (world_at T) (cookies_with T) call f.page f.origin (origin_of only.0.config) f.picked f.auto (Token f.auto 0 token)) in (
+    (answer_row (world_at T) f raw token x a.at a.picks (ap (λ o. AssertionOf raw (origin_text o)) a.of_origin ∙ reads)) in
+    let result : Has (effects_of T event) (Result call f.page (Token f.auto x.place token)) =
+    subst (λ es. Has es (Result call f.page (Token f.auto x.place token))) (sym does)
+    (gives_result (world_at T) (cookies_with T) call f.page f.origin x f.auto (Token f.auto x.place token)) in (
       f.auto,
-      subst (λ p. Has (effects_of T event) (Result call page (Token f.auto p token))) (sym first)
-          (subst (λ p. Has (effects_of T event) (Result call p (Token f.auto 0 token))) a.of_page result),
+      subst (λ p. Has (effects_of T event) (Result call page (Token f.auto p token))) a.is_provider
+          (subst (λ p. Has (effects_of T event) (Result call p (Token f.auto x.place token))) a.of_page result),
     )
 
 pub answered_lem : OfRuns IsAnswered
@@ -381,5 +389,5 @@ answered_lem T run after since before row asking kind call provider ask cookies 
     let gives =
     answered (at T (since ++ asking ∷ before)) row.event call provider b.page b.origin raw token (invariant T.header
     (since ++ asking ∷ before) call r.run)
-    awaits.1 awaits.0 is_reply reads in
+    awaits is_reply reads in
     (gives.0, subst (λ es. Has es (Result call b.page (Token gives.0 provider token))) (sym r.effects) gives.1)

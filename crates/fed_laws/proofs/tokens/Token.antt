@@ -1,5 +1,5 @@
 -- A token reaches the page whose call was answered.
-use Rattle.std.proofs.Common.{◌≡◌, ℕ, true, false, Bool, List, [], ◌∷◌, ◌++◌, length, Option, Some, None, map}
+use Rattle.std.proofs.Common.{◌≡◌, ℕ, true, false, Bool, List, [], ◌∷◌, ◌++◌, Option, Some, None, map}
 use Rattle.std.proofs.Common.{refl, sym, ap}
 use Rattle.std.proofs.Common.{subst, ◌∙◌, cond}
 use Rattle.std.proofs.lemmas.List.Elements.{filter_map-append}
@@ -9,7 +9,6 @@ use Rattle.fed_origin.specs.Origin.{origin_text}
 use Rattle.fed_token.specs.Read.{AssertionOf}
 use Rattle.fed_consent.specs.declared.table.finish.Finish.{Finish}
 use Rattle.fed_consent.specs.declared.table.finish.Finish.TheVariants.{Token, Failed}
-use Rattle.fed_consent.specs.Consent.{assertion_fields}
 use Rattle.fed_call.specs.Facts.{Facts}
 use Rattle.fed_script.specs.declared.event.Event.{Event}
 use Rattle.fed_script.specs.declared.event.Event.TheVariants as events
@@ -22,7 +21,7 @@ use Rattle.fed_laws.specs.Laws.{OfRuns, ReachesItsPage, at}
 use Rattle.fed_trace.specs.Row.{effects_of, cookies_with, outcome_effects, IsNew, IsRun}
 use Rattle.fed_trace.specs.Trace.{Row, Trace, page_at}
 use Rattle.fed_laws.proofs.pending.Asked.{invariant}
-use Rattle.fed_trace.proofs.happens.First.{FirstTurn, FailsFirst, ReadsFirst, first_turn, is_first}
+use Rattle.fed_trace.proofs.happens.First.{FirstTurn, FailsFirst, ReadsFirst, GathersFirst, first_turn, is_first}
 use Rattle.fed_trace.proofs.happens.Disconnects.{Turn as DisconnectTurn, Gives as GivesOther, GivesNone, is_token, disconnect_turn}
 use Rattle.fed_trace.proofs.happens.Gets.{Taking, ByGet, ByDisconnect, ByNone, taking}
 use Rattle.fed_trace.proofs.happens.Over.{over_quiet}
@@ -35,8 +34,7 @@ use Rattle.fed_laws.proofs.pending.Taken.{gives_at}
 use Rattle.fed_trace.proofs.happens.Ends.{Happens, Left, Ends, Started, Took, Resumed, Starts, Takes, event_for}
 use Rattle.fed_trace.proofs.happens.Happens.{happens}
 use Rattle.fed_trace.proofs.happens.Says.{own, outcome_gives, finish_of}
-use Rattle.fed_laws.proofs.turns.Turn.{Turn, Asks, Gives, Goes, IfToken, InReply, requests_gives, turn_at}
-use Rattle.fed_laws.proofs.turns.Only.{first_place}
+use Rattle.fed_laws.proofs.turns.Turn.{Turn, Asks, Gives, Goes, IfToken, InReply, turn_at}
 
 -- ---- a row of what happened, and what happened before it
 
@@ -89,16 +87,18 @@ delivers : (T : Trace) (event : Event) (call page provider : ℕ) (token : List 
     → page ≡ f.page
     → InReply f m.takes.input (outcome_of T f m.takes.input) provider token → Delivers T event call page provider token
 delivers T event call page provider token f m s is r =
-    let place_is : r.place ≡ 0 =
-    first_place f.options.providers r.place r.provider (ap (λ o. length o.providers) s.of_options ∙ s.one) r.has_provider in
-    let came : Some event ≡ Some (events.Reply call r.place kinds.Assertion r.raw) = m.takes.is_event ∙ ap (event_for call) r.is_reply in
-    let reply : event ≡ events.Reply call r.place kinds.Assertion r.raw = cc in
+    let came : Some event
+    ≡ Some (events.Reply call r.offered.place kinds.Assertion r.raw) = m.takes.is_event ∙ ap (event_for call) r.is_reply in
+    let reply : event ≡ events.Reply call r.offered.place kinds.Assertion r.raw = cc in
+    let for_it = s.asked_for r.asserting in
+    let both : Some for_it.offered ≡ Some r.offered = sym for_it.picks ∙ r.picks in
+    let offered_is : for_it.offered ≡ r.offered = cc in
     record {
       begun = s.begun;
       undisturbed = s.undisturbed;
       is_page = is ∙ s.of_page;
       stands = ap (page_at T) is ∙ s.page ∙ ap Some s.of_origin;
-      asked = subst (Asked T.rows call) (sym (r.is_from ∙ place_is)) (s.asked_for r.asserting).asked;
+      asked = subst (Asked T.rows call) (ap (λ x. x.place) offered_is ∙ sym r.is_from) for_it.asked;
       raw = r.raw;
       is_reply = reply ∙ ap (λ place. events.Reply call place kinds.Assertion r.raw) (sym r.is_from);
       reads = ap (λ o. AssertionOf r.raw (origin_text o)) (sym s.of_origin) ∙ r.reads;
@@ -124,9 +124,7 @@ delivered T event call page provider auto token new h has = go (happens T event 
     turned : (f : Facts) → (m : Meets T event call f) → Turn (world_at T) f m.takes.input (outcome_of T f m.takes.input)
         → Delivers T event call page provider token
     turned f m (Asks a) =
-        let ask = assertion_fields a.agreed a.config.assertion f.origin a.provider in
-        never (gives_at T event call f m
-        ∙ ap (map (λ x. (f.page, x))) (requests_gives (outcome_of T f m.takes.input) a.place ask a.is))
+        never (gives_at T event call f m ∙ ap (map (λ x. (f.page, x))) a.is.gives)
     turned f m (Goes asks gives leaves back) = never (gives_at T event call f m ∙ ap (map (λ x. (f.page, x))) gives)
     turned f m (Gives other ended asks gives token_in) =
         let both = same f.page other (gives_at T event call f m ∙ ap (map (λ x. (f.page, x))) gives) in
@@ -175,6 +173,7 @@ delivered T event call page provider auto token new h has = go (happens T event 
             (first_row (world_at T) s.busy s.begun.origin s.begun.options)
 
         under : FirstTurn (first_row (world_at T) s.busy s.begun.origin s.begun.options) → Delivers T event call page provider token
+        under (GathersFirst gathering asks none) = never (gives ∙ ap (map (λ x. (s.begun.page, x))) none)
         under (ReadsFirst reading asks none) = never (gives ∙ ap (map (λ x. (s.begun.page, x))) none)
         under (FailsFirst failure ended asks fails) =
             let both = same s.begun.page (Failed failure) (gives ∙ ap (map (λ x. (s.begun.page, x))) fails) in
@@ -186,7 +185,7 @@ delivered T event call page provider auto token new h has = go (happens T event 
     go (Ends e) = never e.gives
     go (Started s) =
         begins_with s (first_turn (world_at T) s.busy s.begun.origin s.begun.options
-        (is_first T event s.begun.page s.begun.call s.begun.options new s.is_event).one)
+        (is_first T event s.begun.page s.begun.call s.begun.options new s.is_event).some)
     go (Took t) = taken t (facts_at T call) refl
     go (Resumed r) = never r.gives
 

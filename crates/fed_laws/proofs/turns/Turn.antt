@@ -1,104 +1,120 @@
 -- What a call does at an input: it asks for a token, or gives the page what it gets, or does neither.
-use Rattle.std.proofs.Common.{◌≡◌, ℕ, Bool, true, false, List, [], ◌∷◌, Option, Some, None, Result as Answer, Ok, Err, refl, ap, ◌∙◌}
-use Rattle.std.specs.Prelude.{option_and_then, unwrap_or, not, ◌||◌}
-use Rattle.std.specs.List.{filter_map, cons_option, list_any}
+use Rattle.std.proofs.Common.{◌≡◌, ℕ, Bool, true, false, nat_eq, cond, List, [], ◌∷◌, ◌++◌, append_assoc, Option, Some, None}
+use Rattle.std.proofs.Common.{Result as Answer, Ok, Err, refl, sym, ap, subst, ◌∙◌, arith}
+use Rattle.std.proofs.lemmas.Bool.Decides.{nat_tests}
+use Rattle.std.specs.Prelude.{unwrap_or, not, ◌||◌, slice_set}
+use Rattle.std.specs.List.{filter_map, flat_map, cons_option, list_any}
 use Rattle.url.specs.Parts.{Parts}
-use Rattle.fed_origin.specs.declared.options.Mediation.{Mediation}
-use Rattle.fed_origin.specs.declared.options.Mediation.TheVariants.{Silent, Optional, Required}
 use Rattle.fed_origin.specs.declared.options.ProviderOptions.{ProviderOptions}
 use Rattle.fed_origin.specs.declared.origin.Origin.{Origin}
 use Rattle.fed_origin.specs.declared.stage.ReplyKind.{ReplyKind}
+use Rattle.fed_origin.specs.declared.stage.ReplyKind.TheVariants as kinds
 use Rattle.fed_origin.specs.declared.stage.Stage.{Stage}
-use Rattle.fed_origin.specs.declared.stage.Stage.TheVariants.{Reading, Listing, Mismatch, Window, Choosing, Prompting, Asserting, Ended}
+use Rattle.fed_origin.specs.declared.stage.Stage.TheVariants.{Reading, Listing, Gathering, Mismatch, Window, Choosing, Prompting}
+use Rattle.fed_origin.specs.declared.stage.Stage.TheVariants.{Asserting, Ended}
 use Rattle.fed_origin.specs.declared.status.LoginStatus.TheVariants.{LoggedIn, LoggedOut}
 use Rattle.fed_origin.specs.Origin.{origin_text}
 use Rattle.fed_origin.specs.WebUrl.{origin_of}
 use Rattle.fed_provider.specs.declared.config.Config.{Config as Configuration}
-use Rattle.fed_provider.specs.declared.step.ProviderStep.{ProviderStep}
-use Rattle.fed_provider.specs.declared.metadata.PolicyLinks.{PolicyLinks}
-use Rattle.fed_provider.specs.Metadata.{MetadataOf}
+use Rattle.fed_provider.specs.declared.first_replies.FirstReplies.{FirstReplies}
+use Rattle.fed_provider.specs.declared.first_replies.Heard.TheVariants as heards
+use Rattle.fed_provider.specs.FirstReplies.{reply_heard}
 use Rattle.fed_accounts.specs.declared.account.Account.{Account}
-use Rattle.fed_accounts.specs.declared.step.AccountsStep.{AccountsStep}
 use Rattle.fed_token.specs.declared.step.TokenStep.{TokenStep}
+use Rattle.fed_token.specs.declared.step.TokenStep.TheVariants as token_steps
 use Rattle.fed_token.specs.Read.{AssertionOf}
 use Rattle.fed_status.specs.Login.{status_of}
 use Rattle.fed_status.specs.Shared.{World}
+use Rattle.fed_consent.specs.declared.table.ask.Ask.TheVariants as asks
 use Rattle.fed_consent.specs.declared.table.effect.Effect.{Effect as CallEffect}
+use Rattle.fed_consent.specs.declared.table.effect.Effect.TheVariants as does
 use Rattle.fed_consent.specs.declared.table.failure.Failure.{Failure}
+use Rattle.fed_consent.specs.declared.table.failure.FailStep.TheVariants as steps
 use Rattle.fed_consent.specs.declared.table.finish.Finish.{Finish}
 use Rattle.fed_consent.specs.declared.table.finish.Finish.TheVariants.{Token, Disconnected, Failed, ProviderError}
 use Rattle.fed_consent.specs.declared.table.input.Input.{Input}
+use Rattle.fed_consent.specs.declared.table.input.Input.TheVariants as inputs
 use Rattle.fed_consent.specs.declared.consent.manner.Manner.{Manner}
-use Rattle.fed_consent.specs.declared.consent.manner.Manner.TheVariants.{Chosen, Prompted}
+use Rattle.fed_consent.specs.declared.consent.manner.Manner.TheVariants.{Chosen, Prompted, Reselected}
 use Rattle.fed_consent.specs.declared.table.why.Why.{Why}
 use Rattle.fed_consent.specs.declared.table.why.Why.TheVariants.{NotWaited, NotOffered, NoAccount, CallEnded}
-use Rattle.fed_consent.specs.Consent.{Agreement, AssertionFields, Candidate, Listed, Pick, assertion_fields, by_reselection, chosen}
-use Rattle.fed_consent.specs.Consent.{is_auto}
-use Rattle.fed_call.specs.Accounts.{accounts_of, candidate_of, listed_of}
-use Rattle.fed_call.specs.AssertingRows.{asserts, by_token, clears, keeps, assertion_reply, asserting_reply}
-use Rattle.fed_call.specs.DialogRows.{agreed_to, chose, choice, settles, goes_on, went_on, cancelled, prompting_reply, metadata_reply}
-use Rattle.fed_call.specs.DialogRows.{links_shown}
-use Rattle.fed_call.specs.Facts.{Facts, provider_at, metadata_endpoint, reselected}
-use Rattle.fed_provider.specs.FirstReplies.{config_read, wellknown_of}
+use Rattle.fed_consent.specs.Consent.{AssertionFields, assertion_fields, is_auto}
+use Rattle.fed_consent.specs.Failures.{plain}
 use Rattle.fed_consent.specs.Outcomes.{Outcome, finishes, fails, ignored, stays, moves, after, only_place, is_ignored}
-use Rattle.fed_consent.specs.Failures.{plain, provider_failure, accounts_failure}
-use Rattle.fed_call.specs.ListingRows.{listing_reply, by_accounts, offers, prompt_effect, choice_dialog, by_mismatch, by_window}
-use Rattle.fed_call.specs.ListingRows.{is_mismatch, site_of, accepted, accounts_reply, by_reselected, unless_silent}
-use Rattle.fed_call.specs.ReadingRows.{reading_reply, wellknown_reply, config_reply, asks_accounts}
+use Rattle.fed_call.specs.declared.progress.Progress.{Progress}
+use Rattle.fed_call.specs.declared.progress.Progress.TheVariants as progress_is
+use Rattle.fed_call.specs.Accounts.{Offered, provider_at}
+use Rattle.fed_call.specs.AssertingRows.{agreed_to, asserts, by_token, clears, keeps, picked_at, assertion_reply, asserting_reply}
+use Rattle.fed_call.specs.DialogRows.{chose, choice, by_connection, goes_on, went_on, cancelled, prompting_reply, metadata_reply}
+use Rattle.fed_call.specs.Dialogs.{prompt_effect, site_of}
+use Rattle.fed_call.specs.Facts.{Facts, Conclusion, Awaits, NoneLeft, Reselects, NoneSilent, Offers, Prompts, came_at, conclusion_of}
+use Rattle.fed_call.specs.Facts.{config_at, found_offered}
+use Rattle.fed_call.specs.Facts.{is_single, progress_at, with_came, with_choice, with_conclusion, with_input, with_none_fitting}
+use Rattle.fed_call.specs.Facts.{with_progress, with_settled}
+use Rattle.fed_call.specs.GatheringRows.{gathering_came}
+use Rattle.fed_call.specs.Progress.{Came, Unawaited, Refused, Waits, Both, NoneFits, Fit, came, came_heard, came_listing}
+use Rattle.fed_call.specs.Row.{stage_reply, came_row, provider_row, input_row}
+use Rattle.fed_call.specs.SettledRows.{concludes, settles}
+use Rattle.fed_call.specs.SingleRows.{single_came, by_mismatch, by_window, is_mismatch}
 use Rattle.fed_call.specs.WindowRows.{may_sign_in, opens_window, asked_to_sign_in, asks_again, resumed, window_shut}
-use Rattle.fed_call.specs.Row.{stage_reply, input_row}
-use Rattle.fed_origin.specs.declared.stage.ReplyKind.TheVariants as kinds
-use Rattle.fed_token.specs.declared.step.TokenStep.TheVariants as token_steps
-use Rattle.fed_consent.specs.declared.table.ask.Ask.TheVariants as asks
-use Rattle.fed_consent.specs.declared.table.effect.Effect.TheVariants as does
-use Rattle.fed_consent.specs.declared.table.failure.FailStep.TheVariants as steps
-use Rattle.fed_consent.specs.declared.table.input.Input.TheVariants as inputs
+use Rattle.fed_consent.specs.declared.table.ask.Ask.{Ask}
+use Rattle.fed_trace.specs.Begun.{GetCall}
+use Rattle.fed_trace.specs.Effect.{Sent, Move}
+use Rattle.fed_trace.specs.OfCall.{Has}
+use Rattle.fed_trace.specs.Row as rows
 use Rattle.fed_trace.proofs.happens.Says.{asks_token, finish_of}
 
--- the user was shown what the provider tells the page: by going on with an account that was not connected
-abbrev pub disclosed : Input → Candidate → Bool
-disclosed inputs.GoOn candidate = not candidate.connected
-disclosed _ candidate = false
+-- what is known of a call after an input with this outcome
+abbrev pub told : World → Facts → Input → Outcome → Facts
+told world f input o = with_input world (list_any is_ignored o.effects) input f
 
--- the account was reselected: by the reply of accounts itself
+-- the stages at which an account is to be agreed to
+abbrev pub is_open : Stage → Bool
+is_open Choosing = true
+is_open Prompting = true
+is_open Reading = false
+is_open Listing = false
+is_open Gathering = false
+is_open Mismatch = false
+is_open Window = false
+is_open Asserting = false
+is_open Ended = false
+
+-- ---- why a call asks for a token
+
+-- how far the provider has come, where a reply of it settles it
+abbrev pub settling : Came → Bool → Option Progress
+settling Unawaited single = None
+settling (Refused failure) single = Some (progress_is.Dropped failure)
+settling (Waits replies) single = None
+settling (Both config) single = None
+settling (NoneFits failure) true = None
+settling (NoneFits failure) false = Some (progress_is.Dropped failure)
+settling (Fit config accounts) single = Some (progress_is.Listed config accounts)
+
+-- the same of a reply of this kind of the provider at this place
+abbrev pub settling_at : World → Facts → ℕ → ReplyKind → List ℕ → Option Progress
+settling_at world f place kind raw = settling (came_at world f place kind raw) (is_single f.options)
+
+-- the user was shown what the provider tells the page: by going on with an account that was not connected
+abbrev pub disclosed : Input → Offered → Bool
+disclosed inputs.GoOn offered = not offered.candidate.connected
+disclosed _ offered = false
+
+-- the account was reselected: by a reply
 abbrev pub reselects : Input → Bool
-reselects (inputs.Reply place kinds.Accounts raw) = true
+reselects (inputs.Reply place kind raw) = true
 reselects _ = false
 
--- why a call asks for a token: the user's word, or a kept permission
-pub data Reason (world : World) (f : Facts) (input : Input) (candidate : Candidate) (provider : ProviderOptions) : Type 0 where
-  Chose : (place : ℕ) (id : List ℕ) (listed : Listed) → f.stage ≡ Choosing → input ≡ inputs.Choose place id
-      → provider_at place f.options ≡ Some provider
-      → f.listed ≡ Some listed → chosen id listed ≡ Some candidate → candidate.connected ≡ true
-      → Reason world f input candidate provider
-  WentOn : f.stage ≡ Prompting → input ≡ inputs.GoOn → provider_at only_place f.options ≡ Some provider → f.waits ≡ false
-      → f.picked ≡ Some candidate
-      → Reason world f input candidate provider
-  Suffices : (place : ℕ) (raw : List ℕ) (accounts : List Account) (pick : Pick) → f.stage ≡ Listing
-      → input ≡ inputs.Reply place kinds.Accounts raw → provider_at place f.options ≡ Some provider
-      → accounts_of raw provider ≡ Ok accounts → reselected world f place provider accounts ≡ Some pick
-      → pick.candidate ≡ candidate
-      → Reason world f input candidate provider
-
--- the outcome is the request for a token, by itself or after the user was logged in
-pub data Requests (o : Outcome) (place : ℕ) (ask : AssertionFields) : Type 0 where
-  ByItself : o ≡ moves Asserting (does.Send place (asks.Assertion ask)) → Requests o place ask
-  AfterLogin : (origin : Origin)
-      → o ≡ after (does.SetLogin origin LoggedIn) (moves Asserting (does.Send place (asks.Assertion ask))) → Requests o place ask
-
-pub record AsksToken (world : World) (f : Facts) (input : Input) (o : Outcome) : Type 0 where
-  pub candidate : Candidate
-  pub provider : ProviderOptions
-  pub reason : Reason world f input candidate provider
-  pub config : Configuration
-  pub configured : f.config ≡ Some config
-  pub agreed : Agreement
-  pub account : agreed.account ≡ candidate.account.id
-  pub auto : is_auto agreed.manner ≡ reselects input
-  pub disclosure : agreed.disclosure ≡ disclosed input candidate
-  pub place : ℕ
-  pub has_provider : provider_at place f.options ≡ Some provider
-  pub is : Requests o place (assertion_fields agreed config.assertion f.origin provider)
+-- the user's word, or a kept permission
+pub data Reason (world : World) (f : Facts) (input : Input) (offered : Offered) : Type 0 where
+  Chose : (place : ℕ) (id : List ℕ) → f.stage ≡ Choosing → input ≡ inputs.Choose place id
+      → found_offered place id f ≡ Some offered → offered.candidate.connected ≡ true → Reason world f input offered
+  WentOn : f.stage ≡ Prompting → input ≡ inputs.GoOn → f.waits ≡ false → f.picked ≡ Some offered → Reason world f input offered
+  Suffices : (place : ℕ) (kind : ReplyKind) (raw : List ℕ) (progress : Progress) → (f.stage ≡ Asserting → ⊥)
+      → input ≡ inputs.Reply place kind raw → settling_at world f place kind raw ≡ Some progress
+      → conclusion_of world f.origin f.options (slice_set f.progress place progress) ≡ Reselects offered
+      → Reason world f input offered
 
 -- a permission comes or goes by the effect
 abbrev pub changes_kept : CallEffect → Bool
@@ -111,17 +127,49 @@ changes_kept _ = false
 abbrev pub LeavesKept : Outcome → Type 0
 LeavesKept o = list_any changes_kept o.effects ≡ false
 
+-- the outcome is the request for a token, by itself or after what its reply says of its provider
+pub record Requests (o : Outcome) (place : ℕ) (ask : AssertionFields) : Type 0 where
+  pub stage : o.stage ≡ Some Asserting
+  pub asks_it : filter_map asks_token o.effects ≡ (place, ask) ∷ []
+  pub gives : filter_map finish_of o.effects ≡ []
+  pub taken : list_any is_ignored o.effects ≡ false
+  pub leaves : LeavesKept o
+  pub sends : (world : World) (cookies : Ask → List ℕ) (call page : ℕ)
+      → Has (rows.outcome_effects world cookies GetCall call page o)
+      (Sent GetCall call place (asks.Assertion ask) (cookies (asks.Assertion ask)))
+
+-- what is sent by itself
+sends_alone : (place : ℕ) (ask : AssertionFields) → (world : World) (cookies : Ask → List ℕ) (call page : ℕ)
+    → Has (rows.outcome_effects world cookies GetCall call page (moves Asserting (does.Send place (asks.Assertion ask))))
+    (Sent GetCall call place (asks.Assertion ask) (cookies (asks.Assertion ask)))
+sends_alone place ask world cookies call page = record { before = []; after = Move GetCall call Asserting ∷ []; all = refl }
+
+-- the request that a call makes
+abbrev pub request_of : Facts → Offered → Manner → Bool → AssertionFields
+request_of f offered manner disclosure =
+    assertion_fields (agreed_to f offered manner disclosure) offered.config.assertion f.origin offered.options
+
+pub record AsksToken (world : World) (f : Facts) (input : Input) (o : Outcome) : Type 0 where
+  pub offered : Offered
+  pub reason : Reason world f input offered
+  pub manner : Manner
+  pub disclosure : Bool
+  pub auto : is_auto manner ≡ reselects input
+  pub disclosure_is : disclosure ≡ disclosed input offered
+  pub is : Requests o offered.place (request_of f offered manner disclosure)
+
+-- ---- what a call does
+
 -- the reply that a token is in
 pub record InReply (f : Facts) (input : Input) (o : Outcome) (from : ℕ) (token : List ℕ) : Type 0 where
   pub asserting : f.stage ≡ Asserting
-  pub place : ℕ
-  pub is_from : from ≡ place
+  pub offered : Offered
+  pub picks : f.picked ≡ Some offered
+  pub is_from : from ≡ offered.place
   pub raw : List ℕ
-  pub is_reply : input ≡ inputs.Reply place kinds.Assertion raw
-  pub provider : ProviderOptions
-  pub has_provider : provider_at place f.options ≡ Some provider
+  pub is_reply : input ≡ inputs.Reply offered.place kinds.Assertion raw
   pub reads : AssertionOf raw (origin_text f.origin) ≡ Ok token
-  pub is : o ≡ by_token f place provider (Ok token)
+  pub is : o ≡ by_token f offered (Ok token)
 
 abbrev pub IfToken : Facts → Input → Outcome → Finish → Type 0
 IfToken f input o (Token auto provider token) = InReply f input o provider token
@@ -137,30 +185,6 @@ pub data Turn (world : World) (f : Facts) (input : Input) (o : Outcome) : Type 0
       → Turn world f input o
   Goes : filter_map asks_token o.effects ≡ [] → filter_map finish_of o.effects ≡ [] → LeavesKept o
       → (unwrap_or o.stage f.stage ≡ Asserting → f.stage ≡ Asserting) → Turn world f input o
-
--- ---- of a request for a token
-
-pub requests_stage : (o : Outcome) (place : ℕ) (ask : AssertionFields) → Requests o place ask → o.stage ≡ Some Asserting
-requests_stage o place ask (ByItself is) = ap (λ x. x.stage) is
-requests_stage o place ask (AfterLogin origin is) = ap (λ x. x.stage) is
-
-pub requests_asks : (o : Outcome) (place : ℕ) (ask : AssertionFields) → Requests o place ask
-    → filter_map asks_token o.effects ≡ (place, ask) ∷ []
-requests_asks o place ask (ByItself is) = ap (λ x. filter_map asks_token x.effects) is
-requests_asks o place ask (AfterLogin origin is) = ap (λ x. filter_map asks_token x.effects) is
-
-pub requests_gives : (o : Outcome) (place : ℕ) (ask : AssertionFields) → Requests o place ask → filter_map finish_of o.effects ≡ []
-requests_gives o place ask (ByItself is) = ap (λ x. filter_map finish_of x.effects) is
-requests_gives o place ask (AfterLogin origin is) = ap (λ x. filter_map finish_of x.effects) is
-
-pub requests_taken : (o : Outcome) (place : ℕ) (ask : AssertionFields) → Requests o place ask
-    → list_any is_ignored o.effects ≡ false
-requests_taken o place ask (ByItself is) = ap (λ x. list_any is_ignored x.effects) is
-requests_taken o place ask (AfterLogin origin is) = ap (λ x. list_any is_ignored x.effects) is
-
-pub requests_leaves : (o : Outcome) (place : ℕ) (ask : AssertionFields) → Requests o place ask → LeavesKept o
-requests_leaves o place ask (ByItself is) = ap (λ x. list_any changes_kept x.effects) is
-requests_leaves o place ask (AfterLogin origin is) = ap (λ x. list_any changes_kept x.effects) is
 
 -- ---- by the kind of outcome
 
@@ -178,13 +202,7 @@ record IsPlain (effect : CallEffect) : Type 0 where
   asks : asks_token effect ≡ None
   gives : finish_of effect ≡ None
   leaves : changes_kept effect ≡ false
-
--- one in front
-turn_after : (world : World) (f : Facts) (input : Input) (effect : CallEffect) (failure : Failure) → IsPlain effect
-    → Turn world f input (after effect (fails failure))
-turn_after world f input effect failure plain_first =
-    Gives (Failed failure) refl (ap (λ o. cons_option o []) plain_first.asks)
-    (ap (λ o. cons_option o (Failed failure ∷ [])) plain_first.gives) (ap (λ b. b || false) plain_first.leaves)
+  taken : is_ignored effect ≡ false
 
 turn_moves : (world : World) (f : Facts) (input : Input) (stage : Stage) (effect : CallEffect) → IsPlain effect
     → (stage ≡ Asserting → ⊥)
@@ -193,17 +211,55 @@ turn_moves world f input stage effect is_plain other =
     Goes (ap (λ o. cons_option o []) is_plain.asks) (ap (λ o. cons_option o []) is_plain.gives) (ap (λ b. b || false) is_plain.leaves)
     (λ h. absurd (other h))
 
-turn_moves_after : (world : World) (f : Facts) (input : Input) (first effect : CallEffect) (stage : Stage) → IsPlain first
-    → IsPlain effect → (stage ≡ Asserting → ⊥) → Turn world f input (after first (moves stage effect))
-turn_moves_after world f input first effect stage a is_plain other =
-    Goes (ap (λ o. cons_option o (filter_map asks_token (effect ∷ []))) a.asks ∙ ap (λ o. cons_option o []) is_plain.asks)
-    (ap (λ o. cons_option o (filter_map finish_of (effect ∷ []))) a.gives ∙ ap (λ o. cons_option o []) is_plain.gives)
-    (ap (λ b. b || list_any changes_kept (effect ∷ [])) a.leaves ∙ ap (λ b. b || false) is_plain.leaves) (λ h. absurd (other h))
+-- one in front: of what asks, gives a failure, or does neither
+data Follows (world : World) (f : Facts) (input : Input) (o : Outcome) : Type 0 where
+  AsksIt : AsksToken world f input o → Follows world f input o
+  FailsSo : (failure : Failure) → o.stage ≡ Some Ended → filter_map asks_token o.effects ≡ []
+      → filter_map finish_of o.effects ≡ Failed failure ∷ [] → LeavesKept o → Follows world f input o
+  GoesOn : filter_map asks_token o.effects ≡ [] → filter_map finish_of o.effects ≡ [] → LeavesKept o
+      → (unwrap_or o.stage f.stage ≡ Asserting → f.stage ≡ Asserting) → Follows world f input o
 
-turn_stays_after : (world : World) (f : Facts) (input : Input) (first : CallEffect) → IsPlain first
-    → Turn world f input (after first stays)
-turn_stays_after world f input first a =
-    Goes (ap (λ o. cons_option o []) a.asks) (ap (λ o. cons_option o []) a.gives) (ap (λ b. b || false) a.leaves) (λ h. h)
+follows_after : (world : World) (f : Facts) (input : Input) (effect : CallEffect) → IsPlain effect → (o : Outcome)
+    → Follows world f input o → Follows world f input (after effect o)
+follows_after world f input effect p o (AsksIt a) =
+    AsksIt (record {
+      offered = a.offered;
+      reason = a.reason;
+      manner = a.manner;
+      disclosure = a.disclosure;
+      auto = a.auto;
+      disclosure_is = a.disclosure_is;
+      is = record {
+        stage = a.is.stage;
+        asks_it = ap (λ x. cons_option x (filter_map asks_token o.effects)) p.asks ∙ a.is.asks_it;
+        gives = ap (λ x. cons_option x (filter_map finish_of o.effects)) p.gives ∙ a.is.gives;
+        taken = ap (λ b. b || list_any is_ignored o.effects) p.taken ∙ a.is.taken;
+        leaves = ap (λ b. b || list_any changes_kept o.effects) p.leaves ∙ a.is.leaves;
+        sends = λ w ck c pg.
+            let first = rows.call_effects w ck GetCall c pg effect in
+            let h = a.is.sends w ck c pg in
+            record {
+              before = first ++ h.before;
+              after = h.after;
+              all =
+                  append_assoc first (flat_map (rows.call_effects w ck GetCall c pg) o.effects) (rows.moves GetCall c o.stage)
+                  ∙ ap (λ xs. first ++ xs) h.all ∙ sym (append_assoc first h.before (_ ∷ h.after));
+            };
+      };
+    })
+follows_after world f input effect p o (FailsSo failure ended asks gives leaves) =
+    FailsSo failure ended (ap (λ x. cons_option x (filter_map asks_token o.effects)) p.asks ∙ asks)
+    (ap (λ x. cons_option x (filter_map finish_of o.effects)) p.gives ∙ gives)
+    (ap (λ b. b || list_any changes_kept o.effects) p.leaves ∙ leaves)
+follows_after world f input effect p o (GoesOn asks gives leaves back) =
+    GoesOn (ap (λ x. cons_option x (filter_map asks_token o.effects)) p.asks ∙ asks)
+    (ap (λ x. cons_option x (filter_map finish_of o.effects)) p.gives ∙ gives)
+    (ap (λ b. b || list_any changes_kept o.effects) p.leaves ∙ leaves) back
+
+turn_follows : (world : World) (f : Facts) (input : Input) (o : Outcome) → Follows world f input o → Turn world f input o
+turn_follows world f input o (AsksIt a) = Asks a
+turn_follows world f input o (FailsSo failure ended asks gives leaves) = Gives (Failed failure) ended asks gives leaves
+turn_follows world f input o (GoesOn asks gives leaves back) = Goes asks gives leaves back
 
 not_listing : Listing ≡ Asserting → ⊥
 not_listing h = cc
@@ -220,239 +276,175 @@ not_choosing h = cc
 not_prompting : Prompting ≡ Asserting → ⊥
 not_prompting h = cc
 
--- ---- in Reading
+prompt_plain : (world : World) (f : Facts) (offered : Offered) (connected : Bool) (endpoint : Option Parts)
+    → IsPlain (prompt_effect world f offered connected endpoint)
+prompt_plain world f offered true endpoint = record { asks = refl; gives = refl; leaves = refl; taken = refl }
+prompt_plain world f offered false None = record { asks = refl; gives = refl; leaves = refl; taken = refl }
+prompt_plain world f offered false (Some to) = record { asks = refl; gives = refl; leaves = refl; taken = refl }
 
-turn_asks_accounts : (world : World) (f : Facts) (input : Input) (place : ℕ) (config : Configuration)
-    → Turn world f input (asks_accounts place config)
-turn_asks_accounts world f input place config =
-    turn_moves world f input Listing (does.Send place (asks.Accounts config.accounts)) (record
-    { asks = refl; gives = refl; leaves = refl }) not_listing
+-- ---- where a provider is settled
 
-turn_wellknown : (world : World) (f : Facts) (input : Input) (place : ℕ) (heard : Bool) (config : Option Configuration)
-    (read : Option (Answer (Unit {0}) ProviderStep))
-    → Turn world f input (wellknown_reply place heard config read)
-turn_wellknown world f input place true config read = turn_ignored world f input NotWaited
-turn_wellknown world f input place false config None = turn_ignored world f input NotWaited
-turn_wellknown world f input place false None (Some (Err step)) = turn_fails world f input (provider_failure step)
-turn_wellknown world f input place false (Some config) (Some (Err step)) = turn_fails world f input (provider_failure step)
-turn_wellknown world f input place false None (Some (Ok u)) = turn_stays world f input
-turn_wellknown world f input place false (Some config) (Some (Ok u)) = turn_asks_accounts world f input place config
+module _ (world : World) (f : Facts) (place : ℕ) (kind : ReplyKind) (raw : List ℕ) (open_still : f.stage ≡ Asserting → ⊥) where
+  abbrev input : Input
+  input = inputs.Reply place kind raw
 
-turn_config : (world : World) (f : Facts) (input : Input) (place : ℕ) (heard : Bool) (config : Option Configuration)
-    (read : Option (Answer Configuration ProviderStep))
-    → Turn world f input (config_reply place heard config read)
-turn_config world f input place heard (Some config) read = turn_ignored world f input NotWaited
-turn_config world f input place heard None None = turn_ignored world f input NotWaited
-turn_config world f input place false None (Some (Err step)) = turn_fails world f input (provider_failure step)
-turn_config world f input place true None (Some (Err step)) = turn_fails world f input (provider_failure step)
-turn_config world f input place false None (Some (Ok config)) = turn_stays world f input
-turn_config world f input place true None (Some (Ok config)) = turn_asks_accounts world f input place config
+  follows_conclusion : (progress : Progress) → settling_at world f place kind raw ≡ Some progress → (c : Conclusion)
+      → conclusion_of world f.origin f.options (slice_set f.progress place progress) ≡ c
+      → Follows world f input (concludes world (with_progress place progress f) c)
+  follows_conclusion progress settles_it Awaits is = GoesOn refl refl refl (λ h. h)
+  follows_conclusion progress settles_it (NoneLeft failure) is = FailsSo failure refl refl refl refl
+  follows_conclusion progress settles_it (Reselects offered) is =
+      AsksIt (record {
+        offered = offered;
+        reason = Suffices place kind raw progress open_still refl settles_it is;
+        manner = Reselected;
+        disclosure = false;
+        auto = refl;
+        disclosure_is = refl;
+        is = record { stage = refl; asks_it = refl; gives = refl; taken = refl; leaves = refl; sends = sends_alone offered.place _ };
+      })
+  follows_conclusion progress settles_it NoneSilent is = FailsSo (plain steps.SilentNoAccount) refl refl refl refl
+  follows_conclusion progress settles_it (Offers offered) is = GoesOn refl refl refl (λ h. absurd (not_choosing h))
+  follows_conclusion progress settles_it (Prompts o) is =
+      let p = prompt_plain world (with_progress place progress f) o o.candidate.connected o.config.metadata in
+      GoesOn (ap (λ x. cons_option x []) p.asks) (ap (λ x. cons_option x []) p.gives) (ap (λ b. b || false) p.leaves)
+      (λ h. absurd (not_prompting h))
 
-turn_reading : (world : World) (f : Facts) (input : Input) (place : ℕ) (provider : Option ProviderOptions) (kind : ReplyKind) (raw : List ℕ)
-    → Turn world f input (reading_reply world.rules f.heard f.config place provider kind raw)
-turn_reading world f input place provider kinds.WellKnown raw =
-    turn_wellknown world f input place f.heard f.config (wellknown_of world.rules raw provider)
-turn_reading world f input place provider kinds.Config raw = turn_config world f input place f.heard f.config (config_read raw provider)
-turn_reading world f input place provider kinds.Accounts raw = turn_ignored world f input NotWaited
-turn_reading world f input place provider kinds.Metadata raw = turn_ignored world f input NotWaited
-turn_reading world f input place provider kinds.Assertion raw = turn_ignored world f input NotWaited
-turn_reading world f input place provider kinds.Disconnect raw = turn_ignored world f input NotWaited
+  follows_settled : (progress : Progress) → settling_at world f place kind raw ≡ Some progress
+      → Follows world f input (settles world (with_progress place progress f))
+  follows_settled progress settles_it =
+      follows_conclusion progress settles_it (conclusion_of world f.origin f.options (slice_set f.progress place progress)) refl
 
--- ---- in Listing
+  follows_shown : (mismatch : Bool) (failure : Failure)
+      → Follows world f input (by_mismatch place (site_of world f.origin) failure mismatch)
+  follows_shown true failure = GoesOn refl refl refl (λ h. absurd (not_mismatch h))
+  follows_shown false failure = FailsSo failure refl refl refl refl
 
-turn_refused : (world : World) (f : Facts) (input : Input) (first : CallEffect) (place : ℕ) (site : List ℕ) (failure : Failure)
-    (mismatch : Bool) → IsPlain first
-    → Turn world f input (after first (by_mismatch place site failure mismatch))
-turn_refused world f input first place site failure true a =
-    turn_moves_after world f input first _ Mismatch a (record { asks = refl; gives = refl; leaves = refl }) not_mismatch
-turn_refused world f input first place site failure false a = turn_after world f input first failure a
+  follows_window : (config : Option Configuration) (active : Bool) (o : Outcome) → Follows world f input o
+      → Follows world f input (by_window place config o active)
+  follows_window None true o follows = GoesOn refl refl refl (λ h. h)
+  follows_window (Some config) true o follows = GoesOn refl refl refl (λ h. absurd (not_window h))
+  follows_window config false o follows = follows
 
--- the login window opens, where the call has its configuration
-turn_window : (world : World) (f : Facts) (input : Input) (first : CallEffect) (place : ℕ) (config : Option Configuration)
-    (other : Outcome) (active : Bool) → IsPlain first → Turn world f input (after first other)
-    → Turn world f input (after first (by_window place config other active))
-turn_window world f input first place None other true a turn = turn_stays_after world f input first a
-turn_window world f input first place (Some config) other true a turn =
-    turn_moves_after world f input first (does.Window place config.login) Window a (record { asks = refl; gives = refl; leaves = refl })
-    not_window
-turn_window world f input first place config other false a turn = turn
+  turn_fits : (provider : Origin) (config : Configuration) (accounts : List Account) → came_at world f place kind raw ≡ Fit config accounts
+      → Turn world f input (after (does.SetLogin provider LoggedIn)
+      (settles world (with_progress place (progress_is.Listed config accounts) f)))
+  turn_fits provider config accounts is =
+      turn_follows world f input _
+      (follows_after world f input (does.SetLogin provider LoggedIn) (record { asks = refl; gives = refl; leaves = refl; taken = refl }) _
+      (follows_settled (progress_is.Listed config accounts) (ap (λ c. settling c (is_single f.options)) is)))
 
--- what comes first of a prompt is plain
-prompt_plain : (world : World) (f : Facts) (place : ℕ) (provider : ProviderOptions) (candidate : Candidate) (connected : Bool)
-    (endpoint : Option Parts)
-    → IsPlain (prompt_effect world f place provider candidate connected endpoint)
-prompt_plain world f place provider candidate true endpoint = record { asks = refl; gives = refl; leaves = refl }
-prompt_plain world f place provider candidate false None = record { asks = refl; gives = refl; leaves = refl }
-prompt_plain world f place provider candidate false (Some to) = record { asks = refl; gives = refl; leaves = refl }
+  turn_single : (provider : Origin) (c : Came) → came_at world f place kind raw ≡ c
+      → Turn world f input (single_came world f place provider c)
+  turn_single provider Unawaited is = turn_ignored world f input NotWaited
+  turn_single provider (Refused failure) is = turn_fails world f input failure
+  turn_single provider (Waits replies) is = turn_stays world f input
+  turn_single provider (Both config) is =
+      turn_moves world f input Listing (does.Send place (asks.Accounts config.accounts))
+      (record { asks = refl; gives = refl; leaves = refl; taken = refl }) not_listing
+  turn_single provider (NoneFits failure) is =
+      turn_follows world f input _
+      (follows_after world f input (does.SetLogin provider LoggedOut) (record { asks = refl; gives = refl; leaves = refl; taken = refl }) _
+      (follows_window (config_at place f) (may_sign_in f.options.mode f.options.mediation) _
+      (follows_shown (is_mismatch f.options.mode f.options.mediation (status_of world.login provider)) failure)))
+  turn_single provider (Fit config accounts) is = turn_fits provider config accounts is
 
-turn_offers : (world : World) (f : Facts) (input : Input) (place : ℕ) (provider : ProviderOptions) (first : CallEffect)
-    (accounts : List Account) → IsPlain first
-    → Turn world f input (after first (offers world f place provider accounts))
-turn_offers world f input place provider first [] a = turn_stays_after world f input first a
-turn_offers world f input place provider first (only ∷ []) a =
-    let candidate = candidate_of world f.origin provider only in
-    turn_moves_after world f input first (prompt_effect world f place provider candidate candidate.connected (metadata_endpoint f.config))
-    Prompting a
-    (prompt_plain world f place provider candidate candidate.connected (metadata_endpoint f.config)) not_prompting
-turn_offers world f input place provider first (one ∷ two ∷ more) a =
-    turn_moves_after world f input first (choice_dialog world f place (listed_of world f.origin provider (one ∷ two ∷ more))) Choosing a
-    (record { asks = refl; gives = refl; leaves = refl }) not_choosing
+  turn_gathering : is_single f.options ≡ false → (provider : Origin) (c : Came) → came_at world f place kind raw ≡ c
+      → Turn world f input (gathering_came world f place provider c)
+  turn_gathering several provider Unawaited is = turn_ignored world f input NotWaited
+  turn_gathering several provider (Refused failure) is =
+      turn_follows world f input _
+      (follows_after world f input (does.Dropped place failure) (record { asks = refl; gives = refl; leaves = refl; taken = refl }) _
+      (follows_settled (progress_is.Dropped failure) (ap (λ c. settling c (is_single f.options)) is)))
+  turn_gathering several provider (Waits replies) is = turn_stays world f input
+  turn_gathering several provider (Both config) is = Goes refl refl refl (λ h. h)
+  turn_gathering several provider (NoneFits failure) is =
+      turn_follows world f input _
+      (follows_after world f input (does.SetLogin provider LoggedOut) (record { asks = refl; gives = refl; leaves = refl; taken = refl }) _
+      (follows_after world f input (does.Dropped place failure) (record { asks = refl; gives = refl; leaves = refl; taken = refl }) _
+      (follows_settled (progress_is.Dropped failure)
+      (ap (λ c. settling c (is_single f.options)) is ∙ ap (settling (NoneFits failure)) several))))
+  turn_gathering several provider (Fit config accounts) is = turn_fits provider config accounts is
 
-turn_silent : (world : World) (f : Facts) (input : Input) (first : CallEffect) (mediation : Mediation) (offered : Outcome)
-    → IsPlain first → Turn world f input (after first offered)
-    → Turn world f input (after first (unless_silent mediation offered))
-turn_silent world f input first Silent offered a turn = turn_after world f input first (plain steps.SilentNoAccount) a
-turn_silent world f input first Optional offered a turn = turn
-turn_silent world f input first Required offered a turn = turn
+  turn_came : (single : Bool) → is_single f.options ≡ single → (provider : Origin)
+      → Turn world f input (came_row world f place single provider (came_at world f place kind raw))
+  turn_came true one provider = turn_single provider (came_at world f place kind raw) refl
+  turn_came false several provider = turn_gathering several provider (came_at world f place kind raw) refl
 
--- an account is reselected: its token is asked for, where the call has its configuration
-turn_suffices : (world : World) (f : Facts) (place : ℕ) (raw : List ℕ) (provider : ProviderOptions) (accounts : List Account)
-    (pick : Pick) → f.stage ≡ Listing → provider_at place f.options ≡ Some provider → accounts_of raw provider ≡ Ok accounts
-    → reselected world f place provider accounts ≡ Some pick
-    → (config : Option Configuration) → f.config ≡ config
-    → Turn world f (inputs.Reply place kinds.Accounts raw)
-    (after (does.SetLogin (origin_of provider.config) LoggedIn) (asserts f place (Some provider) config (by_reselection pick)))
-turn_suffices world f place raw provider accounts pick at has reads named None configured =
-    turn_stays_after world f _ _ (record { asks = refl; gives = refl; leaves = refl })
-turn_suffices world f place raw provider accounts pick at has reads named (Some config) configured =
-    Asks (record {
-      candidate = pick.candidate;
-      provider = provider;
-      reason = Suffices place raw accounts pick at refl has reads named refl;
-      config = config;
-      configured = configured;
-      agreed = by_reselection pick;
-      account = refl;
-      auto = refl;
-      disclosure = refl;
-      place = place;
-      has_provider = has;
-      is = AfterLogin (origin_of provider.config) refl;
-    })
+  turn_awaited : (q : Option ProviderOptions) → Turn world f input (provider_row world f place q (came_at world f place kind raw))
+  turn_awaited None = turn_ignored world f input NotWaited
+  turn_awaited (Some provider) = turn_came (is_single f.options) refl (origin_of provider.config)
 
-turn_reselected : (world : World) (f : Facts) (place : ℕ) (raw : List ℕ) (provider : ProviderOptions) (accounts : List Account)
-    → f.stage ≡ Listing → provider_at place f.options ≡ Some provider → accounts_of raw provider ≡ Ok accounts
-    → (pick : Option Pick) → reselected world f place provider accounts ≡ pick
-    → Turn world f (inputs.Reply place kinds.Accounts raw)
-    (after (does.SetLogin (origin_of provider.config) LoggedIn) (by_reselected world f place provider accounts pick))
-turn_reselected world f place raw provider accounts at has reads None named =
-    turn_silent world f _ _ f.options.mediation (offers world f place provider accounts) (record
-    { asks = refl; gives = refl; leaves = refl })
-    (turn_offers world f _ place provider _ accounts (record { asks = refl; gives = refl; leaves = refl }))
-turn_reselected world f place raw provider accounts at has reads (Some pick) named =
-    turn_suffices world f place raw provider accounts pick at has reads named f.config refl
+-- ---- at a prompt
 
-turn_accounts : (world : World) (f : Facts) (place : ℕ) (raw : List ℕ) (provider : ProviderOptions) → f.stage ≡ Listing
-    → provider_at place f.options ≡ Some provider → (read : Answer (List Account) AccountsStep) → accounts_of raw provider ≡ read
-    → Turn world f (inputs.Reply place kinds.Accounts raw) (by_accounts world f place provider read)
-turn_accounts world f place raw provider at has (Err step) reads =
-    let origin = origin_of provider.config in
-    let mismatch = is_mismatch f.options.mode f.options.mediation (status_of world.login origin) in
-    let site = site_of world f.origin in
-    let leaves : IsPlain (does.SetLogin origin LoggedOut) = record { asks = refl; gives = refl; leaves = refl } in
-    turn_window world f _ (does.SetLogin origin LoggedOut) place f.config (by_mismatch place site (accounts_failure step) mismatch)
-    (may_sign_in f.options.mode f.options.mediation) leaves
-    (turn_refused world f _ (does.SetLogin origin LoggedOut) place site (accounts_failure step) mismatch leaves)
-turn_accounts world f place raw provider at has (Ok accounts) reads =
-    turn_reselected world f place raw provider accounts at has reads (reselected world f place provider accounts) refl
+turn_metadata : (world : World) (f : Facts) (input : Input) (waits : Bool) (offered : Option Offered) (raw : List ℕ)
+    → Turn world f input (metadata_reply world f waits offered raw)
+turn_metadata world f input false offered raw = turn_ignored world f input NotWaited
+turn_metadata world f input true None raw = turn_ignored world f input NotWaited
+turn_metadata world f input true (Some offered) raw = Goes refl refl refl (λ h. h)
 
-turn_accounts_reply : (world : World) (f : Facts) (place : ℕ) (raw : List ℕ) → f.stage ≡ Listing
-    → (provider : Option ProviderOptions)
-    → provider_at place f.options ≡ provider
-    → Turn world f (inputs.Reply place kinds.Accounts raw) (accounts_reply world f place provider raw)
-turn_accounts_reply world f place raw at None has = turn_ignored world f _ NotWaited
-turn_accounts_reply world f place raw at (Some provider) has =
-    turn_accounts world f place raw provider at has (accounts_of raw provider) refl
-
-turn_listing : (world : World) (f : Facts) (place : ℕ) (kind : ReplyKind) (raw : List ℕ) → f.stage ≡ Listing
-    → Turn world f (inputs.Reply place kind raw) (listing_reply world f place (provider_at place f.options) kind raw)
-turn_listing world f place kinds.Accounts raw at = turn_accounts_reply world f place raw at (provider_at place f.options) refl
-turn_listing world f place kinds.WellKnown raw at = turn_ignored world f _ NotWaited
-turn_listing world f place kinds.Config raw at = turn_ignored world f _ NotWaited
-turn_listing world f place kinds.Metadata raw at = turn_ignored world f _ NotWaited
-turn_listing world f place kinds.Assertion raw at = turn_ignored world f _ NotWaited
-turn_listing world f place kinds.Disconnect raw at = turn_ignored world f _ NotWaited
-
--- what a call does at good accounts that it awaits
-pub accepts_at : (world : World) (f : Facts) (place : ℕ) (raw : List ℕ) (provider : ProviderOptions) (accounts : List Account)
-    → f.stage ≡ Listing → provider_at place f.options ≡ Some provider → accounts_of raw provider ≡ Ok accounts
-    → input_row world f (inputs.Reply place kinds.Accounts raw) ≡ accepted world f place provider accounts
-accepts_at world f place raw provider accounts at has reads =
-    ap (λ st. stage_reply world f st place kinds.Accounts raw) at ∙ ap (λ p. accounts_reply world f place p raw) has
-    ∙ ap (by_accounts world f place provider) reads
-
--- ---- in Prompting
-
-turn_links : (world : World) (f : Facts) (input : Input) (place : ℕ) (picked : Option Candidate) (links : PolicyLinks)
-    → Turn world f input (links_shown world f place picked links)
-turn_links world f input place None links = turn_stays world f input
-turn_links world f input place (Some candidate) links = Goes refl refl refl (λ h. h)
-
-turn_metadata : (world : World) (f : Facts) (input : Input) (waits : Bool) (place : ℕ) (provider : Option ProviderOptions) (raw : List ℕ)
-    → Turn world f input (metadata_reply world f waits place provider raw)
-turn_metadata world f input false place provider raw = turn_ignored world f input NotWaited
-turn_metadata world f input true place None raw = turn_ignored world f input NotWaited
-turn_metadata world f input true place (Some provider) raw = turn_links world f input place f.picked (MetadataOf raw)
-
-turn_prompting : (world : World) (f : Facts) (input : Input) (place : ℕ) (provider : Option ProviderOptions) (kind : ReplyKind)
-    (raw : List ℕ)
-    → Turn world f input (prompting_reply world f place provider kind raw)
-turn_prompting world f input place provider kinds.Metadata raw = turn_metadata world f input f.waits place provider raw
-turn_prompting world f input place provider kinds.WellKnown raw = turn_ignored world f input NotWaited
-turn_prompting world f input place provider kinds.Config raw = turn_ignored world f input NotWaited
-turn_prompting world f input place provider kinds.Accounts raw = turn_ignored world f input NotWaited
-turn_prompting world f input place provider kinds.Assertion raw = turn_ignored world f input NotWaited
-turn_prompting world f input place provider kinds.Disconnect raw = turn_ignored world f input NotWaited
+turn_prompting : (world : World) (f : Facts) (input : Input) (place : ℕ) (kind : ReplyKind) (raw : List ℕ)
+    → Turn world f input (prompting_reply world f place kind raw)
+turn_prompting world f input place kinds.Metadata raw = turn_metadata world f input f.waits (picked_at place f.picked) raw
+turn_prompting world f input place kinds.WellKnown raw = turn_ignored world f input NotWaited
+turn_prompting world f input place kinds.Config raw = turn_ignored world f input NotWaited
+turn_prompting world f input place kinds.Accounts raw = turn_ignored world f input NotWaited
+turn_prompting world f input place kinds.Assertion raw = turn_ignored world f input NotWaited
+turn_prompting world f input place kinds.Disconnect raw = turn_ignored world f input NotWaited
 
 -- ---- in Asserting
 
--- what a token's outcome asks and gives, by the account that it is for and by whether that was reselected
+-- what a token's outcome asks and gives, by whether its account was reselected
 pub record GivesToken (o : Outcome) (finish : Finish) : Type 0 where
   pub stage : o.stage ≡ Some Ended
   pub asks : filter_map asks_token o.effects ≡ []
   pub gives : filter_map finish_of o.effects ≡ finish ∷ []
 
-pub gives_token : (page provider : Origin) (picked : Option Candidate) (auto : Bool) (finish : Finish)
-    → GivesToken (keeps page provider picked (clears auto page (finishes finish))) finish
-gives_token page provider None true finish = record { stage = refl; asks = refl; gives = refl }
-gives_token page provider None false finish = record { stage = refl; asks = refl; gives = refl }
-gives_token page provider (Some candidate) true finish = record { stage = refl; asks = refl; gives = refl }
-gives_token page provider (Some candidate) false finish = record { stage = refl; asks = refl; gives = refl }
+pub gives_token : (page : Origin) (offered : Offered) (auto : Bool) (finish : Finish)
+    → GivesToken (keeps page offered (clears auto page (finishes finish))) finish
+gives_token page offered true finish = record { stage = refl; asks = refl; gives = refl }
+gives_token page offered false finish = record { stage = refl; asks = refl; gives = refl }
 
-turn_token : (world : World) (f : Facts) (place : ℕ) (raw : List ℕ) (provider : ProviderOptions) → f.stage ≡ Asserting
-    → provider_at place f.options ≡ Some provider
+turn_token : (world : World) (f : Facts) (raw : List ℕ) (offered : Offered) → f.stage ≡ Asserting → f.picked ≡ Some offered
     → (read : Answer (List ℕ) TokenStep) → AssertionOf raw (origin_text f.origin) ≡ read
-    → Turn world f (inputs.Reply place kinds.Assertion raw) (by_token f place provider read)
-turn_token world f place raw provider at has (Ok token) reads =
-    let g = gives_token f.origin (origin_of provider.config) f.picked f.auto (Token f.auto place token) in
-    Gives (Token f.auto place token) g.stage g.asks g.gives
+    → Turn world f (inputs.Reply offered.place kinds.Assertion raw) (by_token f offered read)
+turn_token world f raw offered at picks (Ok token) reads =
+    let g = gives_token f.origin offered f.auto (Token f.auto offered.place token) in
+    Gives (Token f.auto offered.place token) g.stage g.asks g.gives
     (record {
       asserting = at;
-      place = place;
+      offered = offered;
+      picks = picks;
       is_from = refl;
       raw = raw;
       is_reply = refl;
-      provider = provider;
-      has_provider = has;
       reads = reads;
       is = refl;
     })
-turn_token world f place raw provider at has (Err (token_steps.Reply s)) reads = Gives _ refl refl refl refl
-turn_token world f place raw provider at has (Err token_steps.Cors) reads = Gives _ refl refl refl refl
-turn_token world f place raw provider at has (Err token_steps.Shape) reads = Gives _ refl refl refl refl
-turn_token world f place raw provider at has (Err (token_steps.ProviderError code url)) reads = Gives _ refl refl refl refl
+turn_token world f raw offered at picks (Err (token_steps.Reply s)) reads = Gives _ refl refl refl refl
+turn_token world f raw offered at picks (Err token_steps.Cors) reads = Gives _ refl refl refl refl
+turn_token world f raw offered at picks (Err token_steps.Shape) reads = Gives _ refl refl refl refl
+turn_token world f raw offered at picks (Err (token_steps.ProviderError code url)) reads = Gives _ refl refl refl refl
 
-turn_assertion : (world : World) (f : Facts) (place : ℕ) (raw : List ℕ) → f.stage ≡ Asserting
-    → (provider : Option ProviderOptions)
-    → provider_at place f.options ≡ provider
-    → Turn world f (inputs.Reply place kinds.Assertion raw) (assertion_reply f place provider raw)
-turn_assertion world f place raw at None has = turn_ignored world f _ NotWaited
-turn_assertion world f place raw at (Some provider) has =
-    turn_token world f place raw provider at has (AssertionOf raw (origin_text f.origin)) refl
+turn_assertion : (world : World) (f : Facts) (place : ℕ) (raw : List ℕ) → f.stage ≡ Asserting → (picked : Option Offered)
+    → f.picked ≡ picked
+    → Turn world f (inputs.Reply place kinds.Assertion raw) (assertion_reply f (picked_at place picked) raw)
+turn_assertion world f place raw at None picks = turn_ignored world f _ NotWaited
+turn_assertion world f place raw at (Some offered) picks = go (nat_eq place offered.place) refl
+  where
+    go : (b : Bool) → nat_eq place offered.place ≡ b
+        → Turn world f (inputs.Reply place kinds.Assertion raw) (assertion_reply f (cond b (Some offered) None) raw)
+    go false is = turn_ignored world f _ NotWaited
+    go true is =
+        subst (λ n. Turn world f (inputs.Reply n kinds.Assertion raw) (by_token f offered (AssertionOf raw (origin_text f.origin))))
+        (sym (place_is place offered.place is)) (turn_token world f raw offered at picks (AssertionOf raw (origin_text f.origin)) refl)
+      where
+        place_is : (m n : ℕ) → nat_eq m n ≡ true → m ≡ n
+        place_is m n h = grind (arith, nat_tests, h)
 
 turn_asserting : (world : World) (f : Facts) (place : ℕ) (kind : ReplyKind) (raw : List ℕ) → f.stage ≡ Asserting
-    → Turn world f (inputs.Reply place kind raw) (asserting_reply f place (provider_at place f.options) kind raw)
-turn_asserting world f place kinds.Assertion raw at = turn_assertion world f place raw at (provider_at place f.options) refl
+    → Turn world f (inputs.Reply place kind raw) (asserting_reply f place kind raw)
+turn_asserting world f place kinds.Assertion raw at = turn_assertion world f place raw at f.picked refl
 turn_asserting world f place kinds.WellKnown raw at = turn_ignored world f _ NotWaited
 turn_asserting world f place kinds.Config raw at = turn_ignored world f _ NotWaited
 turn_asserting world f place kinds.Accounts raw at = turn_ignored world f _ NotWaited
@@ -461,101 +453,71 @@ turn_asserting world f place kinds.Disconnect raw at = turn_ignored world f _ No
 
 turn_reply : (world : World) (f : Facts) (stage : Stage) → f.stage ≡ stage → (place : ℕ) (kind : ReplyKind) (raw : List ℕ)
     → Turn world f (inputs.Reply place kind raw) (stage_reply world f stage place kind raw)
-turn_reply world f Reading at place kind raw = turn_reading world f _ place (provider_at place f.options) kind raw
-turn_reply world f Listing at place kind raw = turn_listing world f place kind raw at
+turn_reply world f Reading at place kind raw =
+    turn_awaited world f place kind raw (λ h. let no : Reading ≡ Asserting = sym at ∙ h in cc) (provider_at place f.options)
+turn_reply world f Listing at place kind raw =
+    turn_awaited world f place kind raw (λ h. let no : Listing ≡ Asserting = sym at ∙ h in cc) (provider_at place f.options)
+turn_reply world f Gathering at place kind raw =
+    turn_awaited world f place kind raw (λ h. let no : Gathering ≡ Asserting = sym at ∙ h in cc) (provider_at place f.options)
 turn_reply world f Mismatch at place kind raw = turn_ignored world f _ NotWaited
 turn_reply world f Window at place kind raw = turn_ignored world f _ NotWaited
 turn_reply world f Choosing at place kind raw = turn_ignored world f _ NotWaited
-turn_reply world f Prompting at place kind raw = turn_prompting world f _ place (provider_at place f.options) kind raw
+turn_reply world f Prompting at place kind raw = turn_prompting world f _ place kind raw
 turn_reply world f Asserting at place kind raw = turn_asserting world f place kind raw at
 turn_reply world f Ended at place kind raw = turn_ignored world f _ CallEnded
 
 -- ---- the user's words
 
--- the token is asked for, where the call has its configuration
-turn_asserts : (world : World) (f : Facts) (input : Input) (place : ℕ) (provider : ProviderOptions) (candidate : Candidate)
-    (manner : Manner)
-    (disclosure : Bool) → is_auto manner ≡ reselects input → disclosure ≡ disclosed input candidate
-    → Reason world f input candidate provider
-    → provider_at place f.options ≡ Some provider
-    → (config : Option Configuration) → f.config ≡ config
-    → Turn world f input (asserts f place (Some provider) config (agreed_to f place candidate manner disclosure))
-turn_asserts world f input place provider candidate manner disclosure user told why has None configured = turn_stays world f input
-turn_asserts world f input place provider candidate manner disclosure user told why has (Some config) configured =
+turn_asserts : (world : World) (f : Facts) (input : Input) (offered : Offered) (manner : Manner) (disclosure : Bool)
+    → is_auto manner ≡ reselects input → disclosure ≡ disclosed input offered → Reason world f input offered
+    → Turn world f input (asserts f offered manner disclosure)
+turn_asserts world f input offered manner disclosure user told why =
     Asks (record {
-      candidate = candidate;
-      provider = provider;
+      offered = offered;
       reason = why;
-      config = config;
-      configured = configured;
-      agreed = agreed_to f place candidate manner disclosure;
-      account = refl;
+      manner = manner;
+      disclosure = disclosure;
       auto = user;
-      disclosure = told;
-      place = place;
-      has_provider = has;
-      is = ByItself refl;
+      disclosure_is = told;
+      is = record { stage = refl; asks_it = refl; gives = refl; taken = refl; leaves = refl; sends = sends_alone offered.place _ };
     })
 
-turn_settles : (world : World) (f : Facts) (place : ℕ) (id : List ℕ) (listed : Listed) (provider : ProviderOptions)
-    (candidate : Candidate)
-    → f.stage ≡ Choosing
-    → provider_at place f.options ≡ Some provider → f.listed ≡ Some listed → chosen id listed ≡ Some candidate
-    → (connected : Bool)
-    → candidate.connected ≡ connected
-    → Turn world f (inputs.Choose place id) (settles world f place provider candidate connected)
-turn_settles world f place id listed provider candidate at has lists is true connected =
-    turn_asserts world f _ place provider candidate Chosen false refl refl (Chose place id listed at refl has lists is connected) has
-    f.config
-    refl
-turn_settles world f place id listed provider candidate at has lists is false connected =
-    turn_moves world f _ Prompting (prompt_effect world f place provider candidate candidate.connected (metadata_endpoint f.config))
-    (prompt_plain world f place provider candidate candidate.connected (metadata_endpoint f.config)) not_prompting
-
-turn_choice : (world : World) (f : Facts) (place : ℕ) (id : List ℕ) → f.stage ≡ Choosing → (provider : Option ProviderOptions)
-    → provider_at place f.options ≡ provider
-    → (listed : Option Listed) → f.listed ≡ listed → (candidate : Option Candidate) → option_and_then (chosen id) listed ≡ candidate
-    → Turn world f (inputs.Choose place id) (choice world f place provider candidate)
-turn_choice world f place id at None has listed lists candidate is = turn_ignored world f _ NoAccount
-turn_choice world f place id at (Some provider) has listed lists None is = turn_ignored world f _ NoAccount
-turn_choice world f place id at (Some provider) has None lists (Some candidate) is = absurd (cc)
-turn_choice world f place id at (Some provider) has (Some listed) lists (Some candidate) is =
-    turn_settles world f place id listed provider candidate at has lists is candidate.connected refl
+turn_choice : (world : World) (f : Facts) (place : ℕ) (id : List ℕ) → f.stage ≡ Choosing → (offered : Option Offered)
+    → found_offered place id f ≡ offered → Turn world f (inputs.Choose place id) (choice world f offered)
+turn_choice world f place id at None is = turn_ignored world f _ NoAccount
+turn_choice world f place id at (Some o) is = go o.candidate.connected refl
+  where
+    go : (b : Bool) → o.candidate.connected ≡ b → Turn world f (inputs.Choose place id) (by_connection world f o b)
+    go true connected = turn_asserts world f _ o Chosen false refl refl (Chose place id at refl is connected)
+    go false connected =
+        turn_moves world f _ Prompting (prompt_effect world f o o.candidate.connected o.config.metadata)
+        (prompt_plain world f o o.candidate.connected o.config.metadata) not_prompting
 
 turn_chose : (world : World) (f : Facts) (stage : Stage) → f.stage ≡ stage → (place : ℕ) (id : List ℕ)
     → Turn world f (inputs.Choose place id) (chose world f stage place id)
-turn_chose world f Choosing at place id =
-    turn_choice world f place id at (provider_at place f.options) refl f.listed refl (option_and_then (chosen id) f.listed) refl
+turn_chose world f Choosing at place id = turn_choice world f place id at (found_offered place id f) refl
 turn_chose world f Reading at place id = turn_ignored world f _ NotOffered
 turn_chose world f Listing at place id = turn_ignored world f _ NotOffered
+turn_chose world f Gathering at place id = turn_ignored world f _ NotOffered
 turn_chose world f Mismatch at place id = turn_ignored world f _ NotOffered
 turn_chose world f Window at place id = turn_ignored world f _ NotOffered
 turn_chose world f Prompting at place id = turn_ignored world f _ NotOffered
 turn_chose world f Asserting at place id = turn_ignored world f _ NotOffered
 turn_chose world f Ended at place id = turn_ignored world f _ NotOffered
 
-turn_asserts_by : (world : World) (f : Facts) (candidate : Candidate) → f.stage ≡ Prompting → f.waits ≡ false
-    → f.picked ≡ Some candidate
-    → (provider : Option ProviderOptions) → provider_at only_place f.options ≡ provider
-    → Turn world f inputs.GoOn (asserts f only_place provider f.config
-    (agreed_to f only_place candidate Prompted (not candidate.connected)))
-turn_asserts_by world f candidate at ready picks None has = turn_stays world f _
-turn_asserts_by world f candidate at ready picks (Some provider) has =
-    turn_asserts world f _ only_place provider candidate Prompted (not candidate.connected) refl refl (WentOn at refl has ready picks) has
-    f.config refl
-
 turn_goes_on : (world : World) (f : Facts) → f.stage ≡ Prompting → (waits : Bool) → f.waits ≡ waits
-    → (picked : Option Candidate) → f.picked ≡ picked
+    → (picked : Option Offered) → f.picked ≡ picked
     → Turn world f inputs.GoOn (goes_on f waits picked)
 turn_goes_on world f at true ready picked picks = turn_ignored world f _ NotOffered
 turn_goes_on world f at false ready None picks = turn_stays world f _
-turn_goes_on world f at false ready (Some candidate) picks =
-    turn_asserts_by world f candidate at ready picks (provider_at only_place f.options) refl
+turn_goes_on world f at false ready (Some offered) picks =
+    turn_asserts world f _ offered Prompted (not offered.candidate.connected) refl refl (WentOn at refl ready picks)
 
 turn_went_on : (world : World) (f : Facts) (stage : Stage) → f.stage ≡ stage → Turn world f inputs.GoOn (went_on f stage)
 turn_went_on world f Prompting at = turn_goes_on world f at f.waits refl f.picked refl
 turn_went_on world f Reading at = turn_ignored world f _ NotOffered
 turn_went_on world f Listing at = turn_ignored world f _ NotOffered
+turn_went_on world f Gathering at = turn_ignored world f _ NotOffered
 turn_went_on world f Mismatch at = turn_ignored world f _ NotOffered
 turn_went_on world f Window at = turn_ignored world f _ NotOffered
 turn_went_on world f Choosing at = turn_ignored world f _ NotOffered
@@ -565,6 +527,7 @@ turn_went_on world f Ended at = turn_ignored world f _ NotOffered
 turn_cancelled : (world : World) (f : Facts) (stage : Stage) → Turn world f inputs.Cancel (cancelled stage)
 turn_cancelled world f Reading = turn_ignored world f _ NotOffered
 turn_cancelled world f Listing = turn_ignored world f _ NotOffered
+turn_cancelled world f Gathering = turn_ignored world f _ NotOffered
 turn_cancelled world f Mismatch = turn_fails world f _ (plain steps.UserCancelled)
 turn_cancelled world f Window = turn_ignored world f _ NotOffered
 turn_cancelled world f Choosing = turn_fails world f _ (plain steps.UserCancelled)
@@ -578,12 +541,14 @@ turn_opens : (world : World) (f : Facts) (input : Input) (place : ℕ) (config :
     → Turn world f input (opens_window place config)
 turn_opens world f input place None = turn_stays world f input
 turn_opens world f input place (Some config) =
-    turn_moves world f input Window (does.Window place config.login) (record { asks = refl; gives = refl; leaves = refl }) not_window
+    turn_moves world f input Window (does.Window place config.login) (record { asks = refl; gives = refl; leaves = refl; taken = refl })
+    not_window
 
 turn_sign_in : (world : World) (f : Facts) (stage : Stage) → Turn world f inputs.SignIn (asked_to_sign_in f stage)
-turn_sign_in world f Mismatch = turn_opens world f _ only_place f.config
+turn_sign_in world f Mismatch = turn_opens world f _ only_place (config_at only_place f)
 turn_sign_in world f Reading = turn_ignored world f _ NotOffered
 turn_sign_in world f Listing = turn_ignored world f _ NotOffered
+turn_sign_in world f Gathering = turn_ignored world f _ NotOffered
 turn_sign_in world f Window = turn_ignored world f _ NotOffered
 turn_sign_in world f Choosing = turn_ignored world f _ NotOffered
 turn_sign_in world f Prompting = turn_ignored world f _ NotOffered
@@ -593,12 +558,15 @@ turn_sign_in world f Ended = turn_ignored world f _ NotOffered
 turn_again : (world : World) (f : Facts) (input : Input) (place : ℕ) (config : Option Configuration)
     → Turn world f input (asks_again place config)
 turn_again world f input place None = turn_stays world f input
-turn_again world f input place (Some config) = turn_asks_accounts world f input place config
+turn_again world f input place (Some config) =
+    turn_moves world f input Listing (does.Send place (asks.Accounts config.accounts))
+    (record { asks = refl; gives = refl; leaves = refl; taken = refl }) not_listing
 
 turn_resumed : (world : World) (f : Facts) (stage : Stage) → Turn world f inputs.Resume (resumed f stage)
-turn_resumed world f Window = turn_again world f _ only_place f.config
+turn_resumed world f Window = turn_again world f _ only_place (config_at only_place f)
 turn_resumed world f Reading = turn_ignored world f _ NotOffered
 turn_resumed world f Listing = turn_ignored world f _ NotOffered
+turn_resumed world f Gathering = turn_ignored world f _ NotOffered
 turn_resumed world f Mismatch = turn_ignored world f _ NotOffered
 turn_resumed world f Choosing = turn_ignored world f _ NotOffered
 turn_resumed world f Prompting = turn_ignored world f _ NotOffered
@@ -609,6 +577,7 @@ turn_shut : (world : World) (f : Facts) (stage : Stage) → Turn world f inputs.
 turn_shut world f Window = turn_fails world f _ (plain steps.WindowShut)
 turn_shut world f Reading = turn_ignored world f _ NotOffered
 turn_shut world f Listing = turn_ignored world f _ NotOffered
+turn_shut world f Gathering = turn_ignored world f _ NotOffered
 turn_shut world f Mismatch = turn_ignored world f _ NotOffered
 turn_shut world f Choosing = turn_ignored world f _ NotOffered
 turn_shut world f Prompting = turn_ignored world f _ NotOffered
@@ -624,3 +593,80 @@ turn_at world f inputs.Abort = turn_fails world f inputs.Abort (plain steps.Abor
 turn_at world f inputs.SignIn = turn_sign_in world f f.stage
 turn_at world f inputs.Shut = turn_shut world f f.stage
 turn_at world f inputs.Resume = turn_resumed world f f.stage
+
+-- ---- the account that a token is asked for
+
+settled_picks : (world : World) (f : Facts) (place : ℕ) (progress : Progress) (offered : Offered)
+    → conclusion_of world f.origin f.options (slice_set f.progress place progress) ≡ Reselects offered
+    → (with_settled world (with_progress place progress f)).picked ≡ Some offered
+settled_picks world f place progress offered named = ap (λ c. (with_conclusion c (with_progress place progress f)).picked) named
+
+came_picks : (world : World) (f : Facts) (place : ℕ) (c : Came) (progress : Progress) (offered : Offered)
+    → settling c (is_single f.options) ≡ Some progress
+    → conclusion_of world f.origin f.options (slice_set f.progress place progress) ≡ Reselects offered
+    → (with_came world place c f).picked ≡ Some offered
+came_picks world f place Unawaited progress offered is named = absurd (cc)
+came_picks world f place (Refused failure) progress offered is named =
+    let same : progress_is.Dropped failure ≡ progress = cc in
+    ap (λ x. (with_settled world (with_progress place x f)).picked) same ∙ settled_picks world f place progress offered named
+came_picks world f place (Waits replies) progress offered is named = absurd (cc)
+came_picks world f place (Both config) progress offered is named = absurd (cc)
+came_picks world f place (NoneFits failure) progress offered is named = go (is_single f.options) is
+  where
+    go : (single : Bool) → settling (NoneFits failure) single ≡ Some progress
+        → (with_none_fitting world place failure single f).picked ≡ Some offered
+    go true is = absurd (cc)
+    go false is =
+        let same : progress_is.Dropped failure ≡ progress = cc in
+        ap (λ x. (with_settled world (with_progress place x f)).picked) same ∙ settled_picks world f place progress offered named
+came_picks world f place (Fit config accounts) progress offered is named =
+    let same : progress_is.Listed config accounts ≡ progress = cc in
+    ap (λ x. (with_settled world (with_progress place x f)).picked) same ∙ settled_picks world f place progress offered named
+
+-- the first stages await none of the later replies
+later_settles_none : (world : World) (f : Facts) (place : ℕ) (kind : ReplyKind) (raw : List ℕ)
+    → ((replies : FirstReplies) (url : Parts) → reply_heard world.rules replies url kind raw ≡ heards.NotWaited replies)
+    → ((config : Configuration) (o : ProviderOptions) → came_listing config o kind raw ≡ Unawaited)
+    → settling_at world f place kind raw ≡ None
+later_settles_none world f place kind raw h k = go (progress_at place f) (provider_at place f.options)
+  where
+    go : (g : Option Progress) (q : Option ProviderOptions) → settling (came world.rules g q kind raw) (is_single f.options) ≡ None
+    go None q = refl
+    go (Some g) None = refl
+    go (Some (progress_is.Reading replies)) (Some q) = ap (λ x. settling (came_heard x) (is_single f.options)) (h replies q.config)
+    go (Some (progress_is.Listing config)) (Some q) = ap (λ c. settling c (is_single f.options)) (k config q)
+    go (Some (progress_is.Listed config accounts)) (Some q) = refl
+    go (Some (progress_is.Dropped failure)) (Some q) = refl
+
+none_settles : {A : Type 0} (o : Option Progress) (progress : Progress) → o ≡ None → o ≡ Some progress → A
+none_settles o progress none some = let no : None ≡ Some progress = sym none ∙ some in absurd (cc)
+
+-- an input that settles the last provider is about the account that is reselected
+pub reply_picks : (world : World) (f : Facts) (place : ℕ) (kind : ReplyKind) (raw : List ℕ) (progress : Progress) (offered : Offered)
+    → settling_at world f place kind raw ≡ Some progress
+    → conclusion_of world f.origin f.options (slice_set f.progress place progress) ≡ Reselects offered
+    → (with_input world false (inputs.Reply place kind raw) f).picked ≡ Some offered
+reply_picks world f place kinds.WellKnown raw progress offered is named =
+    came_picks world f place (came_at world f place kinds.WellKnown raw) progress offered is named
+reply_picks world f place kinds.Config raw progress offered is named =
+    came_picks world f place (came_at world f place kinds.Config raw) progress offered is named
+reply_picks world f place kinds.Accounts raw progress offered is named =
+    came_picks world f place (came_at world f place kinds.Accounts raw) progress offered is named
+reply_picks world f place kinds.Metadata raw progress offered is named =
+    none_settles _ progress (later_settles_none world f place kinds.Metadata raw (λ r u. refl) (λ c o. refl)) is
+reply_picks world f place kinds.Assertion raw progress offered is named =
+    none_settles _ progress (later_settles_none world f place kinds.Assertion raw (λ r u. refl) (λ c o. refl)) is
+reply_picks world f place kinds.Disconnect raw progress offered is named =
+    none_settles _ progress (later_settles_none world f place kinds.Disconnect raw (λ r u. refl) (λ c o. refl)) is
+
+-- so it is for the account that is picked from then on
+pub picks_asked : (world : World) (f : Facts) (input : Input) (o : Outcome) → (a : AsksToken world f input o)
+    → (with_input world (list_any is_ignored o.effects) input f).picked ≡ Some a.offered
+picks_asked world f input o a = ap (λ b. (with_input world b input f).picked) a.is.taken ∙ go a.reason
+  where
+    go : Reason world f input a.offered → (with_input world false input f).picked ≡ Some a.offered
+    go (Chose place id at is found connected) =
+        ap (λ i. (with_input world false i f).picked) is ∙ ap (λ x. (with_choice x f).picked) found
+    go (WentOn at is ready picks) = ap (λ i. (with_input world false i f).picked) is ∙ picks
+    go (Suffices place kind raw progress open_still is settles_it named) =
+        ap (λ i. (with_input world false i f).picked) is ∙ reply_picks world f place kind raw progress a.offered settles_it named

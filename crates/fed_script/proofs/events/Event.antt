@@ -1,15 +1,17 @@
 -- What is so of each event that a line names.
-use Rattle.std.proofs.Common.{◌≡◌, ℕ, Bool, true, false, cond, List, Option, Some, None, refl}
+use Rattle.std.proofs.Common.{◌≡◌, ◌≤◌, ℕ, suc, Bool, true, false, cond, ◌&&◌, List, [], ◌∷◌, length, Option, Some, None, refl, ap, arith}
 use Rattle.std.proofs.lemmas.Result.{IfOk-at_ok}
-use Rattle.std.specs.Prelude.{option_and_then, Result, Ok, Err, IfOk, IfSome, bytes_eq, codes}
+use Rattle.std.proofs.lemmas.Bool.Decides.{nat_tests}
+use Rattle.std.specs.Prelude.{nat_le, option_and_then, Result, Ok, Err, IfOk, IfSome, bytes_eq, codes}
 use Rattle.serde_json.specs.Data.{Data}
-use Rattle.serde_json.specs.Find.{as_str}
+use Rattle.serde_json.specs.Find.{as_str, as_array}
 use Rattle.fed_origin.specs.declared.status.LoginStatus.TheVariants.{LoggedIn, LoggedOut}
 use Rattle.fed_origin.specs.Words.{kind_of_word, status_of_word}
 use Rattle.fed_script.specs.declared.cause.LineCause.{LineCause}
 use Rattle.fed_script.specs.declared.cause.MemberName.TheVariants as names
 use Rattle.fed_script.specs.declared.event.Event.{Event}
-use Rattle.fed_script.specs.Member.{◌>>=◌, or_cause, json_of, member_of, required, optional, as_word, as_whole, as_u32, origin_of_text}
+use Rattle.fed_script.specs.Member.{◌>>=◌, each, or_cause, json_of, member_of, required, optional, as_word, as_whole, as_u32}
+use Rattle.fed_script.specs.Member.{origin_of_text}
 use Rattle.fed_script.specs.Member.{url_of}
 use Rattle.fed_script.specs.Raw.{optional_bytes, required_bytes}
 use Rattle.fed_script.specs.Status.{setstatus_of}
@@ -17,12 +19,13 @@ use Rattle.fed_script.specs.Have.{login_of, kept_of, silent_of, cookie_of, said,
 use Rattle.fed_script.specs.Single.{at_of, closepage_of, abort_of, go_on_of, cancel_of, signin_of, shutwindow_of}
 use Rattle.fed_script.specs.Single.{idpclose_of, prevent_of}
 use Rattle.fed_script.specs.Load.{load_of}
-use Rattle.fed_script.specs.Get.{get_members, get_of}
+use Rattle.fed_script.specs.Get.{entries_of, one_to_ten, as_entries, provider_members, get_members, provider_by, get_of}
+use Rattle.fed_script.specs.Options.{option_members}
 use Rattle.fed_script.specs.Reply.{reply_of}
 use Rattle.fed_script.specs.Choose.{choose_of}
 use Rattle.fed_script.specs.Disconnect.{disconnect_members, disconnect_of}
 use Rattle.fed_script.specs.Line.{kind_of, event_of_kind, event_named}
-use Rattle.fed_script.specs.Used.{IsKnown, SaysKnown, HasOneProvider, HasKnownStatus}
+use Rattle.fed_script.specs.Used.{IsKnown, SaysKnown, HasProviders, HasKnownStatus}
 
 -- what is so of each answer of the next step, where this one's answer is so
 after : {A B : Type 0} (Q : A → Type 0) (P : B → Type 0) (r : Result A LineCause) (f : A → Result B LineCause) → IfOk r Q
@@ -34,6 +37,11 @@ after Q P (Err cause) f so each = tt
 always : {A B : Type 0} (P : B → Type 0) (r : Result A LineCause) (f : A → Result B LineCause) → ((x : A) → IfOk (f x) P) → IfOk (r >>= f) P
 always P (Ok x) f each = each x
 always P (Err cause) f each = tt
+
+-- what is so of an answer has it so too
+mapped : {A : Type 0} (Q P : A → Type 0) (r : Result A LineCause) → IfOk r Q → ((x : A) → Q x → P x) → IfOk r P
+mapped Q P (Ok x) so each = each x so
+mapped Q P (Err cause) so each = tt
 
 there : {A : Type 0} (P : A → Type 0) (cause : LineCause) (o : Option A) → IfSome o P → IfOk (or_cause cause o) P
 there P cause None so = tt
@@ -56,7 +64,7 @@ known d =
 
 -- what `read_event` says of an event
 abbrev Good : Event → Type 0
-Good event = HasOneProvider event × HasKnownStatus event
+Good event = HasProviders event × HasKnownStatus event
 
 login_known : (d : Data) → IfOk (login_of d) SaysKnown
 login_known d =
@@ -128,8 +136,45 @@ load_good d =
     always Good (required as_u32 names.Page d) _ (λ page. always Good (required as_str names.Url d) _
     (λ text. always Good (optional_bytes d) _ (λ raw. always Good (url_of text) _ (λ url. (tt, tt)))))
 
+-- one to ten
+abbrev Few : {A : Type 0} → List A → Type 0
+Few xs = (1 ≤ length xs) × (length xs ≤ 10)
+
+each_long : {A B : Type 0} (f : A → Result B LineCause) (xs : List A) → IfOk (each f xs) (λ ys. length ys ≡ length xs)
+each_long f [] = refl
+each_long f (x ∷ xs) =
+    always (λ ys. length ys ≡ length (x ∷ xs)) (f x) _
+    (λ first. after (λ ys. length ys ≡ length xs) (λ ys. length ys ≡ length (x ∷ xs)) (each f xs) _ (each_long f xs)
+    (λ ys same. ap suc same))
+
+each_few : {A B : Type 0} (f : A → Result B LineCause) (xs : List A) → Few xs → IfOk (each f xs) Few
+each_few f xs few = mapped (λ ys. length ys ≡ length xs) Few (each f xs) (each_long f xs) (λ ys same. rw same few)
+
+few_of : {A : Type 0} (xs : List A) (a b : Bool) → nat_le 1 (length xs) ≡ a → nat_le (length xs) 10 ≡ b
+    → IfSome (cond (a && b) (Some xs) None) Few
+few_of xs true true some few = (grind (arith, nat_tests, some), grind (arith, nat_tests, few))
+few_of xs true false some few = tt
+few_of xs false b some few = tt
+
+entries_few : (d : Data) → IfOk (required as_entries names.Providers d) Few
+entries_few d =
+    there Few _ _ (then Few as_entries (member_of names.Providers d)
+    (λ value. then Few one_to_ten (option_and_then entries_of (as_array value)) (λ entries. few_of entries _ _ refl refl)))
+
+members_few : (d : Data) → IfOk (get_members d) (λ members. Few members.providers)
+members_few d =
+    always (λ members. Few members.providers) (required as_u32 names.Page d) _
+    (λ page. always (λ members. Few members.providers) (required as_u32 names.Call d) _
+    (λ call. always (λ members. Few members.providers) (option_members d) _
+    (λ options. after Few (λ members. Few members.providers) (required as_entries names.Providers d) _ (entries_few d)
+    (λ entries few. after Few (λ members. Few members.providers) (each provider_members entries) _ (each_few provider_members entries few)
+    (λ providers so. so)))))
+
 get_good : (d : Data) → IfOk (get_of d) Good
-get_good d = always Good (get_members d) _ (λ members. always Good (url_of members.provider.config) _ (λ config. (refl, tt)))
+get_good d =
+    after (λ members. Few members.providers) Good (get_members d) _ (members_few d)
+    (λ members few. after Few Good (each provider_by members.providers) _ (each_few provider_by members.providers few)
+    (λ providers so. (so, tt)))
 
 reply_good : (d : Data) → IfOk (reply_of d) Good
 reply_good d =
@@ -181,6 +226,6 @@ kind_good kind d =
 named_good : (line : List ℕ) → IfOk (event_named line) Good
 named_good line = always Good (json_of line) _ (λ d. always Good (kind_of d) _ (λ kind. kind_good kind d))
 
--- an event that a line names has one provider where it is a get, and no unknown status
-pub named-good : (line : List ℕ) (event : Event) → event_named line ≡ Ok event → HasOneProvider event × HasKnownStatus event
+-- an event that a line names has one to ten providers where it is a get, and no unknown status
+pub named-good : (line : List ℕ) (event : Event) → event_named line ≡ Ok event → HasProviders event × HasKnownStatus event
 named-good line event is = IfOk-at_ok Good is (named_good line)

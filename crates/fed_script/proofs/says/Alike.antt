@@ -1,6 +1,6 @@
 -- What a line says is what it holds under the names.
-use Rattle.std.proofs.Common.{◌≡◌, ℕ, Option, Some, None, refl, sym}
-use Rattle.std.specs.Prelude.{option_map, option_and_then, Result, Ok, Err}
+use Rattle.std.proofs.Common.{◌≡◌, ℕ, List, Option, Some, None, refl, sym}
+use Rattle.std.specs.Prelude.{option_and_then, Result, Ok, Err}
 use Rattle.serde_json.specs.Data.{Data, null, boolean, number, string, array, object}
 use Rattle.serde_json.specs.Find.{get}
 use Rattle.serde_json.specs.Read.{number_of}
@@ -15,9 +15,10 @@ use Rattle.fed_script.specs.declared.cause.MemberName.TheVariants as names
 use Rattle.fed_script.specs.declared.said.Said.{Said}
 use Rattle.fed_script.specs.declared.saying.SaidLine.{SaidLine}
 use Rattle.fed_script.specs.Cause.{name_text}
-use Rattle.fed_script.specs.Get.{ProviderMembers, GetMembers, as_provider, provider_members, get_members}
-use Rattle.fed_script.specs.Member.{◌>>=◌, or_cause, unless_null, required, as_u32}
-use Rattle.fed_script.specs.Said.{under, shown, MayBegin, Says, SaysLine, provider_of, provider_shown, get_members_by}
+use Rattle.fed_script.specs.Entries.{all_said, entries_seen, providers_named}
+use Rattle.fed_script.specs.Get.{ProviderMembers, GetMembers, as_entries, provider_members, get_members}
+use Rattle.fed_script.specs.Member.{◌>>=◌, each, or_cause, unless_null, required, as_u32}
+use Rattle.fed_script.specs.Said.{under, shown, MayBegin, Says, SaysLine, get_members_by}
 use Rattle.fed_script.specs.declared.options.OptionMembers.{OptionMembers}
 use Rattle.fed_script.specs.Options.{option_members}
 use Rattle.fed_script.proofs.says.Shown.{member-shown}
@@ -42,48 +43,42 @@ may_alike b (Some d) is = begun_alike b d is
 pub shown_same : (s : Said) (d : Data) → Says s d → Same (shown s) d
 shown_same s d says name = rw (member-shown name s) (may_alike (under name s) (get (name_text name) d) (says name))
 
--- ---- the one provider
+-- ---- the providers
 
-abbrev with_provider : ℕ → ℕ → OptionMembers → ProviderMembers → Result GetMembers LineCause
-with_provider page call options provider = Ok (record { page = page; call = call; options = options; provider = provider })
+abbrev with_providers : ℕ → ℕ → OptionMembers → List ProviderMembers → Result GetMembers LineCause
+with_providers page call options providers = Ok (record { page = page; call = call; options = options; providers = providers })
 
-found_members : (x : Option Data) (cause : LineCause)
-    → (or_cause cause x >>= provider_members) ≡ (or_cause cause (option_map provider_members x) >>= λ m. m)
-found_members None cause = refl
-found_members (Some d) cause = refl
+providers_there : (o : Option Data)
+    → (or_cause (Member names.Providers) (option_and_then as_entries (unless_null o)) >>= each provider_members) ≡ providers_named o
+providers_there None = refl
+providers_there (Some null) = refl
+providers_there (Some (boolean b)) = refl
+providers_there (Some (number n)) = refl
+providers_there (Some (string s)) = refl
+providers_there (Some (array ds)) = refl
+providers_there (Some (object ms)) = refl
 
-one_provider : (o : Option Data) (cause : LineCause)
-    → (or_cause cause (option_and_then as_provider (unless_null o)) >>= provider_members)
-    ≡ (or_cause cause (option_and_then provider_of o) >>= λ m. m)
-one_provider None cause = refl
-one_provider (Some null) cause = refl
-one_provider (Some (boolean b)) cause = refl
-one_provider (Some (number n)) cause = refl
-one_provider (Some (string s)) cause = refl
-one_provider (Some (array ds)) cause = found_members (as_provider (array ds)) cause
-one_provider (Some (object ms)) cause = refl
-
--- the members in their order, and the provider's in one step or in two
-in_turn : (page call : Result ℕ LineCause) (options : Result OptionMembers LineCause) (found : Result Data LineCause)
-    → (page >>= λ p. call >>= λ c. options >>= λ o. found >>= λ entry. provider_members entry >>= λ x. with_provider p c o x)
-    ≡ (page >>= λ p. call >>= λ c. options >>= λ o. (found >>= provider_members) >>= λ x. with_provider p c o x)
+-- the members in their order, and the providers' in one step or in two
+in_turn : (page call : Result ℕ LineCause) (options : Result OptionMembers LineCause) (found : Result (List Data) LineCause)
+    → (page >>= λ p. call >>= λ c. options >>= λ o. found >>= λ ds. each provider_members ds >>= λ xs. with_providers p c o xs)
+    ≡ (page >>= λ p. call >>= λ c. options >>= λ o. (found >>= each provider_members) >>= λ xs. with_providers p c o xs)
 in_turn (Err cause) call options found = refl
 in_turn (Ok p) (Err cause) options found = refl
 in_turn (Ok p) (Ok c) (Err cause) found = refl
 in_turn (Ok p) (Ok c) (Ok o) (Err cause) = refl
-in_turn (Ok p) (Ok c) (Ok o) (Ok entry) = refl
+in_turn (Ok p) (Ok c) (Ok o) (Ok entries) = refl
 
 -- a get's members are those that the line says
 pub get_same : (line : SaidLine) (d : Data) → SaysLine line d
-    → get_members_by (shown line.members) (provider_shown line.provider) ≡ get_members d
+    → get_members_by (shown line.members) (all_said (entries_seen line.providers)) ≡ get_members d
 get_same line d says =
     let same = shown_same line.members d says.members in
     rw (
       number_same (shown line.members) d same names.Page,
       number_same (shown line.members) d same names.Call,
       options_same (shown line.members) d same,
-      says.provider,
-      ← one_provider (get (name_text names.Providers) d) (Member names.Providers),
+      says.providers,
+      ← providers_there (get (name_text names.Providers) d),
     )
     (sym (in_turn (required as_u32 names.Page d) (required as_u32 names.Call d) (option_members d)
-    (required as_provider names.Providers d)))
+    (required as_entries names.Providers d)))

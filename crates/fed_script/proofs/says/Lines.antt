@@ -8,7 +8,8 @@ use Rattle.fed_script.specs.Get.{get_by}
 use Rattle.fed_script.specs.Header.{header_named}
 use Rattle.fed_script.specs.Line.{header_of, kind_of, event_of_kind, event_named}
 use Rattle.fed_script.specs.Member.{◌>>=◌, json_of}
-use Rattle.fed_script.specs.Said.{SaysLine, shown, provider_shown, get_said}
+use Rattle.fed_script.specs.Entries.{all_said, entries_seen}
+use Rattle.fed_script.specs.Said.{SaysLine, shown, get_said}
 use Rattle.fed_script.proofs.says.Same.{header_same, kind_same, event_same}
 use Rattle.fed_script.proofs.says.Alike.{shown_same, get_same}
 
@@ -32,7 +33,7 @@ kind_read : (said : SaidLine) (d : Data) (kind : Result (List ℕ) LineCause) �
 kind_read said d kind says is = sym (is ∙ kind_same (shown said.members) d (shown_same said.members d says.members))
 
 pub get_read : (line : List ℕ) (said : SaidLine) → WasRead line said → Ok (codes "get") ≡ kind_of (shown said.members)
-    → get_said (shown said.members) (provider_shown said.provider) ≡ event_named line
+    → get_said (shown said.members) (all_said (entries_seen said.providers)) ≡ event_named line
 get_read line said read is =
     ap (λ r. r >>= get_by) (get_same said read.0 read.2)
     ∙ sym (with_kind line read.0 (Ok (codes "get")) read.1 (kind_read said read.0 (Ok (codes "get")) read.2 is))

@@ -18,7 +18,7 @@ use Rattle.fed_call.specs.WindowRows.{awaited_by}
 use Rattle.fed_disconnect.specs.Facts.{DisconnectFacts}
 use Rattle.fed_trace.specs.Begun.{CallKind}
 use Rattle.fed_trace.specs.Call.{OfGet, OfDisconnect}
-use Rattle.fed_trace.specs.Effect.{Effect, Sent, Shown, Window, Result, Ignored, login_change}
+use Rattle.fed_trace.specs.Effect.{Effect, Sent, Dropped, Shown, Window, Result, Ignored, login_change}
 use Rattle.fed_trace.specs.Keyed.{entries_after}
 use Rattle.fed_trace.specs.Records.{record_of, records_of}
 use Rattle.fed_trace.specs.Row.{call_effects, moves, outcome_effects}
@@ -47,6 +47,7 @@ does_record line world cookies kind call page effects = all effects
         ≡ call_records line cookies call page effects
     all [] = refl
     all (does.Send provider ask ∷ effects) = one (Sent kind call provider ask (cookies ask)) _ refl effects (all effects)
+    all (does.Dropped place failure ∷ effects) = one (Dropped call place failure) _ refl effects (all effects)
     all (does.Finish finish ∷ effects) = one (Result call page finish) _ refl effects (all effects)
     all (does.Ignored why ∷ effects) = one (Ignored why) _ refl effects (all effects)
     all (does.Dialog dialog ∷ effects) = one (Shown call dialog) _ refl effects (all effects)
@@ -85,6 +86,7 @@ does_login world cookies kind call page effects logins = all effects logins
         ≡ login_after effects logins
     all [] logins = refl
     all (does.Send provider ask ∷ effects) logins = all effects logins
+    all (does.Dropped place failure ∷ effects) logins = all effects logins
     all (does.Finish finish ∷ effects) logins = all effects logins
     all (does.Ignored why ∷ effects) logins = all effects logins
     all (does.Dialog dialog ∷ effects) logins = all effects logins

@@ -83,6 +83,7 @@ does_keep world cookies kind call page effects es next = all effects es next
         ≡ kept_after effects (keys_of es)
     all [] es next = refl
     all (does.Send provider ask ∷ effects) es next = all effects es next.1
+    all (does.Dropped place failure ∷ effects) es next = all effects es next.1
     all (does.Finish finish ∷ effects) es next = all effects es next.1
     all (does.Ignored why ∷ effects) es next = all effects es next.1
     all (does.Dialog dialog ∷ effects) es next = all effects es next.1
@@ -109,6 +110,8 @@ does_keep_first world cookies kind call page (does.ForgetPair p q ∷ effects) e
     ∙ ap (kept_after effects) (goes_each (triples_of_pair world.kept p q) es
     ∙ ap (λ ks. without_each (keys_of es) (triples_of_pair ks p q)) is ∙ sym (without_pair-each (keys_of es) p q))
 does_keep_first world cookies kind call page (does.Send provider ask ∷ effects) es sets is =
+    does_keep world cookies kind call page effects es sets.1
+does_keep_first world cookies kind call page (does.Dropped place failure ∷ effects) es sets is =
     does_keep world cookies kind call page effects es sets.1
 does_keep_first world cookies kind call page (does.Finish finish ∷ effects) es sets is =
     does_keep world cookies kind call page effects es sets.1
@@ -157,6 +160,7 @@ does_flag world cookies kind call page effects es = all effects es
         ≡ flags_after effects (keys_of es)
     all [] es = refl
     all (does.Send provider ask ∷ effects) es = all effects es
+    all (does.Dropped place failure ∷ effects) es = all effects es
     all (does.Finish finish ∷ effects) es = all effects es
     all (does.Ignored why ∷ effects) es = all effects es
     all (does.Dialog dialog ∷ effects) es = all effects es

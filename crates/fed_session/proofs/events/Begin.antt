@@ -1,9 +1,9 @@
 -- What a call that begins owes to the trace.
-use Rattle.std.proofs.Common.{◌≡◌, ℕ, Bool, true, false, nat_eq, ◌⊎◌, inl, inr, List, [], ◌∷◌, ◌++◌, Some, None}
-use Rattle.std.proofs.Common.{length, refl, sym, ap}
+use Rattle.std.proofs.Common.{◌≡◌, ◌≤◌, ℕ, Bool, true, false, nat_eq, ◌⊎◌, inl, inr, List, [], ◌∷◌, ◌++◌, Some, None}
+use Rattle.std.proofs.Common.{length, map, refl, sym, ap}
 use Rattle.std.proofs.Common.{subst, ◌∙◌, arith, cond}
 use Rattle.std.proofs.lemmas.Bool.Decides.{nat_tests}
-use Rattle.std.specs.Prelude.{Option, slice_get, Ok, Err, Result as Answer, is_some, option_map, unwrap_or}
+use Rattle.std.specs.Prelude.{Option, Ok, Err, Result as Answer, is_some, option_map, unwrap_or}
 use Rattle.std.specs.Option.{option_or}
 use Rattle.std.specs.Map.{lookup, keys_of}
 use Rattle.std.specs.List.{filter_map, list_any}
@@ -15,23 +15,28 @@ use Rattle.fed_origin.specs.declared.options.ProviderOptions.{ProviderOptions}
 use Rattle.fed_origin.specs.declared.scheme.Scheme.{Scheme}
 use Rattle.fed_origin.specs.declared.scheme.Scheme.TheVariants.{Http, Https}
 use Rattle.fed_origin.specs.declared.stage.Stage.{Stage}
-use Rattle.fed_origin.specs.declared.stage.Stage.TheVariants.{Reading, Ended}
+use Rattle.fed_origin.specs.declared.stage.Stage.TheVariants.{Reading, Gathering, Ended}
 use Rattle.fed_origin.specs.Origin.{is_trustworthy, same_origin}
 use Rattle.fed_origin.specs.Status.{same_triple}
-use Rattle.fed_origin.specs.WebUrl.{origin_of, scheme_of}
+use Rattle.fed_origin.specs.WebUrl.{scheme_of}
 use Rattle.fed_jar.specs.Cookie.{cookies_after}
 use Rattle.fed_provider.specs.declared.step.ProviderStep.{ProviderStep}
 use Rattle.fed_provider.specs.WellKnown.{WellKnownUrlOf}
 use Rattle.fed_status.specs.Flags.{has_flag}
 use Rattle.fed_status.specs.Kept.{has_pair}
-use Rattle.fed_status.specs.Login.{status_of}
 use Rattle.fed_status.specs.Shared.{World}
 use Rattle.fed_consent.specs.declared.table.ask.Ask.{Ask}
 use Rattle.fed_consent.specs.declared.table.why.Why.{Why}
 use Rattle.fed_consent.specs.declared.table.why.Why.TheVariants.{NoPage, PageInsecure}
-use Rattle.fed_consent.specs.Outcomes.{Outcome, only_place}
-use Rattle.fed_call.specs.ReadingRows.{start_at, by_gate, is_gated, is_prevented, lacks_activation}
+use Rattle.fed_consent.specs.declared.table.effect.Effect.{Effect as CallEffect}
+use Rattle.fed_consent.specs.declared.table.failure.Failure.{Failure}
+use Rattle.fed_consent.specs.Outcomes.{Outcome, fails}
+use Rattle.fed_call.specs.Facts.{Conclusion, Awaits, NoneLeft, Reselects, NoneSilent, Offers, Prompts, conclusion_of}
+use Rattle.fed_call.specs.GatheringRows.{opens_from, first_settles, gathers, start_all, by_prevented, by_twice, by_active, is_twice, is_active}
+use Rattle.fed_call.specs.Progress.{Closed, NotSecure, Siteless, Gated, opening, first_progress}
+use Rattle.fed_call.specs.ReadingRows.{is_prevented, lacks_activation}
 use Rattle.fed_call.specs.ReadingRows as get
+use Rattle.fed_call.specs.Row.{start_with}
 use Rattle.fed_disconnect.specs.Facts.{provider_origin}
 use Rattle.fed_disconnect.specs.Rows as disconnect
 use Rattle.fed_script.specs.declared.event.Event.{Event}
@@ -62,7 +67,7 @@ use Rattle.fed_trace.proofs.known.Known.{said_of, known_moved, known_same}
 use Rattle.fed_trace.proofs.calls.Pending.{outcome_silent, outcome_begins_none}
 use Rattle.fed_trace.proofs.events.Aside.{aside_ignored}
 use Rattle.fed_trace.proofs.runs.Gets.{gets_are, unbegun_unknown}
-use Rattle.fed_trace.proofs.happens.First.{HasOne}
+use Rattle.fed_trace.proofs.happens.First.{HasSome}
 use Rattle.fed_session.proofs.kept.Calls.{changes, pending_same, absent_pending_calls, pending_new, pending_over}
 use Rattle.fed_session.proofs.kept.Held.{IsFree, Holds, holds_new}
 use Rattle.fed_session.proofs.kept.Loaded.{loads_silent}
@@ -71,7 +76,7 @@ use Rattle.fed_session.proofs.waits.Unmoved.{never_moved}
 use Rattle.fed_session.proofs.waits.Windows.{awaits_at, windows_begin}
 use Rattle.fed_session.proofs.clauses.Outcome.{outcome_logins, outcome_records}
 use Rattle.fed_session.proofs.clauses.Permissions.{outcome_keeps, outcome_flags}
-use Rattle.fed_session.proofs.clauses.Sets.{SetsAll, first_sets}
+use Rattle.fed_session.proofs.clauses.Sets.{SetsAll, first_sets, none_still, start_all_none}
 use Rattle.fed_session.proofs.clauses.Sight.{sees, cookies_same}
 use Rattle.fed_session.proofs.clauses.Statuses.{is_busy-kept}
 use Rattle.fed_session.proofs.events.Event.{page_kept}
@@ -132,10 +137,10 @@ pub over_none : (known : Known) → at_stage Ended known ≡ None
 over_none (OfGet facts) = refl
 over_none (OfDisconnect facts) = refl
 
-first_as : (b : Begun) → pending_as (known_first b) ≡ pending_from b
-first_as b = go b.options
+first_as : (world : World) (b : Begun) → pending_as (known_first world b) ≡ pending_from b
+first_as world b = go b.options
   where
-    go : (options : CallOptions) → pending_as (fresh b.call b.page b.origin options)
+    go : (options : CallOptions) → pending_as (fresh world b.call b.page b.origin options)
         ≡ record { page = b.page; kind = kind_asked options }
     go (ToGet options) = refl
     go (ToDisconnect options) = refl
@@ -233,7 +238,7 @@ owes_taken : (s s' : State) (T : Trace) (line : ℕ) (event : Event) (b : Begun)
     → list_any (nat_eq b.call) s.tabs.taken ≡ false
     → sight_after outcome.effects (sight_of s) ≡ sight_of s
     → sight_of s' ≡ sight_of s
-    → Begins b.page b.call (at_stage stage (known_first b)) s.tabs s'.tabs
+    → Begins b.page b.call (at_stage stage (known_first (world_at T) b)) s.tabs s'.tabs
     → Owes s s' T line event
 owes_taken s s' T line event b outcome stage h effects inputs moved closed sets free fresh_call still sight begins_call =
     let seen = sees s' _ sight in
@@ -246,7 +251,7 @@ owes_taken s s' T line event b outcome stage h effects inputs moved closed sets 
     let unbegun : IsAbsent b.call es =
     subst (IsAbsent b.call) h.pending (absent_pending_calls b.call (item_known s.tabs.table.items) s.tabs.taken fresh_call) in
     let none : item_known s.tabs.table.items b.call ≡ None = h.known b.call ∙ unknown s T b.call h fresh_call in
-    let take = taken_at b.call v (known_first b) stage s.tabs s'.tabs es (first_as b) free fresh_call unbegun none (stands_held s T h)
+    let take = taken_at b.call v (known_first world b) stage s.tabs s'.tabs es (first_as world b) free fresh_call unbegun none (stands_held s T h)
     h.pending begins_call in
     let calls_is : entries_after nat_eq call_change (effects_of T event) es
     ≡ entries_after nat_eq call_change (moves kind b.call (Some stage)) (insert_entry nat_eq es b.call v) =
@@ -257,11 +262,11 @@ owes_taken s s' T line event b outcome stage h effects inputs moved closed sets 
     λ q. ap (last_said nat_eq stage_change q) effects ∙ option_or-none (last_said nat_eq stage_change q does) in
     let begins_of : (q : ℕ) → last_of (begins q) (effects_of T event) ≡ cond (nat_eq q b.call) (Some b) None =
     λ q. ap (last_of (begins q)) effects ∙ ap (λ o. option_or o (cond (nat_eq q b.call) (Some b) None)) (last_silent (begins q) does
-    (outcome_silent (begins q) (λ n c p a k. refl) (λ c d. refl) (λ c p u. refl) (λ o s. refl) (λ t k. refl) (λ o k. refl)
+    (outcome_silent (begins q) (λ n c p a k. refl) (λ c d. refl) (λ c p f. refl) (λ c p u. refl) (λ o s. refl) (λ t k. refl) (λ o k. refl)
     (λ c p f. refl) (λ w. refl) (λ n c s. refl) world (cookies_with T) kind b.call b.page outcome)) in
     let no_page : AllSilent page_change (effects_of T event) = silent_is page_change (effects_of T event) (Begin b ∷ does) effects (
       refl,
-      outcome_silent page_change (λ n c p a k. refl) (λ c d. refl) (λ c p u. refl) (λ o s. refl) (λ t k. refl) (λ o k. refl)
+      outcome_silent page_change (λ n c p a k. refl) (λ c d. refl) (λ c p f. refl) (λ c p u. refl) (λ o s. refl) (λ t k. refl) (λ o k. refl)
           (λ c p f. refl) (λ w. refl) (λ n c s. refl) world (cookies_with T) kind b.call b.page outcome,
     ) in
     record {
@@ -276,14 +281,14 @@ owes_taken s s' T line event b outcome stage h effects inputs moved closed sets 
           seen.time ∙ sym (ap (λ o. unwrap_or o s.time)
           (last_silent time_of (effects_of T event) (silent_is time_of (effects_of T event) (Begin b ∷ does) effects (
             refl,
-            outcome_silent time_of (λ n c p a k. refl) (λ c d. refl) (λ c p u. refl) (λ o s. refl) (λ t k. refl) (λ o k. refl)
+            outcome_silent time_of (λ n c p a k. refl) (λ c d. refl) (λ c p f. refl) (λ c p u. refl) (λ o s. refl) (λ t k. refl) (λ o k. refl)
                 (λ c p f. refl) (λ w. refl) (λ n c s. refl) world (cookies_with T) kind b.call b.page outcome,
           ))));
       cookies =
           seen.cookies ∙ ap (cookies_after s.cookies) (sym
           (said_silent written_by (effects_of T event) (silent_is written_by (effects_of T event) (Begin b ∷ does) effects (
             refl,
-            outcome_silent written_by (λ n c p a k. refl) (λ c d. refl) (λ c p u. refl) (λ o s. refl) (λ t k. refl) (λ o k. refl)
+            outcome_silent written_by (λ n c p a k. refl) (λ c d. refl) (λ c p f. refl) (λ c p u. refl) (λ o s. refl) (λ t k. refl) (λ o k. refl)
                 (λ c p f. refl) (λ w. refl) (λ n c s. refl) world (cookies_with T) kind b.call b.page outcome,
           ))));
       login =
@@ -312,7 +317,7 @@ owes_taken s s' T line event b outcome stage h effects inputs moved closed sets 
           (outcome_begins_none world (cookies_with T) kind b.call b.page outcome))));
       pending = take.pending ∙ sym calls_is;
       known =
-          λ q. begins_known b.page b.call (at_stage stage (known_first b)) s.tabs s'.tabs none begins_call q
+          λ q. begins_known b.page b.call (at_stage stage (known_first (world_at T) b)) s.tabs s'.tabs none begins_call q
           ∙ known_new s T line event b outcome stage q h inputs moved moved_by begins_of (nat_eq b.call q) refl;
     }
   where
@@ -332,7 +337,7 @@ owes_taken s s' T line event b outcome stage h effects inputs moved closed sets 
         ≡ last_said nat_eq stage_change q (outcome_effects (world_at T) (cookies_with T) (kind_asked b.options) b.call b.page outcome))
         → ((q : ℕ) → last_of (begins q) (effects_of T event) ≡ cond (nat_eq q b.call) (Some b) None)
         → (t : Bool) → nat_eq b.call q ≡ t
-        → cond t (at_stage stage (known_first b)) (item_known s.tabs.table.items q) ≡ known_at (with_event T line event) q
+        → cond t (at_stage stage (known_first (world_at T) b)) (item_known s.tabs.table.items q) ≡ known_at (with_event T line event) q
     known_new s T line event b outcome stage q h inputs moved moved_by begins_of false at =
         let is : nat_eq q b.call ≡ false = grind (arith, nat_tests, at) in
         h.known q
@@ -354,36 +359,57 @@ record Comes (kind : CallKind) (get : Option ℕ) (outcome : Outcome) : Type 0 w
   free : (stage ≡ Ended) ⊎ IsFree kind get
   still : (sight : Sight) → sight_after outcome.effects sight ≡ sight
 
-gate_comes : (place : ℕ) (config wellknown : Parts) (gated : Bool) → Comes GetCall None (by_gate place config wellknown gated)
-gate_comes place config wellknown true = record { stage = Ended; is = refl; closed = refl; free = inl refl; still = λ sight. refl }
-gate_comes place config wellknown false = record { stage = Reading; is = refl; closed = refl; free = inr refl; still = λ sight. refl }
+-- the call fails, and is over
+fails_comes : (get : Option ℕ) (failure : Failure) → Comes GetCall get (fails failure)
+fails_comes get failure = record { stage = Ended; is = refl; closed = refl; free = inl refl; still = λ sight. refl }
 
-silence_comes : (place : ℕ) (config wellknown : Parts) (prevented gated : Bool)
-    → Comes GetCall None (get.by_silence place config wellknown prevented gated)
-silence_comes place config wellknown true gated = record { stage = Ended; is = refl; closed = refl; free = inl refl; still = λ sight. refl }
-silence_comes place config wellknown false gated = gate_comes place config wellknown gated
+single_comes : (provider : ProviderOptions) (opening : Answer Parts Closed) (lacking prevented : Bool)
+    → Comes GetCall None (get.start_by provider opening lacking prevented)
+single_comes provider (Err NotSecure) lacking prevented = fails_comes None _
+single_comes provider (Err Siteless) true prevented = fails_comes None _
+single_comes provider (Err Siteless) false prevented = fails_comes None _
+single_comes provider (Err Gated) true prevented = fails_comes None _
+single_comes provider (Err Gated) false true = fails_comes None _
+single_comes provider (Err Gated) false false = fails_comes None _
+single_comes provider (Ok wellknown) true prevented = fails_comes None _
+single_comes provider (Ok wellknown) false true = fails_comes None _
+single_comes provider (Ok wellknown) false false =
+    record { stage = Reading; is = refl; closed = refl; free = inr refl; still = λ sight. refl }
 
-asked_comes : (place : ℕ) (config : Parts) (wellknown : Answer Parts ProviderStep) (prevented gated : Bool)
-    → Comes GetCall None (get.by_site place config wellknown prevented gated)
-asked_comes place config (Err step) prevented gated =
-    record { stage = Ended; is = refl; closed = refl; free = inl refl; still = λ sight. refl }
-asked_comes place config (Ok wellknown) prevented gated = silence_comes place config wellknown prevented gated
+-- what a call with several providers settles to as it begins
+settling_comes : (first : List CallEffect) (c : Conclusion) → ((sight : Sight) → sight_after (first ++ (first_settles c).effects) sight ≡ sight)
+    → Comes GetCall None (gathers first (first_settles c))
+settling_comes first (NoneLeft failure) still = record { stage = Ended; is = refl; closed = refl; free = inl refl; still = still }
+settling_comes first Awaits still = record { stage = Gathering; is = refl; closed = refl; free = inr refl; still = still }
+settling_comes first (Reselects offered) still = record { stage = Gathering; is = refl; closed = refl; free = inr refl; still = still }
+settling_comes first NoneSilent still = record { stage = Gathering; is = refl; closed = refl; free = inr refl; still = still }
+settling_comes first (Offers offered) still = record { stage = Gathering; is = refl; closed = refl; free = inr refl; still = still }
+settling_comes first (Prompts offered) still = record { stage = Gathering; is = refl; closed = refl; free = inr refl; still = still }
 
-scheme_comes : (place : ℕ) (scheme : Scheme) (config : Parts) (wellknown : Answer Parts ProviderStep) (lacking prevented gated : Bool)
-    → Comes GetCall None (get.by_scheme place scheme config wellknown lacking prevented gated)
-scheme_comes place Http config wellknown lacking prevented gated =
-    record { stage = Ended; is = refl; closed = refl; free = inl refl; still = λ sight. refl }
-scheme_comes place Https config wellknown true prevented gated =
-    record { stage = Ended; is = refl; closed = refl; free = inl refl; still = λ sight. refl }
-scheme_comes place Https config wellknown false prevented gated = asked_comes place config wellknown prevented gated
+unprevented_comes : (world : World) (origin : Origin) (options : GetOptions) (prevented : Bool)
+    → Comes GetCall None (by_prevented world origin options prevented)
+unprevented_comes world origin options true = fails_comes None _
+unprevented_comes world origin options false =
+    settling_comes (opens_from world options.mode 0 options.providers)
+    (conclusion_of world origin options (map (first_progress world options.mode) options.providers))
+    (none_still (start_all world origin options).effects (start_all_none world origin options))
 
-start_comes : (world : World) (origin : Origin) (options : GetOptions) (providers : List ProviderOptions) → length providers ≡ 1
-    → Comes GetCall None (start_at world origin options only_place (slice_get providers only_place))
-start_comes world origin options [] one = absurd (omega (arith, one))
-start_comes world origin options (provider ∷ others) one =
-    scheme_comes only_place (scheme_of provider.config) provider.config (WellKnownUrlOf world.rules provider.config)
-    (lacks_activation options.mode options.activation) (is_prevented options.mediation (has_flag world.flags origin))
-    (is_gated options.mode (status_of world.login (origin_of provider.config)))
+apart_comes : (world : World) (origin : Origin) (options : GetOptions) (twice : Bool) → Comes GetCall None (by_twice world origin options twice)
+apart_comes world origin options true = fails_comes None _
+apart_comes world origin options false =
+    unprevented_comes world origin options (is_prevented options.mediation (has_flag world.flags origin))
+
+passive_comes : (world : World) (origin : Origin) (options : GetOptions) (active : Bool) → Comes GetCall None (by_active world origin options active)
+passive_comes world origin options true = fails_comes None _
+passive_comes world origin options false = apart_comes world origin options (is_twice options)
+
+start_comes : (world : World) (origin : Origin) (options : GetOptions) (providers : List ProviderOptions) → 1 ≤ length providers
+    → Comes GetCall None (start_with world origin options providers)
+start_comes world origin options [] some = absurd (omega (arith, some))
+start_comes world origin options (only ∷ []) some =
+    single_comes only (opening world options.mode only) (lacks_activation options.mode options.activation)
+    (is_prevented options.mediation (has_flag world.flags origin))
+start_comes world origin options (first ∷ second ∷ more) some = passive_comes world origin options (is_active options.mode)
 
 site_comes : (get : Option ℕ) (config : Parts) (wellknown : Answer Parts ProviderStep) (kept : Bool)
     → Comes DisconnectCall get (disconnect.by_site config wellknown kept)
@@ -396,39 +422,40 @@ disconnect_comes : (get : Option ℕ) (scheme : Scheme) (config : Parts) (wellkn
 disconnect_comes get Http config wellknown kept = record { stage = Ended; is = refl; closed = refl; free = inl refl; still = λ sight. refl }
 disconnect_comes get Https config wellknown kept = site_comes get config wellknown kept
 
-first_comes : (world : World) (get : Option ℕ) (origin : Origin) (options : CallOptions) → HasOne options
+first_comes : (world : World) (get : Option ℕ) (origin : Origin) (options : CallOptions) → HasSome options
     → Comes (kind_asked options) get (first_row world (is_some get) origin options)
-first_comes world (Some other) origin (ToGet options) one =
-    record { stage = Ended; is = refl; closed = refl; free = inl refl; still = λ sight. refl }
-first_comes world None origin (ToGet options) one = start_comes world origin options options.providers one
-first_comes world get origin (ToDisconnect options) one =
+first_comes world (Some other) origin (ToGet options) some = fails_comes (Some other) _
+first_comes world None origin (ToGet options) some = start_comes world origin options options.providers some
+first_comes world get origin (ToDisconnect options) some =
     disconnect_comes get (scheme_of options.config) options.config (WellKnownUrlOf world.rules options.config)
     (has_pair world.kept origin (provider_origin options))
 
 -- what is kept of a call by its stage
-started_is : (b : Begun) (outcome : Outcome) (stage : Stage) → outcome.stage ≡ Some stage
-    → started b outcome ≡ at_stage stage (known_first b)
-started_is b outcome stage is = ap (λ o. at_stage (unwrap_or o Reading) (known_first b)) is
+started_is : (world : World) (b : Begun) (outcome : Outcome) (stage : Stage) → outcome.stage ≡ Some stage
+    → started world b outcome ≡ at_stage stage (known_first world b)
+started_is world b outcome stage is = ap (λ o. at_stage (unwrap_or o Reading) (known_first world b)) is
 
 -- no window of a call is open where it begins
-idle : (kind : CallKind) (get : Option ℕ) (b : Begun) (outcome : Outcome) → Comes kind get outcome → awaited_in (started b outcome) ≡ None
-idle kind get b outcome comes = ap awaited_in (started_is b outcome comes.stage comes.is) ∙ go (goes_or_ends comes.stage)
+idle : (world : World) (kind : CallKind) (get : Option ℕ) (b : Begun) (outcome : Outcome) → Comes kind get outcome
+    → awaited_in (started world b outcome) ≡ None
+idle world kind get b outcome comes =
+    ap awaited_in (started_is world b outcome comes.stage comes.is) ∙ go (goes_or_ends comes.stage)
   where
-    go : (comes.stage ≡ Ended) ⊎ Goes comes.stage → awaited_in (at_stage comes.stage (known_first b)) ≡ None
-    go (inl over) = ap (λ stage. awaited_in (at_stage stage (known_first b))) over ∙ ap awaited_in (over_none (known_first b))
+    go : (comes.stage ≡ Ended) ⊎ Goes comes.stage → awaited_in (at_stage comes.stage (known_first world b)) ≡ None
+    go (inl over) = ap (λ stage. awaited_in (at_stage stage (known_first world b))) over ∙ ap awaited_in (over_none (known_first world b))
     go (inr going) =
-        ap awaited_in (going.kept (known_first b)) ∙ awaits_at comes.stage (known_first b)
-        ∙ ap (λ w. cond w (provider_asked (asked (known_first b))) None) comes.closed
+        ap awaited_in (going.kept (known_first world b)) ∙ awaits_at comes.stage (known_first world b)
+        ∙ ap (λ w. cond w (provider_asked (asked (known_first world b))) None) comes.closed
 
-pub begun_idle : (world : World) (busy : Bool) (b : Begun) → HasOne b.options → awaited_in (begun_as world busy b) ≡ None
+pub begun_idle : (world : World) (busy : Bool) (b : Begun) → HasSome b.options → awaited_in (begun_as world busy b) ≡ None
 begun_idle world true b one =
-    idle (kind_asked b.options) (Some 0) b (first_row world true b.origin b.options) (first_comes world (Some 0) b.origin b.options one)
+    idle world (kind_asked b.options) (Some 0) b (first_row world true b.origin b.options) (first_comes world (Some 0) b.origin b.options one)
 begun_idle world false b one =
-    idle (kind_asked b.options) None b (first_row world false b.origin b.options) (first_comes world None b.origin b.options one)
+    idle world (kind_asked b.options) None b (first_row world false b.origin b.options) (first_comes world None b.origin b.options one)
 
 pub owes_begin : (s s' : State) (T : Trace) (line : ℕ) (event : Event) (page call : ℕ) (options : CallOptions) → Stands s T
     → BeginsBy T event page call options
-    → list_any (nat_eq call) s.tabs.taken ≡ false → HasOne options
+    → list_any (nat_eq call) s.tabs.taken ≡ false → HasSome options
     → sight_of s' ≡ sight_of s
     → BeginsIf page call (begin_kept (world_in (sight_of s)) (lookup (nat_eq page) s.tabs.pages)
     (is_some (lookup (nat_eq page) s.tabs.gets)) page call options) s.tabs s'.tabs
@@ -453,7 +480,7 @@ owes_begin s s' T line event page call options h by fresh_call one sight begins_
         let comes = first_comes (world_at T) get origin options one in
         owes_taken s s' T line event (of origin) outcome comes.stage h effects by.inputs comes.is comes.closed
         (first_sets (world_at T) (is_some get) origin options) comes.free fresh_call (comes.still (sight_of s)) sight
-        (subst (λ known. Begins page call known s.tabs s'.tabs) (started_is (of origin) outcome comes.stage comes.is) begins_call)
+        (subst (λ known. Begins page call known s.tabs s'.tabs) (started_is (world_at T) (of origin) outcome comes.stage comes.is) begins_call)
 
     trusted : (origin : Origin) (t : Bool)
         → effects_of T event ≡ standing_call (world_at T) (cookies_with T) t (is_some get) (of origin)

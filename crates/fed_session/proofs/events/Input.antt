@@ -354,7 +354,7 @@ owes_pending s s' T line event call input known outcome h brings sets effects fo
     } in
     let leave = leaves (world_at T) call known input ignored outcome.stage s.tabs s'.tabs (pending T) about.going before on in
     let no_page : AllSilent page_change (effects_of T event) = silent_is page_change (effects_of T event) does effects
-    (outcome_silent page_change (λ n c p a k. refl) (λ c d. refl) (λ c p u. refl) (λ o s. refl) (λ t k. refl) (λ o k. refl)
+    (outcome_silent page_change (λ n c p a k. refl) (λ c d. refl) (λ c p f. refl) (λ c p u. refl) (λ o s. refl) (λ t k. refl) (λ o k. refl)
     (λ c p f. refl) (λ w. refl) (λ n c s. refl) (world_at T) (cookies_with T) kind call page outcome) in
     let calls_is : entries_after nat_eq call_change (effects_of T event) (pending T)
     ≡ entries_after nat_eq call_change (moves kind call outcome.stage) (pending T) =
@@ -363,7 +363,7 @@ owes_pending s s' T line event call input known outcome h brings sets effects fo
     let begins_none : (q : ℕ) → last_of (begins q) (effects_of T event) ≡ None =
     λ q. last_silent (begins q) (effects_of T event)
     (silent_is (begins q) (effects_of T event) does effects
-    (outcome_silent (begins q) (λ n c p a k. refl) (λ c d. refl) (λ c p u. refl) (λ o s. refl) (λ t k. refl) (λ o k. refl)
+    (outcome_silent (begins q) (λ n c p a k. refl) (λ c d. refl) (λ c p f. refl) (λ c p u. refl) (λ o s. refl) (λ t k. refl) (λ o k. refl)
     (λ c p f. refl) (λ w. refl) (λ n c s. refl) (world_at T) (cookies_with T) kind call page outcome)) in
     let said : (q : ℕ) (k : Known) → said_of T event q k ≡ with_said (world_at T) ignored (cond (nat_eq q call) (Some input) None) k =
     λ q k. ap (λ xs. with_said (world_at T) (list_any is_ignored xs) (input_to q event) k) effects
@@ -380,12 +380,12 @@ owes_pending s s' T line event call input known outcome h brings sets effects fo
       time =
           seen.time ∙ sym (ap (λ o. unwrap_or o s.time)
           (last_silent time_of (effects_of T event) (silent_is time_of (effects_of T event) does effects
-          (outcome_silent time_of (λ n c p a k. refl) (λ c d. refl) (λ c p u. refl) (λ o s. refl) (λ t k. refl) (λ o k. refl)
+          (outcome_silent time_of (λ n c p a k. refl) (λ c d. refl) (λ c p f. refl) (λ c p u. refl) (λ o s. refl) (λ t k. refl) (λ o k. refl)
           (λ c p f. refl) (λ w. refl) (λ n c s. refl) (world_at T) (cookies_with T) kind call page outcome))));
       cookies =
           seen.cookies ∙ ap (cookies_after s.cookies) (sym
           (said_silent written_by (effects_of T event) (silent_is written_by (effects_of T event) does effects
-          (outcome_silent written_by (λ n c p a k. refl) (λ c d. refl) (λ c p u. refl) (λ o s. refl) (λ t k. refl) (λ o k. refl)
+          (outcome_silent written_by (λ n c p a k. refl) (λ c d. refl) (λ c p f. refl) (λ c p u. refl) (λ o s. refl) (λ t k. refl) (λ o k. refl)
           (λ c p f. refl) (λ w. refl) (λ n c s. refl) (world_at T) (cookies_with T) kind call page outcome))));
       login =
           seen.login ∙ sym (ap (λ xs. entries_after same_origin login_change xs s.login) effects

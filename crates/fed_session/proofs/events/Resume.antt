@@ -17,7 +17,7 @@ use Rattle.fed_consent.specs.declared.table.input.Input.TheVariants.{Resume}
 use Rattle.fed_consent.specs.declared.table.why.Why.{Why}
 use Rattle.fed_consent.specs.declared.table.why.Why.TheVariants.{NoPage, PageInsecure, NobodyWaits}
 use Rattle.fed_consent.specs.Outcomes.{is_ignored, only_place}
-use Rattle.fed_call.specs.Facts.{Facts}
+use Rattle.fed_call.specs.Facts.{Facts, config_at}
 use Rattle.fed_call.specs.WindowRows.{origin_at, asks_again, resumed}
 use Rattle.fed_script.specs.declared.event.Event.TheVariants.{IdpClose}
 use Rattle.fed_table.specs.Lists.{has}
@@ -29,7 +29,7 @@ use Rattle.fed_trace.specs.Effect.{Effect, Ignored, last_of, page_change, login_
 use Rattle.fed_trace.specs.Effect.{begun_by, begins, written_by, time_of, loaded_change}
 use Rattle.fed_trace.specs.Keyed.{last_said}
 use Rattle.fed_trace.specs.Known.{world_at, known_at}
-use Rattle.fed_trace.specs.OfCall.{asked, given}
+use Rattle.fed_trace.specs.OfCall.{asked, given, dropped}
 use Rattle.fed_trace.specs.Records.{record_of, records_of}
 use Rattle.fed_trace.specs.Row.{effects_of, with_event, cookies_with, input_effects, outcome_effects, resume_effects, waiting_effects}
 use Rattle.fed_trace.specs.Row.{standing_resumes, idpclose_effects}
@@ -141,13 +141,13 @@ resumed_all world cookies line known (call ∷ calls) old outs new apart same wa
     let w = waiting call first in
     let is : item_known old.table.items call ≡ Some (OfGet (record w.facts { stage = Window })) = same call first ∙ w.found in
     let on = subst (λ k. Takes call k (kept_next world k Resume) old mid) is takes in
-    let once = goes_once world cookies call w.facts w.facts.config old mid w.provided on in
+    let once = goes_once world cookies call w.facts (config_at only_place w.facts) old mid w.provided on in
     let after = resumed_all world cookies line known calls mid rest new apart.1
-    (λ q there. once.known q ∙ ap (λ b. cond b (known_then world w.facts w.facts.config) (item_known old.table.items q))
+    (λ q there. once.known q ∙ ap (λ b. cond b (known_then world w.facts (config_at only_place w.facts)) (item_known old.table.items q))
     (other q there (nat_eq call q) refl) ∙ same q (behind q (nat_eq q call) there))
     (λ q there. waiting q (behind q (nat_eq q call) there)) more in
     let does : resume_effects world cookies known call
-    ≡ outcome_effects world cookies GetCall call w.facts.page (asks_again only_place w.facts.config) =
+    ≡ outcome_effects world cookies GetCall call w.facts.page (asks_again only_place (config_at only_place w.facts)) =
     ap (λ k. input_effects world cookies true call k Resume) w.found in
     record {
       pages = after.pages ∙ once.pages;
@@ -184,17 +184,17 @@ resumed_all world cookies line known (call ∷ calls) old outs new apart same wa
 
     joined : (facts : Facts) → known call ≡ Some (OfGet (record facts { stage = Window })) → (q : ℕ) (b : Bool) → nat_eq call q ≡ b
         → (later : Bool)
-        → cond later (kept_next world (known q) Resume) (cond b (known_then world facts facts.config) (item_known old.table.items q))
+        → cond later (kept_next world (known q) Resume) (cond b (known_then world facts (config_at only_place facts)) (item_known old.table.items q))
         ≡ cond (nat_eq q call || later) (kept_next world (known q) Resume) (item_known old.table.items q)
     joined facts found q true at later =
         let key : call ≡ q = grind (arith, nat_tests, at) in
         let mine : nat_eq q call ≡ true = grind (arith, nat_tests, at) in
-        let next : kept_next world (known q) Resume ≡ known_then world facts facts.config =
+        let next : kept_next world (known q) Resume ≡ known_then world facts (config_at only_place facts) =
         ap (λ k. kept_next world (known k) Resume) (sym key) ∙ ap (λ k. kept_next world k Resume) found in
         either later (sym next) ∙ sym (ap (λ b. cond (b || later) (kept_next world (known q) Resume) (item_known old.table.items q)) mine)
       where
-        either : (later : Bool) → known_then world facts facts.config ≡ kept_next world (known q) Resume
-            → cond later (kept_next world (known q) Resume) (known_then world facts facts.config) ≡ kept_next world (known q) Resume
+        either : (later : Bool) → known_then world facts (config_at only_place facts) ≡ kept_next world (known q) Resume
+            → cond later (kept_next world (known q) Resume) (known_then world facts (config_at only_place facts)) ≡ kept_next world (known q) Resume
         either true e = refl
         either false e = e
     joined facts found q false at later =
@@ -312,6 +312,9 @@ module _ (s s' : State) (T : Trace) (line page : ℕ) (h : Stands s T) (sight : 
         gives =
             said_silent (given q) (effects_of T (IdpClose page))
             (silent (given q) (record { ignored = λ w. refl; sent = λ n c p t k. refl; move = λ n c. refl }));
+        drops =
+            said_silent (dropped q) (effects_of T (IdpClose page))
+            (silent (dropped q) (record { ignored = λ w. refl; sent = λ n c p t k. refl; move = λ n c. refl }));
       } in
       ap (λ k. kept_next (world_at T) k Resume) w.found
       ∙ ap (λ stage. at_stage (unwrap_or (resumed w.facts stage).stage stage)
@@ -392,7 +395,7 @@ module _ (s s' : State) (T : Trace) (line page : ℕ) (h : Stands s T) (sight : 
       stays origin q true there =
           let w = waiting_known T q origin there in
           let found = h.known q ∙ w.found in
-          ap (λ k. pending_call q (kept_next (world_at T) k Resume)) found ∙ same_pending (world_at T) q w.facts w.facts.config
+          ap (λ k. pending_call q (kept_next (world_at T) k Resume)) found ∙ same_pending (world_at T) q w.facts (config_at only_place w.facts)
           ∙ sym (ap (pending_call q) found)
 
   abbrev Owed : List Out → Type 0

@@ -10,7 +10,7 @@ use Rattle.fed_origin.specs.WebUrl.{origin_of}
 use Rattle.fed_jar.specs.Cookie.{StoredCookie}
 use Rattle.fed_table.specs.Lists.{all_without, with_last, with_key, emptied}
 use Rattle.fed_trace.specs.Begun.{CallKind}
-use Rattle.fed_trace.specs.Effect.{Effect, Time, Page, Closed, Cookie, Login, Begin, Move, Sent, Shown, Window, Kept, Flag, Result}
+use Rattle.fed_trace.specs.Effect.{Effect, Time, Page, Closed, Cookie, Login, Begin, Move, Sent, Dropped, Shown, Window, Kept, Flag, Result}
 use Rattle.fed_trace.specs.Effect.{Ignored, page_change, loaded_change}
 use Rattle.fed_trace.specs.Keyed.{entries_after}
 use Rattle.fed_trace.specs.Row.{ends_of, cookie_effects, login_effects, load_effects}
@@ -30,6 +30,7 @@ load_none (Login origin status) h = refl
 load_none (Begin begun) h = refl
 load_none (Move kind call stage) h = refl
 load_none (Sent kind call provider ask cookies) h = refl
+load_none (Dropped call provider failure) h = refl
 load_none (Shown call dialog) h = refl
 load_none (Window call provider url) h = refl
 load_none (Kept triple stays) h = refl

@@ -17,7 +17,7 @@ use Rattle.fed_consent.specs.declared.table.ask.Ask.{Ask}
 use Rattle.fed_consent.specs.Outcomes.{Outcome}
 use Rattle.fed_table.specs.Lists.{has, all_without, with_last}
 use Rattle.fed_trace.specs.Begun.{CallKind}
-use Rattle.fed_trace.specs.Effect.{Effect, Time, Page, Closed, Cookie, Login, Begin, Move, Sent, Shown, Window, Kept, Flag, Result, Ignored}
+use Rattle.fed_trace.specs.Effect.{Effect, Time, Page, Closed, Cookie, Login, Begin, Move, Sent, Dropped, Shown, Window, Kept, Flag, Result, Ignored}
 use Rattle.fed_trace.specs.Effect.{key_change, is_window, stage_change, window_change}
 use Rattle.fed_trace.specs.Keyed.{changed, entries_after}
 use Rattle.fed_trace.specs.Row.{call_effects, moves, outcome_effects}
@@ -124,6 +124,8 @@ by_move moved still (Login origin status) =
     still (Login origin status) (record { window = refl; waited = λ rows. refl; lists = λ ls. refl; closed = refl })
 by_move moved still (Begin begun) =
     still (Begin begun) (record { window = refl; waited = λ rows. refl; lists = λ ls. refl; closed = refl })
+by_move moved still (Dropped call provider failure) =
+    still (Dropped call provider failure) (record { window = refl; waited = λ rows. refl; lists = λ ls. refl; closed = refl })
 by_move moved still (Sent kind call provider ask cookies) =
     still (Sent kind call provider ask cookies)
     (record { window = refl; waited = λ rows. refl; lists = λ ls. refl; closed = refl })
@@ -278,7 +280,7 @@ lists_after-append (x ∷ xs) ys lists = lists_after-append xs ys (lists_by x li
 does_silent : (world : World) (cookies : Ask → List ℕ) (kind : CallKind) (call page : ℕ) (outcome : Outcome)
     → AllSilent stage_change (flat_map (call_effects world cookies kind call page) outcome.effects)
 does_silent world cookies kind call page outcome =
-    silent_call stage_change (λ n c p a k. refl) (λ c d. refl) (λ c p u. refl) (λ o s. refl) (λ t k. refl) (λ o k. refl) (λ c p f. refl)
+    silent_call stage_change (λ n c p a k. refl) (λ c d. refl) (λ c p f. refl) (λ c p u. refl) (λ o s. refl) (λ t k. refl) (λ o k. refl) (λ c p f. refl)
     (λ w. refl) world cookies kind call page outcome.effects
 
 -- of origins that were waited for it says what its move says
@@ -291,7 +293,7 @@ outcome_waited rows world cookies kind call page outcome origins =
     entries_after-append same_origin (waited_change rows) does (moves kind call outcome.stage) origins
     ∙ ap (entries_after same_origin (waited_change rows) (moves kind call outcome.stage))
     (entries_silent same_origin (waited_change rows) does origins
-    (silent_call (waited_change rows) (λ n c p a k. refl) (λ c d. refl) (λ c p u. refl) (λ o s. refl) (λ t k. refl) (λ o k. refl)
+    (silent_call (waited_change rows) (λ n c p a k. refl) (λ c d. refl) (λ c p f. refl) (λ c p u. refl) (λ o s. refl) (λ t k. refl) (λ o k. refl)
     (λ c p f. refl) (λ w. refl) world cookies kind call page outcome.effects))
 
 -- and so of the lists

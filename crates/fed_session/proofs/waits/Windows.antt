@@ -161,6 +161,7 @@ pub awaits_at : (stage : Stage) (known : Known) → awaits (staged stage known) 
 awaits_at stages.Window (OfGet facts) = refl
 awaits_at stages.Reading (OfGet facts) = refl
 awaits_at stages.Listing (OfGet facts) = refl
+awaits_at stages.Gathering (OfGet facts) = refl
 awaits_at stages.Mismatch (OfGet facts) = refl
 awaits_at stages.Choosing (OfGet facts) = refl
 awaits_at stages.Prompting (OfGet facts) = refl

@@ -9,7 +9,8 @@ use Rattle.std.specs.List.{filter_map, cons_option, list_any}
 use Rattle.std.specs.Map.{lookup}
 use Rattle.indexmap.specs.IndexMap.{insert_entry, shift_remove_entry}
 use Rattle.fed_origin.specs.declared.stage.Stage.{Stage}
-use Rattle.fed_origin.specs.declared.stage.Stage.TheVariants.{Reading, Listing, Mismatch, Window, Choosing, Prompting, Asserting, Ended}
+use Rattle.fed_origin.specs.declared.stage.Stage.TheVariants.{Reading, Listing, Gathering, Mismatch, Window, Choosing, Prompting}
+use Rattle.fed_origin.specs.declared.stage.Stage.TheVariants.{Asserting, Ended}
 use Rattle.fed_trace.specs.Begun.{CallKind, GetCall, DisconnectCall, of_get}
 use Rattle.fed_trace.specs.Effect.{PendingCall, call_change, get_change}
 use Rattle.fed_trace.specs.Keyed.{changed, entries_after}
@@ -107,6 +108,11 @@ gets_moved kind call (Some Listing) es h = still kind
     still GetCall = refl
     still DisconnectCall = refl
 gets_moved kind call (Some Mismatch) es h = still kind
+  where
+    still : (kind : CallKind) → gets_among es ≡ changed nat_eq (of_get kind None) (gets_among es)
+    still GetCall = refl
+    still DisconnectCall = refl
+gets_moved kind call (Some Gathering) es h = still kind
   where
     still : (kind : CallKind) → gets_among es ≡ changed nat_eq (of_get kind None) (gets_among es)
     still GetCall = refl

@@ -18,6 +18,7 @@ use Rattle.fed_origin.specs.WebUrl.{origin_of}
 use Rattle.fed_jar.specs.Cookie.{StoredCookie}
 use Rattle.fed_status.specs.Login.{Logins}
 use Rattle.fed_status.specs.Shared.{World}
+use Rattle.fed_consent.specs.declared.table.failure.Failure.{Failure}
 use Rattle.fed_consent.specs.declared.table.ask.Ask.{Ask}
 use Rattle.fed_consent.specs.declared.table.dialog.Dialog.{Dialog}
 use Rattle.fed_consent.specs.declared.table.finish.Finish.{Finish}
@@ -26,7 +27,7 @@ use Rattle.fed_consent.specs.declared.table.why.Why.{Why}
 use Rattle.fed_consent.specs.Outcomes.{Outcome}
 use Rattle.fed_trace.specs.Begun.{Begun, CallKind, CallOptions, kind_asked}
 use Rattle.fed_trace.specs.Call.{Known, kind_of, page_of, first_row, input_row}
-use Rattle.fed_trace.specs.Effect.{Effect, PendingCall, Page, Cookie, Login, Move, Sent, Shown, Result, Ignored}
+use Rattle.fed_trace.specs.Effect.{Effect, PendingCall, Page, Cookie, Login, Move, Sent, Dropped, Shown, Result, Ignored}
 use Rattle.fed_trace.specs.Effect.{page_change, login_change, call_change, begun_by, written_by, Kept, Window, Flag}
 use Rattle.fed_trace.specs.Keyed.{entries_after}
 use Rattle.fed_trace.specs.Row.{ends_of, cookie_effects, login_effects, load_effects, standing_call, begin_effects, outcome_effects}
@@ -198,6 +199,7 @@ set_after cookies effects logins =
 pub outcome_silent : {A : Type 0} (said : Effect → Option A)
     → ((kind : CallKind) (call provider : ℕ) (ask : Ask) (cookies : List ℕ) → said (Sent kind call provider ask cookies) ≡ None)
     → ((call : ℕ) (dialog : Dialog) → said (Shown call dialog) ≡ None)
+    → ((call provider : ℕ) (failure : Failure) → said (Dropped call provider failure) ≡ None)
     → ((call provider : ℕ) (url : Parts) → said (Window call provider url) ≡ None)
     → ((origin : Origin) (status : LoginStatus) → said (Login origin status) ≡ None)
     → ((triple : Triple) (stays : Bool) → said (Kept triple stays) ≡ None)
@@ -207,9 +209,10 @@ pub outcome_silent : {A : Type 0} (said : Effect → Option A)
     → said (Move kind call stage) ≡ None)
     → (world : World) (cookies : Ask → List ℕ) (kind : CallKind) (call page : ℕ) (outcome : Outcome)
     → AllSilent said (outcome_effects world cookies kind call page outcome)
-outcome_silent said sent shown window login kept flag result ignored move world cookies kind call page outcome =
+outcome_silent said sent shown dropped window login kept flag result ignored move world cookies kind call page outcome =
     silent_append said (flat_map (call_effects world cookies kind call page) outcome.effects) (moves kind call outcome.stage)
-    (silent_call said sent shown window login kept flag result ignored world cookies kind call page outcome.effects) (go outcome.stage)
+    (silent_call said sent shown dropped window login kept flag result ignored world cookies kind call page outcome.effects)
+    (go outcome.stage)
   where
     go : (stage : Option Stage) → AllSilent said (moves kind call stage)
     go None = tt
@@ -222,7 +225,7 @@ BeginsAtMost call effects = (filter_map begun_by effects ≡ []) ⊎ (filter_map
 pub outcome_begins_none : (world : World) (cookies : Ask → List ℕ) (kind : CallKind) (call page : ℕ) (outcome : Outcome)
     → AllSilent begun_by (outcome_effects world cookies kind call page outcome)
 outcome_begins_none world cookies kind call page outcome =
-    outcome_silent begun_by (λ n c p a k. refl) (λ c d. refl) (λ c p u. refl) (λ o s. refl) (λ t k. refl) (λ o k. refl)
+    outcome_silent begun_by (λ n c p a k. refl) (λ c d. refl) (λ c p f. refl) (λ c p u. refl) (λ o s. refl) (λ t k. refl) (λ o k. refl)
     (λ c p f. refl)
     (λ w. refl) (λ n c s. refl) world cookies kind call page outcome
 

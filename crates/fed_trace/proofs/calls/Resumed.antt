@@ -6,7 +6,8 @@ use Rattle.std.specs.List.{flat_map, list_any}
 use Rattle.url.specs.Parts.{Parts}
 use Rattle.fed_origin.specs.declared.origin.Origin.{Origin}
 use Rattle.fed_origin.specs.declared.stage.Stage.{Stage}
-use Rattle.fed_origin.specs.declared.stage.Stage.TheVariants.{Reading, Listing, Mismatch, Window, Choosing, Prompting, Asserting, Ended}
+use Rattle.fed_origin.specs.declared.stage.Stage.TheVariants.{Reading, Listing, Gathering, Mismatch, Window, Choosing, Prompting}
+use Rattle.fed_origin.specs.declared.stage.Stage.TheVariants.{Asserting, Ended}
 use Rattle.fed_origin.specs.Origin.{is_trustworthy}
 use Rattle.fed_provider.specs.declared.config.Config.{Config}
 use Rattle.fed_status.specs.Shared.{World}
@@ -16,7 +17,7 @@ use Rattle.fed_consent.specs.declared.table.input.Input.TheVariants.{Resume}
 use Rattle.fed_consent.specs.declared.table.why.Why.{Why}
 use Rattle.fed_consent.specs.declared.table.why.Why.TheVariants.{NoPage, PageInsecure, CallEnded, NotOffered, NobodyWaits}
 use Rattle.fed_consent.specs.Outcomes.{only_place}
-use Rattle.fed_call.specs.Facts.{Facts}
+use Rattle.fed_call.specs.Facts.{Facts, config_at}
 use Rattle.fed_call.specs.WindowRows.{asks_again, resumed}
 use Rattle.fed_trace.specs.Begun.{CallKind, GetCall}
 use Rattle.fed_trace.specs.Call.{Known, OfGet, OfDisconnect}
@@ -40,10 +41,11 @@ asking world cookies call page (Some config) = AsksAgain GetCall only_place conf
 
 get_resuming : (world : World) (cookies : Ask → List ℕ) (call : ℕ) (facts : Facts) (stage : Stage)
     → Resuming call (outcome_effects world cookies GetCall call facts.page (resumed facts stage))
-get_resuming world cookies call facts Window = asking world cookies call facts.page facts.config
+get_resuming world cookies call facts Window = asking world cookies call facts.page (config_at only_place facts)
 get_resuming world cookies call facts Reading = Refuses NotOffered refl
 get_resuming world cookies call facts Listing = Refuses NotOffered refl
 get_resuming world cookies call facts Mismatch = Refuses NotOffered refl
+get_resuming world cookies call facts Gathering = Refuses NotOffered refl
 get_resuming world cookies call facts Choosing = Refuses NotOffered refl
 get_resuming world cookies call facts Prompting = Refuses NotOffered refl
 get_resuming world cookies call facts Asserting = Refuses NotOffered refl

@@ -11,7 +11,8 @@ use Rattle.fed_origin.specs.declared.stage.Stage.{Stage}
 use Rattle.fed_origin.specs.declared.stage.Stage.TheVariants as stages
 use Rattle.fed_script.specs.declared.event.Event.{Event}
 use Rattle.fed_trace.specs.Begun.{Begun}
-use Rattle.fed_trace.specs.Effect.{Effect, Time, Page, Closed, Cookie, Login, Begin, Move, Sent, Shown, Window, Kept, Flag, Result, Ignored}
+use Rattle.fed_trace.specs.Effect.{Effect, Time, Page, Closed, Cookie, Login, Begin, Move, Sent, Dropped, Shown, Window, Kept, Flag}
+use Rattle.fed_trace.specs.Effect.{Result, Ignored}
 use Rattle.fed_trace.specs.Effect.{key_change, is_window, stage_change, window_change, last_of, begins}
 use Rattle.fed_trace.specs.Keyed.{last_said, says}
 use Rattle.fed_trace.specs.OfCall.{call_at}
@@ -48,6 +49,7 @@ says_window q (Login origin status) = refl
 says_window q (Begin begun) = refl
 says_window q (Sent kind call provider ask cookies) = refl
 says_window q (Shown call dialog) = refl
+says_window q (Dropped call provider failure) = refl
 says_window q (Window call provider url) = refl
 says_window q (Kept triple stays) = refl
 says_window q (Flag origin stays) = refl
@@ -104,6 +106,7 @@ at_window (Some stages.Window) h = refl
 at_window (Some stages.Reading) h = absurd (cc)
 at_window (Some stages.Listing) h = absurd (cc)
 at_window (Some stages.Mismatch) h = absurd (cc)
+at_window (Some stages.Gathering) h = absurd (cc)
 at_window (Some stages.Choosing) h = absurd (cc)
 at_window (Some stages.Prompting) h = absurd (cc)
 at_window (Some stages.Asserting) h = absurd (cc)

@@ -55,7 +55,8 @@ outcome_calls world cookies kind call page outcome es =
     let does = flat_map (call_effects world cookies kind call page) outcome.effects in
     entries_after-append nat_eq call_change does (moves kind call outcome.stage) es
     ∙ ap (entries_after nat_eq call_change (moves kind call outcome.stage))
-    (entries_silent nat_eq call_change does es (silent_call call_change (λ n c p a k. refl) (λ c d. refl) (λ c p u. refl) (λ o s. refl)
+    (entries_silent nat_eq call_change does es (silent_call call_change (λ n c p a k. refl) (λ c d. refl) (λ c p f. refl)
+    (λ c p u. refl) (λ o s. refl)
     (λ t k. refl) (λ o k. refl) (λ c p f. refl) (λ w. refl) world cookies kind call page outcome.effects))
 
 -- of calls in Window too
@@ -67,7 +68,8 @@ outcome_windows world cookies kind call page outcome es =
     let does = flat_map (call_effects world cookies kind call page) outcome.effects in
     entries_after-append nat_eq window_change does (moves kind call outcome.stage) es
     ∙ ap (entries_after nat_eq window_change (moves kind call outcome.stage))
-    (entries_silent nat_eq window_change does es (silent_call window_change (λ n c p a k. refl) (λ c d. refl) (λ c p u. refl)
+    (entries_silent nat_eq window_change does es (silent_call window_change (λ n c p a k. refl) (λ c d. refl) (λ c p f. refl)
+    (λ c p u. refl)
     (λ o s. refl) (λ t k. refl) (λ o k. refl) (λ c p f. refl) (λ w. refl) world cookies kind call page outcome.effects))
 
 -- of stages too
@@ -77,7 +79,7 @@ outcome_moves : (world : World) (cookies : Ask → List ℕ) (kind : CallKind) (
 outcome_moves world cookies kind call page outcome q =
     last_said_after nat_eq stage_change q (flat_map (call_effects world cookies kind call page) outcome.effects)
     (moves kind call outcome.stage)
-    (silent_call stage_change (λ n c p a k. refl) (λ c d. refl) (λ c p u. refl) (λ o s. refl) (λ t k. refl) (λ o k. refl)
+    (silent_call stage_change (λ n c p a k. refl) (λ c d. refl) (λ c p f. refl) (λ c p u. refl) (λ o s. refl) (λ t k. refl) (λ o k. refl)
     (λ c p f. refl)
     (λ w. refl) world cookies kind call page outcome.effects)
 
@@ -111,6 +113,7 @@ ignored_effects world cookies kind call page (does.Send provider ask ∷ effects
 ignored_effects world cookies kind call page (does.Finish finish ∷ effects) = ignored_effects world cookies kind call page effects
 ignored_effects world cookies kind call page (does.Ignored why ∷ effects) = refl
 ignored_effects world cookies kind call page (does.Dialog dialog ∷ effects) = ignored_effects world cookies kind call page effects
+ignored_effects world cookies kind call page (does.Dropped place failure ∷ effects) = ignored_effects world cookies kind call page effects
 ignored_effects world cookies kind call page (does.Window place url ∷ effects) = ignored_effects world cookies kind call page effects
 ignored_effects world cookies kind call page (does.SetLogin origin status ∷ effects) =
     ignored_effects world cookies kind call page effects

@@ -11,7 +11,7 @@ use Rattle.fed_consent.specs.declared.table.input.Input.{Input}
 use Rattle.fed_consent.specs.declared.table.effect.Effect.TheVariants as does
 use Rattle.fed_trace.specs.Begun.{Begun, CallKind, CallOptions, kind_asked}
 use Rattle.fed_trace.specs.Call.{Known, kind_of, page_of, first_row, input_row}
-use Rattle.fed_trace.specs.Effect.{Login, Begin, Sent, Shown, Window, Kept, Flag, Result, Ignored}
+use Rattle.fed_trace.specs.Effect.{Login, Begin, Sent, Dropped, Shown, Window, Kept, Flag, Result, Ignored}
 use Rattle.fed_trace.specs.Row.{call_effects, moves, standing_call, begin_effects, input_effects}
 use Rattle.fed_status.specs.Kept.{triples_of_pair}
 
@@ -30,6 +30,7 @@ same_effects world a b same kind call page effects = all effects
     all (does.Finish finish ∷ effects) = ap (λ xs. Result call page finish ∷ xs) (all effects)
     all (does.Ignored why ∷ effects) = ap (λ xs. Ignored why ∷ xs) (all effects)
     all (does.Dialog dialog ∷ effects) = ap (λ xs. Shown call dialog ∷ xs) (all effects)
+    all (does.Dropped place failure ∷ effects) = ap (λ xs. Dropped call place failure ∷ xs) (all effects)
     all (does.Window place url ∷ effects) = ap (λ xs. Window call place url ∷ xs) (all effects)
     all (does.SetLogin origin status ∷ effects) = ap (λ xs. Login origin status ∷ xs) (all effects)
     all (does.Keep triple ∷ effects) = ap (λ xs. Kept triple true ∷ xs) (all effects)

@@ -13,10 +13,11 @@ use Rattle.fed_consent.specs.declared.table.ask.Ask.{Ask}
 use Rattle.fed_consent.specs.declared.table.dialog.Dialog.{Dialog}
 use Rattle.fed_consent.specs.declared.table.effect.Effect.{Effect as CallEffect}
 use Rattle.fed_consent.specs.declared.table.effect.Effect.TheVariants as does
+use Rattle.fed_consent.specs.declared.table.failure.Failure.{Failure}
 use Rattle.fed_consent.specs.declared.table.finish.Finish.{Finish}
 use Rattle.fed_consent.specs.declared.table.why.Why.{Why}
 use Rattle.fed_trace.specs.Begun.{CallKind}
-use Rattle.fed_trace.specs.Effect.{Effect, Login, Sent, Shown, Window, Kept, Flag, Result, Ignored, last_of}
+use Rattle.fed_trace.specs.Effect.{Effect, Login, Sent, Dropped, Shown, Window, Kept, Flag, Result, Ignored, last_of}
 use Rattle.fed_trace.specs.Keyed.{Change, changed, entries_after, last_said, says}
 use Rattle.fed_trace.specs.Row.{call_effects}
 
@@ -64,6 +65,7 @@ silent_append said (x ∷ xs) ys h k = (h.0, silent_append said xs ys h.1 k)
 pub silent_call : {A : Type 0} (said : Effect → Option A)
     → ((kind : CallKind) (call provider : ℕ) (ask : Ask) (cookies : List ℕ) → said (Sent kind call provider ask cookies) ≡ None)
     → ((call : ℕ) (dialog : Dialog) → said (Shown call dialog) ≡ None)
+    → ((call provider : ℕ) (failure : Failure) → said (Dropped call provider failure) ≡ None)
     → ((call provider : ℕ) (url : Parts) → said (Window call provider url) ≡ None)
     → ((origin : Origin) (status : LoginStatus) → said (Login origin status) ≡ None)
     → ((triple : Triple) (stays : Bool) → said (Kept triple stays) ≡ None)
@@ -72,7 +74,7 @@ pub silent_call : {A : Type 0} (said : Effect → Option A)
     → ((why : Why) → said (Ignored why) ≡ None)
     → (world : World) (cookies : Ask → List ℕ) (kind : CallKind) (call page : ℕ) (effects : List CallEffect)
     → AllSilent said (flat_map (call_effects world cookies kind call page) effects)
-silent_call said sent shown window login kept flag result ignored world cookies kind call page effects = all effects
+silent_call said sent shown dropped window login kept flag result ignored world cookies kind call page effects = all effects
   where
     all : (effects : List CallEffect) → AllSilent said (flat_map (call_effects world cookies kind call page) effects)
     all [] = tt
@@ -80,6 +82,7 @@ silent_call said sent shown window login kept flag result ignored world cookies 
     all (does.Finish finish ∷ effects) = (result call page finish, all effects)
     all (does.Ignored why ∷ effects) = (ignored why, all effects)
     all (does.Dialog dialog ∷ effects) = (shown call dialog, all effects)
+    all (does.Dropped place failure ∷ effects) = (dropped call place failure, all effects)
     all (does.Window place url ∷ effects) = (window call place url, all effects)
     all (does.SetLogin origin status ∷ effects) = (login origin status, all effects)
     all (does.Keep triple ∷ effects) = (kept triple true, all effects)

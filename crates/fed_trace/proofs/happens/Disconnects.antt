@@ -91,6 +91,7 @@ stage_turn world facts stages.Reading kind raw =
 stage_turn world facts stages.Asserting kind raw = sending_turn world.kept facts.origin (provider_origin facts.options) kind raw
 stage_turn world facts stages.Listing kind raw = GivesNone refl refl refl
 stage_turn world facts stages.Mismatch kind raw = GivesNone refl refl refl
+stage_turn world facts stages.Gathering kind raw = GivesNone refl refl refl
 stage_turn world facts stages.Window kind raw = GivesNone refl refl refl
 stage_turn world facts stages.Choosing kind raw = GivesNone refl refl refl
 stage_turn world facts stages.Prompting kind raw = GivesNone refl refl refl
@@ -123,6 +124,8 @@ no_more_logins world cookies kind call page (does.Send provider ask ∷ effects)
 no_more_logins world cookies kind call page (does.Finish finish ∷ effects) none = no_more_logins world cookies kind call page effects none
 no_more_logins world cookies kind call page (does.Ignored why ∷ effects) none = no_more_logins world cookies kind call page effects none
 no_more_logins world cookies kind call page (does.Dialog dialog ∷ effects) none = no_more_logins world cookies kind call page effects none
+no_more_logins world cookies kind call page (does.Dropped place failure ∷ effects) none =
+    no_more_logins world cookies kind call page effects none
 no_more_logins world cookies kind call page (does.Window place url ∷ effects) none =
     no_more_logins world cookies kind call page effects none
 no_more_logins world cookies kind call page (does.Keep triple ∷ effects) none = no_more_logins world cookies kind call page effects none

@@ -15,14 +15,15 @@ use Rattle.fed_call.specs.WindowRows.{resumed}
 use Rattle.fed_consent.specs.declared.table.input.Input.{Input}
 use Rattle.fed_consent.specs.declared.table.input.Input.TheVariants as inputs
 use Rattle.fed_consent.specs.declared.table.why.Why.{Why}
+use Rattle.fed_consent.specs.declared.table.why.Why.TheVariants.{NoCall}
 use Rattle.fed_script.specs.declared.event.Event.{Event}
 use Rattle.fed_script.specs.declared.event.Event.TheVariants as events
 use Rattle.fed_script.specs.declared.event.Event.TheVariants.{Load, ClosePage, Get, Disconnect, IdpClose}
 use Rattle.fed_trace.specs.Begun.{Begun, CallKind, CallOptions, ToGet, ToDisconnect, kind_asked}
 use Rattle.fed_trace.specs.Call.{Known, OfGet, first_row}
-use Rattle.fed_trace.specs.OfCall.{asked, given, replaces}
+use Rattle.fed_trace.specs.OfCall.{asked, given, dropped, replaces}
 use Rattle.fed_trace.specs.Effect.{Effect, Time, Page, Closed, Begin, Move, Ignored, last_of, page_change, call_change}
-use Rattle.fed_trace.specs.Effect.{stage_change, begins, is_ignored}
+use Rattle.fed_trace.specs.Effect.{stage_change, begins}
 use Rattle.fed_trace.specs.Keyed.{Change, last_said, says}
 use Rattle.fed_trace.specs.Known.{world_at, is_begun, input_to, known_at}
 use Rattle.fed_trace.specs.Row.{effects_of, cookies_with, cookies_from, outcome_effects, input_effects, ends_of, close_effects}
@@ -75,7 +76,7 @@ pub record Leaves (T : Trace) (event : Event) (call : ℕ) : Type 0 where
   pub quiet : Quiet call (effects_of T event)
   pub same : (k : Known) → said_of T event call k ≡ k
   -- it brings no input to the call, or one that is ignored since the call never began
-  pub untaken : (input_to call event ≡ None) ⊎ ((list_any is_ignored (effects_of T event) ≡ true) × (is_begun T call ≡ false))
+  pub untaken : (input_to call event ≡ None) ⊎ ((effects_of T event ≡ Ignored NoCall ∷ []) × (is_begun T call ≡ false))
   -- where it loads or closes a page, the call is not pending there
   pub apart : (page : ℕ) → replaces page event ≡ true → (is_among call (pending_of T page) ≡ false) ⊎ (page_at T page ≡ None)
 
@@ -85,6 +86,7 @@ pub record EndsWithPage (T : Trace) (event : Event) (call : ℕ) : Type 0 where
   pub begins_none : last_of (begins call) (effects_of T event) ≡ None
   pub asks : filter_map (asked call) (effects_of T event) ≡ []
   pub gives : filter_map (given call) (effects_of T event) ≡ []
+  pub drops : filter_map (dropped call) (effects_of T event) ≡ []
   pub unsaid : input_to call event ≡ None
   -- the page that the event loads or closes, where the call is pending
   pub page : ℕ
@@ -106,6 +108,7 @@ pub record Resumes (T : Trace) (event : Event) (call : ℕ) : Type 0 where
   pub begins_none : last_of (begins call) (effects_of T event) ≡ None
   pub asks : filter_map (asked call) (effects_of T event) ≡ []
   pub gives : filter_map (given call) (effects_of T event) ≡ []
+  pub drops : filter_map (dropped call) (effects_of T event) ≡ []
 
 pub data Happens (T : Trace) (event : Event) (call : ℕ) : Type 0 where
   Left : Leaves T event call → Happens T event call
@@ -170,25 +173,34 @@ dull_given call =
       ignored = λ w. refl;
     }
 
+pub dull_dropped : (call : ℕ) → IsDull (dropped call)
+dull_dropped call =
+    record {
+      plain = record { cookie = λ c. refl; login = λ o s. refl; kept = λ t k. refl; flag = λ o k. refl };
+      time = λ t. refl;
+      ignored = λ w. refl;
+    }
+
 -- effects that say nothing
 pub quiet_silent : (call : ℕ) (effects : List Effect) → AllSilent stage_change effects → AllSilent call_change effects
     → AllSilent (begins call) effects
-    → AllSilent (asked call) effects → AllSilent (given call) effects → Quiet call effects
-quiet_silent call effects stage pending begins_none asks gives =
+    → AllSilent (asked call) effects → AllSilent (given call) effects → AllSilent (dropped call) effects → Quiet call effects
+quiet_silent call effects stage pending begins_none asks gives drops =
     record {
       stage = last_said_silent nat_eq stage_change call effects stage;
       pending = last_said_silent nat_eq call_change call effects pending;
       begins_none = last_silent (begins call) effects begins_none;
       asks = said_silent (asked call) effects asks;
       gives = said_silent (given call) effects gives;
+      drops = said_silent (dropped call) effects drops;
     }
 
 pub quiet_ignored : (call : ℕ) (why : Why) → Quiet call (Ignored why ∷ [])
-quiet_ignored call why = record { stage = refl; pending = refl; begins_none = refl; asks = refl; gives = refl }
+quiet_ignored call why = record { stage = refl; pending = refl; begins_none = refl; asks = refl; gives = refl; drops = refl }
 
 -- an event that loads and closes no page, brings no input, and says nothing
 pub left : (T : Trace) (event : Event) (call : ℕ) → Quiet call (effects_of T event) → ((k : Known) → said_of T event call k ≡ k)
-    → (input_to call event ≡ None) ⊎ ((list_any is_ignored (effects_of T event) ≡ true) × (is_begun T call ≡ false))
+    → (input_to call event ≡ None) ⊎ ((effects_of T event ≡ Ignored NoCall ∷ []) × (is_begun T call ≡ false))
     → ((page : ℕ) → replaces page event ≡ false) → Happens T event call
 left T event call quiet same untaken none =
     Left (record {
@@ -236,11 +248,11 @@ ends_hit q (c ∷ calls) h = go (is_among q calls) refl (ends_hit q calls)
 -- where the calls of a page end, and what comes after says nothing of calls
 happens_ends : (T : Trace) (event : Event) (q page : ℕ) (rest : List Effect) → effects_of T event ≡ ends_of (pending_of T page) ++ rest
     → AllSilent stage_change rest → AllSilent call_change rest → AllSilent (begins q) rest → AllSilent (asked q) rest
-    → AllSilent (given q) rest
+    → AllSilent (given q) rest → AllSilent (dropped q) rest
     → ((other : ℕ) → replaces other event ≡ nat_eq other page) → ((k : Known) → said_of T event q k ≡ k)
     → input_to q event ≡ None
     → Happens T event q
-happens_ends T event q page rest effects stage pending begins_none asks gives replaced same unsaid =
+happens_ends T event q page rest effects stage pending begins_none asks gives drops replaced same unsaid =
     go (is_among q (pending_of T page)) refl
   where
     silent : {A : Type 0} (said : Effect → Option A) → ((kind : CallKind) (call : ℕ) → said (Move kind call Ended) ≡ None)
@@ -258,6 +270,7 @@ happens_ends T event q page rest effects stage pending begins_none asks gives re
           begins_none = last_silent (begins q) (effects_of T event) (silent (begins q) (λ n c. refl) begins_none);
           asks = said_silent (asked q) (effects_of T event) (silent (asked q) (λ n c. refl) asks);
           gives = said_silent (given q) (effects_of T event) (silent (given q) (λ n c. refl) gives);
+          drops = said_silent (dropped q) (effects_of T event) (silent (dropped q) (λ n c. refl) drops);
           unsaid = unsaid;
           page = page;
           replaced = replaced page ∙ own page;
@@ -273,6 +286,7 @@ happens_ends T event q page rest effects stage pending begins_none asks gives re
             begins_none = last_silent (begins q) (effects_of T event) (silent (begins q) (λ n c. refl) begins_none);
             asks = said_silent (asked q) (effects_of T event) (silent (asked q) (λ n c. refl) asks);
             gives = said_silent (given q) (effects_of T event) (silent (given q) (λ n c. refl) gives);
+            drops = said_silent (dropped q) (effects_of T event) (silent (dropped q) (λ n c. refl) drops);
           };
           same = same;
           untaken = inl unsaid;
@@ -292,12 +306,13 @@ happens_load T page url raw q =
     (refl, load_rest_silent (begins q) (λ c. refl) (λ o s. refl) found origin statuses)
     (refl, load_rest_silent (asked q) (λ c. refl) (λ o s. refl) found origin statuses)
     (refl, load_rest_silent (given q) (λ c. refl) (λ o s. refl) found origin statuses)
+    (refl, load_rest_silent (dropped q) (λ c. refl) (λ o s. refl) found origin statuses)
     (λ other. refl) (λ k. refl) refl
 
 pub happens_close : (T : Trace) (page q : ℕ) (o : Option Origin) → page_at T page ≡ o → Happens T (ClosePage page) q
 happens_close T page q (Some origin) is =
     happens_ends T (ClosePage page) q page (Closed page ∷ []) (ap (close_effects (pending_of T page) page) is)
-    (refl, tt) (refl, tt) (refl, tt) (refl, tt) (refl, tt) (λ other. refl) (λ k. refl) refl
+    (refl, tt) (refl, tt) (refl, tt) (refl, tt) (refl, tt) (refl, tt) (λ other. refl) (λ k. refl) refl
 happens_close T page q None is =
     Left (record {
       quiet = subst (Quiet q) (sym (ap (close_effects (pending_of T page) page) is)) (quiet_ignored q _);

@@ -13,14 +13,16 @@ use Rattle.fed_consent.specs.declared.table.ask.Ask.{Ask}
 use Rattle.fed_consent.specs.declared.table.input.Input.{Input}
 use Rattle.fed_consent.specs.declared.table.input.Input.TheVariants as inputs
 use Rattle.fed_consent.specs.Outcomes.{Outcome}
+use Rattle.fed_consent.specs.declared.table.why.Why.TheVariants.{NoCall}
 use Rattle.fed_script.specs.declared.event.Event.{Event}
 use Rattle.fed_script.specs.declared.event.Event.TheVariants as events
 use Rattle.fed_script.specs.declared.event.Event.TheVariants.{At, Load, ClosePage, Get, IdpClose, Prevent, SetStatus, Disconnect}
 use Rattle.fed_disconnect.specs.Facts.{disconnect_options}
 use Rattle.fed_trace.specs.Begun.{Begun, CallKind, CallOptions, ToGet, ToDisconnect, kind_asked}
 use Rattle.fed_trace.specs.Call.{Known, kind_of, page_of, first_row, input_row}
-use Rattle.fed_trace.specs.OfCall.{asked, given, replaces}
-use Rattle.fed_trace.specs.Effect.{Effect, pending_from, Page, Closed, Login, Flag, Begin, page_change, call_change, stage_change, begins}
+use Rattle.fed_trace.specs.OfCall.{asked, given, dropped, replaces}
+use Rattle.fed_trace.specs.Effect.{Effect, pending_from, Page, Closed, Login, Flag, Begin, Ignored, page_change, call_change}
+use Rattle.fed_trace.specs.Effect.{stage_change, begins}
 use Rattle.fed_trace.specs.Effect.{is_ignored}
 use Rattle.fed_trace.specs.Keyed.{last_said, says}
 use Rattle.fed_trace.specs.Known.{world_at, is_begun, input_to, with_said, known_at}
@@ -37,7 +39,8 @@ use Rattle.fed_trace.proofs.events.Aside.{have_silent, says_silent}
 use Rattle.fed_trace.proofs.known.Known.{ignored_says, said_of}
 use Rattle.fed_trace.proofs.happens.Says.{Quiet, own, outcome_pages, quiet_other}
 use Rattle.fed_trace.proofs.happens.Ends.{Takes, Happens, beginning, event_for, dull_stage, dull_call, dull_page, dull_begins}
-use Rattle.fed_trace.proofs.happens.Ends.{dull_asked, dull_given, quiet_silent, quiet_ignored, left, happens_load, happens_close, Started}
+use Rattle.fed_trace.proofs.happens.Ends.{dull_asked, dull_given, dull_dropped, quiet_silent, quiet_ignored, left, happens_load}
+use Rattle.fed_trace.proofs.happens.Ends.{happens_close, Started}
 use Rattle.fed_trace.proofs.happens.Ends.{Took}
 use Rattle.fed_trace.proofs.happens.Resumed.{happens_idpclose}
 
@@ -55,6 +58,7 @@ quiet_begin world cookies q b ne outcome =
       begins_none = ap (λ o. option_or o (cond (nat_eq q b.call) (Some b) None)) rest.begins_none ∙ ap (λ t. cond t (Some b) None) ne;
       asks = rest.asks;
       gives = rest.gives;
+      drops = rest.drops;
     }
 
 happens_begin : (T : Trace) (event : Event) (page call : ℕ) (options : CallOptions) (q : ℕ) (o : Option Origin) → page_at T page ≡ o
@@ -139,10 +143,10 @@ happens_input T event call input q effects said is_event none = go (is_begun T c
         (inl (said q ∙ ap (λ b. cond b (Some input) None) key)) none
 
     refused : (own : Bool) → nat_eq q call ≡ own → is_begun T call ≡ false
-        → (input_to q event ≡ None) ⊎ ((list_any is_ignored (effects_of T event) ≡ true) × (is_begun T q ≡ false))
+        → (input_to q event ≡ None) ⊎ ((effects_of T event ≡ Ignored NoCall ∷ []) × (is_begun T q ≡ false))
     refused true key is =
         let same : call ≡ q = grind (arith, nat_tests, key) in
-        inr (ap (list_any is_ignored) (by false is), subst (λ c. is_begun T c ≡ false) same is)
+        inr (by false is, subst (λ c. is_begun T c ≡ false) same is)
     refused false key is = inl (said q ∙ ap (λ b. cond b (Some input) None) key)
 
     go : (begun : Bool) → is_begun T call ≡ begun → Happens T event q
@@ -160,16 +164,18 @@ happens_says : (T : Trace) (event : Event) (q page : ℕ) (says : Origin → Eff
     → ((o : Origin) → stage_change (says o) ≡ None) → ((o : Origin) → call_change (says o) ≡ None)
     → ((o : Origin) → begins q (says o) ≡ None)
     → ((o : Origin) → asked q (says o) ≡ None) → ((o : Origin) → given q (says o) ≡ None)
+    → ((o : Origin) → dropped q (says o) ≡ None)
     → ((k : Known) → said_of T event q k ≡ k) → input_to q event ≡ None → ((other : ℕ) → replaces other event ≡ false)
     → Happens T event q
-happens_says T event q page says effects stage pending begins_none asks gives same unsaid none =
+happens_says T event q page says effects stage pending begins_none asks gives drops same unsaid none =
     left T event q (subst (Quiet q) (sym effects)
     (quiet_silent q (page_says (page_at T page) says)
     (says_silent stage_change says stage dull_stage.ignored (page_at T page))
     (says_silent call_change says pending dull_call.ignored (page_at T page))
     (says_silent (begins q) says begins_none (dull_begins q).ignored (page_at T page))
     (says_silent (asked q) says asks (dull_asked q).ignored (page_at T page))
-    (says_silent (given q) says gives (dull_given q).ignored (page_at T page))))
+    (says_silent (given q) says gives (dull_given q).ignored (page_at T page))
+    (says_silent (dropped q) says drops (dull_dropped q).ignored (page_at T page))))
     same (inl unsaid) none
 
 pub happens : (T : Trace) (event : Event) (q : ℕ) → Happens T event q
@@ -179,15 +185,24 @@ happens T (events.Have have) q =
     (quiet_silent q (cookie_effects found
     ++ have_states have) (have_silent stage_change dull_stage.plain found have) (have_silent call_change dull_call.plain found have)
     (have_silent (begins q) (dull_begins q).plain found have) (have_silent (asked q) (dull_asked q).plain found have)
-    (have_silent (given q) (dull_given q).plain found have))
+    (have_silent (given q) (dull_given q).plain found have)
+    (have_silent (dropped q) (dull_dropped q).plain found have))
     (λ k. refl) (inl refl) (λ other. refl)
 happens T (At time) q =
-    left T (At time) q (record { stage = refl; pending = refl; begins_none = refl; asks = refl; gives = refl }) (λ k. refl) (inl
+    left T (At time) q (record {
+      stage = refl;
+      pending = refl;
+      begins_none = refl;
+      asks = refl;
+      gives = refl;
+      drops =
+          refl;
+    }) (λ k. refl) (inl
     refl) (λ other. refl)
 happens T (Prevent page) q = happens_says T (Prevent page) q page (λ origin. Flag origin true) refl
-    (λ o. refl) (λ o. refl) (λ o. refl) (λ o. refl) (λ o. refl) (λ k. refl) refl (λ other. refl)
+    (λ o. refl) (λ o. refl) (λ o. refl) (λ o. refl) (λ o. refl) (λ o. refl) (λ k. refl) refl (λ other. refl)
 happens T (SetStatus page status) q = happens_says T (SetStatus page status) q page (λ origin. Login origin status) refl
-    (λ o. refl) (λ o. refl) (λ o. refl) (λ o. refl) (λ o. refl) (λ k. refl) refl (λ other. refl)
+    (λ o. refl) (λ o. refl) (λ o. refl) (λ o. refl) (λ o. refl) (λ o. refl) (λ k. refl) refl (λ other. refl)
 happens T (Load page url raw) q = happens_load T page url raw q
 happens T (ClosePage page) q = happens_close T page q (page_at T page) refl
 happens T (Get page call options) q =

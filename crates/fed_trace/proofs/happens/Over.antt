@@ -21,7 +21,7 @@ pub over_quiet : (T : Trace) (event : Event) (call : ℕ) → (t : Takes T event
     → Quiet call (effects_of T event)
 over_quiet T event call t none =
     subst (Quiet call) (sym (over_ignored T event call t none)) (record
-    { stage = refl; pending = refl; begins_none = refl; asks = refl; gives = refl })
+    { stage = refl; pending = refl; begins_none = refl; asks = refl; gives = refl; drops = refl })
 
 pub over_same : (T : Trace) (event : Event) (call : ℕ) → (t : Takes T event call) → known_at T call ≡ None → (k : Known)
     → said_of T event call k ≡ k

@@ -16,7 +16,7 @@ use Rattle.fed_trace.specs.Call.{Known, OfGet, OfDisconnect, at_stage}
 use Rattle.fed_trace.specs.Effect.{Effect, last_of, begins, call_change, stage_change, is_ignored}
 use Rattle.fed_trace.specs.Keyed.{last_said}
 use Rattle.fed_trace.specs.Known.{world_at, input_to, with_said, known_in, known_by, known_at}
-use Rattle.fed_trace.specs.OfCall.{asked, given}
+use Rattle.fed_trace.specs.OfCall.{asked, given, dropped}
 use Rattle.fed_trace.specs.Row.{effects_of, with_event, cookies_with, input_effects, resume_effects, waiting_effects, standing_resumes}
 use Rattle.fed_trace.specs.Row.{idpclose_effects}
 use Rattle.fed_trace.specs.Trace.{Trace, page_at, stage_at}
@@ -72,6 +72,7 @@ record Still (call : ℕ) (effects : List Effect) : Type 0 where
   begins_none : last_of (begins call) effects ≡ None
   asks : filter_map (asked call) effects ≡ []
   gives : filter_map (given call) effects ≡ []
+  drops : filter_map (dropped call) effects ≡ []
 
 -- what the calls do, one after the other
 abbrev all_resumed : Trace → List ℕ → List Effect
@@ -96,6 +97,10 @@ still T q calls =
           said_silent (given q) (all_resumed T calls)
           (resumes_silent (given q) (record { ignored = λ w. refl; sent = λ n c p t k. refl; move = λ n c. refl }) (world_at T)
           (cookies_with T) (known_at T) calls);
+      drops =
+          said_silent (dropped q) (all_resumed T calls)
+          (resumes_silent (dropped q) (record { ignored = λ w. refl; sent = λ n c p t k. refl; move = λ n c. refl }) (world_at T)
+          (cookies_with T) (known_at T) calls);
     }
 
 -- of the stage of a call that is not among them they say nothing
@@ -110,6 +115,7 @@ apart_quiet T q calls apart =
       begins_none = rest.begins_none;
       asks = rest.asks;
       gives = rest.gives;
+      drops = rest.drops;
     }
 
 -- of one that is among them they say where its outcome brings it
@@ -158,6 +164,7 @@ happens_idpclose T page q (Some origin) is = go (is_trustworthy origin) refl
           begins_none = rest.begins_none;
           asks = rest.asks;
           gives = rest.gives;
+          drops = rest.drops;
         })
 
     by_place : (calls : List ℕ) → windows_of T origin ≡ calls → effects_of T (IdpClose page) ≡ all_resumed T calls → (among : Bool)

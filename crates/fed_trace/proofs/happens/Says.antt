@@ -6,7 +6,8 @@ use Rattle.std.proofs.lemmas.Bool.Decides.{nat_tests}
 use Rattle.std.proofs.lemmas.List.Elements.{filter_map-append}
 use Rattle.std.specs.List.{filter_map, cons_option, flat_map}
 use Rattle.fed_origin.specs.declared.stage.Stage.{Stage}
-use Rattle.fed_origin.specs.declared.stage.Stage.TheVariants.{Reading, Listing, Mismatch, Window, Choosing, Prompting, Asserting, Ended}
+use Rattle.fed_origin.specs.declared.stage.Stage.TheVariants.{Reading, Listing, Gathering, Mismatch, Window, Choosing, Prompting}
+use Rattle.fed_origin.specs.declared.stage.Stage.TheVariants.{Asserting, Ended}
 use Rattle.fed_consent.specs.declared.table.ask.Ask.{Ask}
 use Rattle.fed_consent.specs.declared.table.effect.Effect.{Effect as CallEffect}
 use Rattle.fed_consent.specs.Outcomes.{Outcome}
@@ -14,7 +15,7 @@ use Rattle.fed_consent.specs.declared.table.finish.Finish.{Finish}
 use Rattle.fed_consent.specs.Consent.{AssertionFields}
 use Rattle.fed_consent.specs.declared.table.ask.Ask.TheVariants as asks
 use Rattle.fed_consent.specs.declared.table.effect.Effect.TheVariants as does
-use Rattle.fed_trace.specs.OfCall.{asked, given}
+use Rattle.fed_trace.specs.OfCall.{asked, given, dropped}
 use Rattle.fed_trace.specs.Begun.{CallKind}
 use Rattle.fed_trace.specs.Effect.{Effect, Move, Sent, last_of, page_change, call_change, stage_change, begins, Kept}
 use Rattle.fed_trace.specs.Keyed.{last_said}
@@ -33,6 +34,7 @@ pub record Quiet (call : ℕ) (effects : List Effect) : Type 0 where
   pub begins_none : last_of (begins call) effects ≡ None
   pub asks : filter_map (asked call) effects ≡ []
   pub gives : filter_map (given call) effects ≡ []
+  pub drops : filter_map (dropped call) effects ≡ []
 
 -- ---- what a call's outcome says of it
 
@@ -61,6 +63,7 @@ does_ask world cookies kind call page (does.Send provider (asks.Assertion ask) �
 does_ask world cookies kind call page (does.Finish finish ∷ effects) = does_ask world cookies kind call page effects
 does_ask world cookies kind call page (does.Ignored why ∷ effects) = does_ask world cookies kind call page effects
 does_ask world cookies kind call page (does.Dialog dialog ∷ effects) = does_ask world cookies kind call page effects
+does_ask world cookies kind call page (does.Dropped place failure ∷ effects) = does_ask world cookies kind call page effects
 does_ask world cookies kind call page (does.Window place url ∷ effects) = does_ask world cookies kind call page effects
 does_ask world cookies kind call page (does.SetLogin origin status ∷ effects) = does_ask world cookies kind call page effects
 does_ask world cookies kind call page (does.Keep triple ∷ effects) = does_ask world cookies kind call page effects
@@ -86,6 +89,7 @@ does_give world cookies kind call page (does.Finish finish ∷ effects) =
 does_give world cookies kind call page (does.Send provider ask ∷ effects) = does_give world cookies kind call page effects
 does_give world cookies kind call page (does.Ignored why ∷ effects) = does_give world cookies kind call page effects
 does_give world cookies kind call page (does.Dialog dialog ∷ effects) = does_give world cookies kind call page effects
+does_give world cookies kind call page (does.Dropped place failure ∷ effects) = does_give world cookies kind call page effects
 does_give world cookies kind call page (does.Window place url ∷ effects) = does_give world cookies kind call page effects
 does_give world cookies kind call page (does.SetLogin origin status ∷ effects) = does_give world cookies kind call page effects
 does_give world cookies kind call page (does.Keep triple ∷ effects) = does_give world cookies kind call page effects
@@ -94,6 +98,32 @@ does_give world cookies kind call page (does.ForgetPair p q ∷ effects) =
     goes_silent (given call) (λ t. refl) (triples_of_pair world.kept p q) (flat_map (call_effects world cookies kind call page) effects)
     ∙ does_give world cookies kind call page effects
 does_give world cookies kind call page (does.ClearFlag origin ∷ effects) = does_give world cookies kind call page effects
+
+-- the place of the provider that drops out by an effect
+abbrev pub drop_of : CallEffect → Option ℕ
+drop_of (does.Dropped place failure) = Some place
+drop_of _ = None
+
+does_drop : (world : World) (cookies : Ask → List ℕ) (kind : CallKind) (call page : ℕ) (effects : List CallEffect)
+    → filter_map (dropped call) (flat_map (call_effects world cookies kind call page) effects)
+    ≡ filter_map drop_of effects
+does_drop world cookies kind call page [] = refl
+does_drop world cookies kind call page (does.Finish finish ∷ effects) = does_drop world cookies kind call page effects
+does_drop world cookies kind call page (does.Send provider ask ∷ effects) = does_drop world cookies kind call page effects
+does_drop world cookies kind call page (does.Ignored why ∷ effects) = does_drop world cookies kind call page effects
+does_drop world cookies kind call page (does.Dialog dialog ∷ effects) = does_drop world cookies kind call page effects
+does_drop world cookies kind call page (does.Dropped place failure ∷ effects) =
+    ap (λ b. cons_option (cond b (Some place) None)
+    (filter_map (dropped call) (flat_map (call_effects world cookies kind call page) effects))) (own call)
+    ∙ ap (λ xs. place ∷ xs) (does_drop world cookies kind call page effects)
+does_drop world cookies kind call page (does.Window place url ∷ effects) = does_drop world cookies kind call page effects
+does_drop world cookies kind call page (does.SetLogin origin status ∷ effects) = does_drop world cookies kind call page effects
+does_drop world cookies kind call page (does.Keep triple ∷ effects) = does_drop world cookies kind call page effects
+does_drop world cookies kind call page (does.Forget triple ∷ effects) = does_drop world cookies kind call page effects
+does_drop world cookies kind call page (does.ForgetPair p q ∷ effects) =
+    goes_silent (dropped call) (λ t. refl) (triples_of_pair world.kept p q) (flat_map (call_effects world cookies kind call page) effects)
+    ∙ does_drop world cookies kind call page effects
+does_drop world cookies kind call page (does.ClearFlag origin ∷ effects) = does_drop world cookies kind call page effects
 
 -- before a move that says nothing
 pub unmoved : {A : Type 0} (said : Effect → Option A)
@@ -118,11 +148,17 @@ outcome_gives world cookies kind call page outcome =
     unmoved (given call) (λ n c s. refl) kind call outcome.stage (flat_map (call_effects world cookies kind call page) outcome.effects)
     ∙ does_give world cookies kind call page outcome.effects
 
+pub outcome_drops : (world : World) (cookies : Ask → List ℕ) (kind : CallKind) (call page : ℕ) (outcome : Outcome)
+    → filter_map (dropped call) (outcome_effects world cookies kind call page outcome) ≡ filter_map drop_of outcome.effects
+outcome_drops world cookies kind call page outcome =
+    unmoved (dropped call) (λ n c s. refl) kind call outcome.stage (flat_map (call_effects world cookies kind call page) outcome.effects)
+    ∙ does_drop world cookies kind call page outcome.effects
+
 pub outcome_begins : (world : World) (cookies : Ask → List ℕ) (kind : CallKind) (call page q : ℕ) (outcome : Outcome)
     → last_of (begins q) (outcome_effects world cookies kind call page outcome) ≡ None
 outcome_begins world cookies kind call page q outcome =
     last_silent (begins q) (outcome_effects world cookies kind call page outcome)
-    (outcome_silent (begins q) (λ n c p a k. refl) (λ c d. refl) (λ c p u. refl) (λ o s. refl) (λ t k. refl) (λ o k. refl)
+    (outcome_silent (begins q) (λ n c p a k. refl) (λ c d. refl) (λ c p f. refl) (λ c p u. refl) (λ o s. refl) (λ t k. refl) (λ o k. refl)
     (λ c p f. refl)
     (λ w. refl) (λ n c s. refl) world cookies kind call page outcome)
 
@@ -130,7 +166,7 @@ pub outcome_pages : (world : World) (cookies : Ask → List ℕ) (kind : CallKin
     → last_said nat_eq page_change q (outcome_effects world cookies kind call page outcome) ≡ None
 outcome_pages world cookies kind call page q outcome =
     last_said_silent nat_eq page_change q (outcome_effects world cookies kind call page outcome)
-    (outcome_silent page_change (λ n c p a k. refl) (λ c d. refl) (λ c p u. refl) (λ o s. refl) (λ t k. refl) (λ o k. refl)
+    (outcome_silent page_change (λ n c p a k. refl) (λ c d. refl) (λ c p f. refl) (λ c p u. refl) (λ o s. refl) (λ t k. refl) (λ o k. refl)
     (λ c p f. refl)
     (λ w. refl) (λ n c s. refl) world cookies kind call page outcome)
 
@@ -141,7 +177,7 @@ pub outcome_pending : (world : World) (cookies : Ask → List ℕ) (kind : CallK
 outcome_pending world cookies kind call page q outcome =
     last_said_after nat_eq call_change q (flat_map (call_effects world cookies kind call page) outcome.effects)
     (moves kind call outcome.stage)
-    (silent_call call_change (λ n c p a k. refl) (λ c d. refl) (λ c p u. refl) (λ o s. refl) (λ t k. refl) (λ o k. refl)
+    (silent_call call_change (λ n c p a k. refl) (λ c d. refl) (λ c p f. refl) (λ c p u. refl) (λ o s. refl) (λ t k. refl) (λ o k. refl)
     (λ c p f. refl)
     (λ w. refl) world cookies kind call page outcome.effects)
 
@@ -165,6 +201,8 @@ other_asks world cookies q kind call page ne (does.Send provider ask ∷ effects
 other_asks world cookies q kind call page ne (does.Finish finish ∷ effects) = (refl, other_asks world cookies q kind call page ne effects)
 other_asks world cookies q kind call page ne (does.Ignored why ∷ effects) = (refl, other_asks world cookies q kind call page ne effects)
 other_asks world cookies q kind call page ne (does.Dialog dialog ∷ effects) = (refl, other_asks world cookies q kind call page ne effects)
+other_asks world cookies q kind call page ne (does.Dropped place failure ∷ effects) =
+    (refl, other_asks world cookies q kind call page ne effects)
 other_asks world cookies q kind call page ne (does.Window place url ∷ effects) =
     (refl, other_asks world cookies q kind call page ne effects)
 other_asks world cookies q kind call page ne (does.SetLogin origin status ∷ effects) =
@@ -190,6 +228,8 @@ other_gives world cookies q kind call page ne (does.Send provider ask ∷ effect
 other_gives world cookies q kind call page ne (does.Ignored why ∷ effects) = (refl, other_gives world cookies q kind call page ne effects)
 other_gives world cookies q kind call page ne (does.Dialog dialog ∷ effects) =
     (refl, other_gives world cookies q kind call page ne effects)
+other_gives world cookies q kind call page ne (does.Dropped place failure ∷ effects) =
+    (refl, other_gives world cookies q kind call page ne effects)
 other_gives world cookies q kind call page ne (does.Window place url ∷ effects) =
     (refl, other_gives world cookies q kind call page ne effects)
 other_gives world cookies q kind call page ne (does.SetLogin origin status ∷ effects) =
@@ -205,6 +245,34 @@ other_gives world cookies q kind call page ne (does.ForgetPair p r ∷ effects) 
 other_gives world cookies q kind call page ne (does.ClearFlag origin ∷ effects) =
     (refl, other_gives world cookies q kind call page ne effects)
 
+other_drops : (world : World) (cookies : Ask → List ℕ) (q : ℕ) (kind : CallKind) (call page : ℕ) → nat_eq q call ≡ false
+    → (effects : List CallEffect)
+    → AllSilent (dropped q) (flat_map (call_effects world cookies kind call page) effects)
+other_drops world cookies q kind call page ne [] = tt
+other_drops world cookies q kind call page ne (does.Finish finish ∷ effects) =
+    (refl, other_drops world cookies q kind call page ne effects)
+other_drops world cookies q kind call page ne (does.Send provider ask ∷ effects) =
+    (refl, other_drops world cookies q kind call page ne effects)
+other_drops world cookies q kind call page ne (does.Ignored why ∷ effects) = (refl, other_drops world cookies q kind call page ne effects)
+other_drops world cookies q kind call page ne (does.Dialog dialog ∷ effects) =
+    (refl, other_drops world cookies q kind call page ne effects)
+other_drops world cookies q kind call page ne (does.Dropped place failure ∷ effects) =
+    (ap (λ b. cond b (Some place) None) ne, other_drops world cookies q kind call page ne effects)
+other_drops world cookies q kind call page ne (does.Window place url ∷ effects) =
+    (refl, other_drops world cookies q kind call page ne effects)
+other_drops world cookies q kind call page ne (does.SetLogin origin status ∷ effects) =
+    (refl, other_drops world cookies q kind call page ne effects)
+other_drops world cookies q kind call page ne (does.Keep triple ∷ effects) = (refl, other_drops world cookies q kind call page ne effects)
+other_drops world cookies q kind call page ne (does.Forget triple ∷ effects) =
+    (refl, other_drops world cookies q kind call page ne effects)
+other_drops world cookies q kind call page ne (does.ForgetPair p r ∷ effects) =
+    silent_append (dropped q) (map (λ triple. Kept triple false) (triples_of_pair world.kept p r))
+    (flat_map (call_effects world cookies kind call page) effects)
+    (silent_map (dropped q) (λ triple. Kept triple false) (λ triple. refl) (triples_of_pair world.kept p r))
+    (other_drops world cookies q kind call page ne effects)
+other_drops world cookies q kind call page ne (does.ClearFlag origin ∷ effects) =
+    (refl, other_drops world cookies q kind call page ne effects)
+
 pending_no_other : (q : ℕ) (kind : CallKind) (call : ℕ) → nat_eq q call ≡ false → (stage : Option Stage)
     → last_said nat_eq call_change q (moves kind call stage) ≡ None
 pending_no_other q kind call ne None = refl
@@ -212,6 +280,7 @@ pending_no_other q kind call ne (Some Ended) = ap (λ b. cond b (Some None) None
 pending_no_other q kind call ne (Some Reading) = refl
 pending_no_other q kind call ne (Some Listing) = refl
 pending_no_other q kind call ne (Some Mismatch) = refl
+pending_no_other q kind call ne (Some Gathering) = refl
 pending_no_other q kind call ne (Some Window) = refl
 pending_no_other q kind call ne (Some Choosing) = refl
 pending_no_other q kind call ne (Some Prompting) = refl
@@ -232,4 +301,7 @@ quiet_other world cookies q kind call page ne outcome =
       gives =
           unmoved (given q) (λ n c s. refl) kind call outcome.stage does
           ∙ said_silent (given q) does (other_gives world cookies q kind call page ne outcome.effects);
+      drops =
+          unmoved (dropped q) (λ n c s. refl) kind call outcome.stage does
+          ∙ said_silent (dropped q) does (other_drops world cookies q kind call page ne outcome.effects);
     }

@@ -23,10 +23,10 @@ abbrev pub asked : Known → CallOptions
 asked (OfGet facts) = ToGet facts.options
 asked (OfDisconnect facts) = ToDisconnect facts.options
 
-first_asked : (b : Begun) → asked (known_first b) ≡ b.options
-first_asked b = go b.options
+first_asked : (world : World) (b : Begun) → asked (known_first world b) ≡ b.options
+first_asked world b = go b.options
   where
-    go : (options : CallOptions) → asked (fresh b.call b.page b.origin options) ≡ options
+    go : (options : CallOptions) → asked (fresh world b.call b.page b.origin options) ≡ options
     go (ToGet options) = refl
     go (ToDisconnect options) = refl
 
@@ -61,9 +61,13 @@ asked_in header (row ∷ rows) q = go (last_of (begins q) row.effects) (asked_in
         ap Some (said_asked (world_at (record { header = header; rows = rows })) (list_any is_ignored row.effects) (input_to q row.event) k)
 
     go : (o : Option Begun) → option_map asked (known_in header rows q) ≡ option_map (λ (b : Begun). b.options) (call_at rows q)
-        → option_map asked (option_or (option_map known_first o) (option_map said (known_in header rows q)))
+        → option_map asked (option_or (option_map (known_first (world_at (record {
+          header = header;
+          rows =
+              rows;
+        }))) o) (option_map said (known_in header rows q)))
         ≡ option_map (λ (b : Begun). b.options) (option_or o (call_at rows q))
-    go (Some b) rest = ap Some (first_asked b)
+    go (Some b) rest = ap Some (first_asked (world_at (record { header = header; rows = rows })) b)
     go None rest = later (known_in header rows q) ∙ rest
 
 two_ways : {A B C D : Type 0} (f : C → Option D) (g : A → C) (h : B → C) (a : Option A) (b : Option B)

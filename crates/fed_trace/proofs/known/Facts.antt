@@ -1,20 +1,21 @@
 -- What an input says of a call hangs on no stage, and leaves what the call began with.
-use Rattle.std.proofs.Common.{◌≡◌, Bool, true, false, List, [], ◌∷◌, ℕ, Some, None, Ok, Err, refl, ap}
-use Rattle.std.specs.Prelude.{Option, option_and_then, Result}
-use Rattle.fed_origin.specs.declared.options.ProviderOptions.{ProviderOptions}
+use Rattle.std.proofs.Common.{◌≡◌, Bool, true, false, List, ℕ, Some, None, refl, ap}
+use Rattle.std.specs.Prelude.{Option, slice_set}
 use Rattle.fed_origin.specs.declared.stage.ReplyKind.{ReplyKind}
 use Rattle.fed_origin.specs.declared.stage.ReplyKind.TheVariants as kinds
 use Rattle.fed_origin.specs.declared.stage.Stage.{Stage}
-use Rattle.fed_accounts.specs.declared.account.Account.{Account}
-use Rattle.fed_accounts.specs.declared.step.AccountsStep.{AccountsStep}
 use Rattle.fed_status.specs.Shared.{World}
-use Rattle.fed_consent.specs.Consent.{Candidate, Pick, chosen}
+use Rattle.fed_consent.specs.declared.table.failure.Failure.{Failure}
 use Rattle.fed_consent.specs.declared.table.input.Input.{Input}
 use Rattle.fed_consent.specs.declared.table.input.Input.TheVariants as inputs
-use Rattle.fed_call.specs.Accounts.{accounts_of}
-use Rattle.fed_call.specs.Facts.{Facts, by_account, with_accounts, with_choice, with_list, with_listing, with_offer, with_reply}
-use Rattle.fed_call.specs.Facts.{provider_at, reselected}
+use Rattle.fed_call.specs.declared.progress.Progress.{Progress}
+use Rattle.fed_call.specs.declared.progress.Progress.TheVariants as progress_is
+use Rattle.fed_call.specs.Accounts.{Offered}
+use Rattle.fed_call.specs.Facts.{Facts, Conclusion, Awaits, NoneLeft, Reselects, NoneSilent, Offers, Prompts, conclusion_of, with_picked}
+use Rattle.fed_call.specs.Facts.{with_conclusion, with_settled, with_progress, with_none_fitting, is_single, with_came, came_at, with_reply}
+use Rattle.fed_call.specs.Facts.{found_offered, with_choice}
 use Rattle.fed_call.specs.Facts as get
+use Rattle.fed_call.specs.Progress.{Came, Unawaited, Refused, Waits, Both, NoneFits, Fit}
 use Rattle.fed_disconnect.specs.Facts.{DisconnectFacts}
 use Rattle.fed_disconnect.specs.Facts as disconnect
 use Rattle.fed_trace.specs.Call.{Known, OfGet, OfDisconnect, kind_of, page_of, with_input}
@@ -27,92 +28,116 @@ record Keeps (f : Facts → Facts) : Type 0 where
   options : (facts : Facts) → (f facts).options ≡ facts.options
   staged : (facts : Facts) (stage : Stage) → f (record facts { stage = stage }) ≡ record (f facts) { stage = stage }
 
-offer_keeps : (world : World) (provider : ProviderOptions) (accounts : List Account) → Keeps (with_offer world provider accounts)
-offer_keeps world provider [] =
-    record { call = λ f. refl; page = λ f. refl; origin = λ f. refl; options = λ f. refl; staged = λ f s. refl }
-offer_keeps world provider (only ∷ []) =
-    record { call = λ f. refl; page = λ f. refl; origin = λ f. refl; options = λ f. refl; staged = λ f s. refl }
-offer_keeps world provider (first ∷ second ∷ more) =
-    record { call = λ f. refl; page = λ f. refl; origin = λ f. refl; options = λ f. refl; staged = λ f s. refl }
+same_keeps : Keeps (λ facts. facts)
+same_keeps = record { call = λ f. refl; page = λ f. refl; origin = λ f. refl; options = λ f. refl; staged = λ f s. refl }
 
-account_keeps : (world : World) (provider : ProviderOptions) (accounts : List Account) (pick : Option Pick)
-    → Keeps (by_account world provider accounts pick)
-account_keeps world provider accounts None = offer_keeps world provider accounts
-account_keeps world provider accounts (Some pick) =
-    record { call = λ f. refl; page = λ f. refl; origin = λ f. refl; options = λ f. refl; staged = λ f s. refl }
+picked_keeps : (offered : Offered) → Keeps (with_picked offered)
+picked_keeps offered = record { call = λ f. refl; page = λ f. refl; origin = λ f. refl; options = λ f. refl; staged = λ f s. refl }
 
-accounts_keep : (world : World) (place : ℕ) (provider : ProviderOptions) (accounts : List Account)
-    → Keeps (with_accounts world place provider accounts)
-accounts_keep world place provider accounts =
+progress_keeps : (place : ℕ) (progress : Progress) → Keeps (with_progress place progress)
+progress_keeps place progress = record { call = λ f. refl; page = λ f. refl; origin = λ f. refl; options = λ f. refl; staged = λ f s. refl }
+
+conclusion_keeps : (c : Conclusion) → Keeps (with_conclusion c)
+conclusion_keeps Awaits = same_keeps
+conclusion_keeps (NoneLeft failure) = same_keeps
+conclusion_keeps (Reselects offered) = record {
+  call = λ f. refl;
+  page = λ f. refl;
+  origin = λ f. refl;
+  options = λ f. refl;
+  staged =
+      λ f s. refl;
+}
+conclusion_keeps NoneSilent = same_keeps
+conclusion_keeps (Offers offered) = record {
+  call = λ f. refl;
+  page = λ f. refl;
+  origin = λ f. refl;
+  options = λ f. refl;
+  staged =
+      λ f s. refl;
+}
+conclusion_keeps (Prompts offered) = picked_keeps offered
+
+settled_keeps : (world : World) (place : ℕ) (progress : Progress) → Keeps (λ facts. with_settled world (with_progress place progress facts))
+settled_keeps world place progress =
     record {
-      call = λ f. (account_keeps world provider accounts (reselected world f place provider accounts)).call f;
-      page = λ f. (account_keeps world provider accounts (reselected world f place provider accounts)).page f;
-      origin = λ f. (account_keeps world provider accounts (reselected world f place provider accounts)).origin f;
-      options = λ f. (account_keeps world provider accounts (reselected world f place provider accounts)).options f;
-      staged = λ f s. (account_keeps world provider accounts (reselected world f place provider accounts)).staged f s;
+      call = λ f. (conclusion_keeps (c f)).call (with_progress place progress f);
+      page = λ f. (conclusion_keeps (c f)).page (with_progress place progress f);
+      origin = λ f. (conclusion_keeps (c f)).origin (with_progress place progress f);
+      options = λ f. (conclusion_keeps (c f)).options (with_progress place progress f);
+      staged = λ f s. (conclusion_keeps (c f)).staged (with_progress place progress f) s;
     }
+  where
+    c : Facts → Conclusion
+    c f = conclusion_of world f.origin f.options (slice_set f.progress place progress)
 
-list_keeps : (world : World) (place : ℕ) (provider : ProviderOptions) (read : Result (List Account) AccountsStep)
-    → Keeps (with_list world place provider read)
-list_keeps world place provider (Err step) =
-    record { call = λ f. refl; page = λ f. refl; origin = λ f. refl; options = λ f. refl; staged = λ f s. refl }
-list_keeps world place provider (Ok accounts) = accounts_keep world place provider accounts
+fitting_keeps : (world : World) (place : ℕ) (failure : Failure) (single : Bool) → Keeps (with_none_fitting world place failure single)
+fitting_keeps world place failure true = same_keeps
+fitting_keeps world place failure false = settled_keeps world place (progress_is.Dropped failure)
 
-listing_keeps : (world : World) (raw : List ℕ) (place : ℕ) (provider : Option ProviderOptions)
-    → Keeps (with_listing world raw place provider)
-listing_keeps world raw place None =
-    record { call = λ f. refl; page = λ f. refl; origin = λ f. refl; options = λ f. refl; staged = λ f s. refl }
-listing_keeps world raw place (Some provider) = list_keeps world place provider (accounts_of raw provider)
+came_keeps : (world : World) (place : ℕ) (came : Came) → Keeps (with_came world place came)
+came_keeps world place Unawaited = same_keeps
+came_keeps world place (Refused failure) = settled_keeps world place (progress_is.Dropped failure)
+came_keeps world place (Waits replies) = progress_keeps place (progress_is.Reading replies)
+came_keeps world place (Both config) = progress_keeps place (progress_is.Listing config)
+came_keeps world place (NoneFits failure) =
+    record {
+      call = λ f. (fitting_keeps world place failure (is_single f.options)).call f;
+      page = λ f. (fitting_keeps world place failure (is_single f.options)).page f;
+      origin = λ f. (fitting_keeps world place failure (is_single f.options)).origin f;
+      options = λ f. (fitting_keeps world place failure (is_single f.options)).options f;
+      staged = λ f s. (fitting_keeps world place failure (is_single f.options)).staged f s;
+    }
+came_keeps world place (Fit config accounts) = settled_keeps world place (progress_is.Listed config accounts)
+
+heard_keeps : (world : World) (place : ℕ) (kind : ReplyKind) (raw : List ℕ)
+    → Keeps (λ facts. with_came world place (came_at world facts place kind raw) facts)
+heard_keeps world place kind raw =
+    record {
+      call = λ f. (came_keeps world place (came_at world f place kind raw)).call f;
+      page = λ f. (came_keeps world place (came_at world f place kind raw)).page f;
+      origin = λ f. (came_keeps world place (came_at world f place kind raw)).origin f;
+      options = λ f. (came_keeps world place (came_at world f place kind raw)).options f;
+      staged = λ f s. (came_keeps world place (came_at world f place kind raw)).staged f s;
+    }
 
 reply_keeps : (world : World) (place : ℕ) (kind : ReplyKind) (raw : List ℕ) → Keeps (with_reply world place kind raw)
-reply_keeps world place kinds.WellKnown raw =
-    record { call = λ f. refl; page = λ f. refl; origin = λ f. refl; options = λ f. refl; staged = λ f s. refl }
-reply_keeps world place kinds.Config raw =
-    record { call = λ f. refl; page = λ f. refl; origin = λ f. refl; options = λ f. refl; staged = λ f s. refl }
-reply_keeps world place kinds.Accounts raw =
-    record {
-      call = λ f. (listing_keeps world raw place (provider_at place f.options)).call f;
-      page = λ f. (listing_keeps world raw place (provider_at place f.options)).page f;
-      origin = λ f. (listing_keeps world raw place (provider_at place f.options)).origin f;
-      options = λ f. (listing_keeps world raw place (provider_at place f.options)).options f;
-      staged = λ f s. (listing_keeps world raw place (provider_at place f.options)).staged f s;
-    }
-reply_keeps world place kinds.Metadata raw =
-    record { call = λ f. refl; page = λ f. refl; origin = λ f. refl; options = λ f. refl; staged = λ f s. refl }
-reply_keeps world place kinds.Assertion raw =
-    record { call = λ f. refl; page = λ f. refl; origin = λ f. refl; options = λ f. refl; staged = λ f s. refl }
-reply_keeps world place kinds.Disconnect raw =
-    record { call = λ f. refl; page = λ f. refl; origin = λ f. refl; options = λ f. refl; staged = λ f s. refl }
+reply_keeps world place kinds.WellKnown raw = heard_keeps world place kinds.WellKnown raw
+reply_keeps world place kinds.Config raw = heard_keeps world place kinds.Config raw
+reply_keeps world place kinds.Accounts raw = heard_keeps world place kinds.Accounts raw
+reply_keeps world place kinds.Metadata raw = record {
+  call = λ f. refl;
+  page = λ f. refl;
+  origin = λ f. refl;
+  options =
+      λ f. refl;
+  staged = λ f s. refl;
+}
+reply_keeps world place kinds.Assertion raw = same_keeps
+reply_keeps world place kinds.Disconnect raw = same_keeps
 
-choice_keeps : (candidate : Option Candidate) → Keeps (with_choice candidate)
-choice_keeps None = record { call = λ f. refl; page = λ f. refl; origin = λ f. refl; options = λ f. refl; staged = λ f s. refl }
-choice_keeps (Some candidate) =
-    record { call = λ f. refl; page = λ f. refl; origin = λ f. refl; options = λ f. refl; staged = λ f s. refl }
+choice_keeps : (offered : Option Offered) → Keeps (with_choice offered)
+choice_keeps None = same_keeps
+choice_keeps (Some offered) = picked_keeps offered
 
 input_keeps : (world : World) (ignored : Bool) (input : Input) → Keeps (get.with_input world ignored input)
-input_keeps world true input =
-    record { call = λ f. refl; page = λ f. refl; origin = λ f. refl; options = λ f. refl; staged = λ f s. refl }
+input_keeps world true input = same_keeps
 input_keeps world false (inputs.Reply place kind raw) = reply_keeps world place kind raw
-input_keeps world false (inputs.Choose place account) =
+input_keeps world false (inputs.Choose place id) =
     record {
-      call = λ f. (choice_keeps (option_and_then (chosen account) f.listed)).call f;
-      page = λ f. (choice_keeps (option_and_then (chosen account) f.listed)).page f;
-      origin = λ f. (choice_keeps (option_and_then (chosen account) f.listed)).origin f;
-      options = λ f. (choice_keeps (option_and_then (chosen account) f.listed)).options f;
-      staged = λ f s. (choice_keeps (option_and_then (chosen account) f.listed)).staged f s;
+      call = λ f. (choice_keeps (found_offered place id f)).call f;
+      page = λ f. (choice_keeps (found_offered place id f)).page f;
+      origin = λ f. (choice_keeps (found_offered place id f)).origin f;
+      options = λ f. (choice_keeps (found_offered place id f)).options f;
+      staged = λ f s. (choice_keeps (found_offered place id f)).staged f s;
     }
-input_keeps world false inputs.GoOn =
-    record { call = λ f. refl; page = λ f. refl; origin = λ f. refl; options = λ f. refl; staged = λ f s. refl }
-input_keeps world false inputs.Cancel =
-    record { call = λ f. refl; page = λ f. refl; origin = λ f. refl; options = λ f. refl; staged = λ f s. refl }
-input_keeps world false inputs.SignIn =
-    record { call = λ f. refl; page = λ f. refl; origin = λ f. refl; options = λ f. refl; staged = λ f s. refl }
-input_keeps world false inputs.Shut =
-    record { call = λ f. refl; page = λ f. refl; origin = λ f. refl; options = λ f. refl; staged = λ f s. refl }
-input_keeps world false inputs.Resume =
-    record { call = λ f. refl; page = λ f. refl; origin = λ f. refl; options = λ f. refl; staged = λ f s. refl }
-input_keeps world false inputs.Abort =
-    record { call = λ f. refl; page = λ f. refl; origin = λ f. refl; options = λ f. refl; staged = λ f s. refl }
+input_keeps world false inputs.GoOn = same_keeps
+input_keeps world false inputs.Cancel = same_keeps
+input_keeps world false inputs.SignIn = same_keeps
+input_keeps world false inputs.Shut = same_keeps
+input_keeps world false inputs.Resume = same_keeps
+input_keeps world false inputs.Abort = same_keeps
 
 -- ---- of a call of either kind
 

@@ -4,14 +4,15 @@ use Rattle.std.proofs.Common.{cond}
 use Rattle.std.specs.Prelude.{option_map, unwrap_or}
 use Rattle.std.specs.Option.{option_or}
 use Rattle.std.specs.List.{list_any}
-use Rattle.fed_origin.specs.declared.stage.Stage.TheVariants.{Reading, Listing, Mismatch, Choosing, Prompting, Asserting, Ended}
+use Rattle.fed_origin.specs.declared.stage.Stage.TheVariants.{Reading, Listing, Gathering, Mismatch, Choosing, Prompting, Asserting, Ended}
 use Rattle.fed_origin.specs.declared.stage.Stage.TheVariants as stages
 use Rattle.fed_consent.specs.declared.table.input.Input.{Input}
 use Rattle.fed_status.specs.Shared.{World}
 use Rattle.fed_script.specs.declared.event.Header.{Header}
 use Rattle.fed_trace.specs.Begun.{Begun, CallOptions, ToGet, ToDisconnect, kind_asked}
 use Rattle.fed_trace.specs.Call.{Known, kind_of, fresh, known_first}
-use Rattle.fed_trace.specs.Effect.{Effect, PendingCall, pending_from, Time, Page, Closed, Cookie, Login, Begin, Move, Sent, Shown, Window}
+use Rattle.fed_trace.specs.Effect.{Effect, PendingCall, pending_from, Time, Page, Closed, Cookie, Login, Begin, Move, Sent, Dropped}
+use Rattle.fed_trace.specs.Effect.{Shown, Window}
 use Rattle.fed_trace.specs.Effect.{Kept, Flag, Result, Ignored, call_change, begins, is_ignored, last_of}
 use Rattle.fed_trace.specs.Keyed.{last_said, says}
 use Rattle.fed_trace.specs.Known.{world_at, input_to, with_said, known_in}
@@ -76,6 +77,7 @@ says_of call (Move kind c Ended ∷ effects) = ends_front call c (Move kind c En
 says_of call (Move kind c Reading ∷ effects) = silent_front call (Move kind c Reading) effects refl refl (says_of call effects)
 says_of call (Move kind c Listing ∷ effects) = silent_front call (Move kind c Listing) effects refl refl (says_of call effects)
 says_of call (Move kind c Mismatch ∷ effects) = silent_front call (Move kind c Mismatch) effects refl refl (says_of call effects)
+says_of call (Move kind c Gathering ∷ effects) = silent_front call (Move kind c Gathering) effects refl refl (says_of call effects)
 says_of call (Move kind c stages.Window ∷ effects) = silent_front call (Move kind c stages.Window) effects refl refl (says_of call effects)
 says_of call (Move kind c Choosing ∷ effects) = silent_front call (Move kind c Choosing) effects refl refl (says_of call effects)
 says_of call (Move kind c Prompting ∷ effects) = silent_front call (Move kind c Prompting) effects refl refl (says_of call effects)
@@ -88,16 +90,18 @@ says_of call (Login origin status ∷ effects) = silent_front call (Login origin
 says_of call (Sent kind c provider ask cookies ∷ effects) =
     silent_front call (Sent kind c provider ask cookies) effects refl refl (says_of call effects)
 says_of call (Shown c dialog ∷ effects) = silent_front call (Shown c dialog) effects refl refl (says_of call effects)
+says_of call (Dropped c provider failure ∷ effects) =
+    silent_front call (Dropped c provider failure) effects refl refl (says_of call effects)
 says_of call (Window c provider url ∷ effects) = silent_front call (Window c provider url) effects refl refl (says_of call effects)
 says_of call (Kept triple stays ∷ effects) = silent_front call (Kept triple stays) effects refl refl (says_of call effects)
 says_of call (Flag origin stays ∷ effects) = silent_front call (Flag origin stays) effects refl refl (says_of call effects)
 says_of call (Result c page finish ∷ effects) = silent_front call (Result c page finish) effects refl refl (says_of call effects)
 says_of call (Ignored why ∷ effects) = silent_front call (Ignored why) effects refl refl (says_of call effects)
 
-first_kind : (b : Begun) → kind_of (known_first b) ≡ kind_asked b.options
-first_kind b = go b.options
+first_kind : (world : World) (b : Begun) → kind_of (known_first world b) ≡ kind_asked b.options
+first_kind world b = go b.options
   where
-    go : (options : CallOptions) → kind_of (fresh b.call b.page b.origin options) ≡ kind_asked options
+    go : (options : CallOptions) → kind_of (fresh world b.call b.page b.origin options) ≡ kind_asked options
     go (ToGet options) = refl
     go (ToDisconnect options) = refl
 
@@ -120,17 +124,18 @@ kinds_agree header (row ∷ rows) call k v known pending =
         let pending_is : Some (pending_from b) ≡ Some v =
         sym (ap (λ o. unwrap_or o (last_value nat_eq call_change call rows)) last) ∙ pending in
         let v_is : pending_from b ≡ v = cc in
-        let known_is : Some (known_first b) ≡ Some k =
-        sym (ap (λ o. option_or (option_map known_first o)
+        let known_is : Some (known_first (world_at (record { header = header; rows = rows })) b) ≡ Some k =
+        sym (ap (λ o. option_or (option_map (known_first (world_at (record { header = header; rows = rows }))) o)
         (option_map (with_said (world_at (record { header = header; rows = rows })) (list_any is_ignored row.effects)
         (input_to call row.event)) (known_in header rows call))) began) ∙ known in
-        let k_is : known_first b ≡ k = cc in
-        ap (λ (x : PendingCall). x.kind) (sym v_is) ∙ sym (first_kind b) ∙ ap kind_of k_is
+        let k_is : known_first (world_at (record { header = header; rows = rows })) b ≡ k = cc in
+        ap (λ (x : PendingCall). x.kind) (sym v_is) ∙ sym (first_kind (world_at (record { header = header; rows = rows })) b)
+        ∙ ap kind_of k_is
     go earlier (Over_last last) before is =
         let no : None ≡ Some v = sym (ap (λ o. unwrap_or o (last_value nat_eq call_change call rows)) last) ∙ pending in absurd (cc)
     go earlier (Nothing last began) None is =
         let no : None ≡ Some k =
-        sym (ap (λ o. option_or (option_map known_first o)
+        sym (ap (λ o. option_or (option_map (known_first (world_at (record { header = header; rows = rows }))) o)
         (option_map (with_said (world_at (record { header = header; rows = rows })) (list_any is_ignored row.effects)
         (input_to call row.event)) (known_in header rows call))) began
         ∙ ap (option_map (with_said (world_at (record { header = header; rows = rows })) (list_any is_ignored row.effects)
@@ -141,7 +146,7 @@ kinds_agree header (row ∷ rows) call k v known pending =
         sym (ap (λ o. unwrap_or o (last_value nat_eq call_change call rows)) last) ∙ pending in
         let world = world_at (record { header = header; rows = rows }) in
         let known_is : Some (with_said world (list_any is_ignored row.effects) (input_to call row.event) before) ≡ Some k =
-        sym (ap (λ o. option_or (option_map known_first o)
+        sym (ap (λ o. option_or (option_map (known_first (world_at (record { header = header; rows = rows }))) o)
         (option_map (with_said world (list_any is_ignored row.effects) (input_to call row.event)) (known_in header rows call))) began
         ∙ ap (option_map (with_said world (list_any is_ignored row.effects) (input_to call row.event))) is) ∙ known in
         let k_is : with_said world (list_any is_ignored row.effects) (input_to call row.event) before ≡ k = cc in

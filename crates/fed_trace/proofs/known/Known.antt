@@ -25,14 +25,15 @@ said_of T event q = with_said (world_at T) (list_any is_ignored (effects_of T ev
 -- the stage that a call comes to, and what is known of it then
 pub known_moved : (T : Trace) (line : ℕ) (event : Event) (q : ℕ) (moved : Option (Option Stage)) (began : Option Begun)
     → last_said nat_eq stage_change q (effects_of T event) ≡ moved → last_of (begins q) (effects_of T event) ≡ began
-    → known_at (with_event T line event) q ≡ known_by (unwrap_or moved (stage_at T q)) (option_or (option_map known_first began)
+    → known_at (with_event T line event) q
+    ≡ known_by (unwrap_or moved (stage_at T q)) (option_or (option_map (known_first (world_at T)) began)
     (option_map (said_of T event q) (known_in T.header T.rows q)))
 known_moved T line event q moved began m b =
     ap (λ x. known_by (unwrap_or x (stage_at T q))
-    (option_or (option_map known_first (last_of (begins q) (effects_of T event)))
+    (option_or (option_map (known_first (world_at T)) (last_of (begins q) (effects_of T event)))
     (option_map (said_of T event q) (known_in T.header T.rows q)))) m
     ∙ ap (λ x. known_by (unwrap_or moved (stage_at T q))
-    (option_or (option_map known_first x) (option_map (said_of T event q) (known_in T.header T.rows q)))) b
+    (option_or (option_map (known_first (world_at T)) x) (option_map (said_of T event q) (known_in T.header T.rows q)))) b
 
 pub map_same : {A : Type 0} (f : A → A) → ((x : A) → f x ≡ x) → (o : Option A) → option_map f o ≡ o
 map_same f same None = refl

@@ -2,7 +2,8 @@
 use Rattle.std.proofs.Common.{◌≡◌, ℕ, nat_eq, ◌⊎◌, inl, inr, List, Some, refl, ap}
 use Rattle.std.specs.Prelude.{option_map}
 use Rattle.fed_origin.specs.declared.stage.Stage.{Stage}
-use Rattle.fed_origin.specs.declared.stage.Stage.TheVariants.{Reading, Listing, Mismatch, Window, Choosing, Prompting, Asserting, Ended}
+use Rattle.fed_origin.specs.declared.stage.Stage.TheVariants.{Reading, Listing, Gathering, Mismatch, Window, Choosing, Prompting}
+use Rattle.fed_origin.specs.declared.stage.Stage.TheVariants.{Asserting, Ended}
 use Rattle.fed_call.specs.Facts.{Facts}
 use Rattle.fed_call.specs.Facts as get
 use Rattle.fed_disconnect.specs.Facts.{DisconnectFacts}
@@ -32,6 +33,7 @@ goes_or_ends Ended = inl refl
 goes_or_ends Reading = inr (record { kept = both Reading (λ f. refl) (λ f. refl); stays = λ kind call es. refl })
 goes_or_ends Listing = inr (record { kept = both Listing (λ f. refl) (λ f. refl); stays = λ kind call es. refl })
 goes_or_ends Mismatch = inr (record { kept = both Mismatch (λ f. refl) (λ f. refl); stays = λ kind call es. refl })
+goes_or_ends Gathering = inr (record { kept = both Gathering (λ f. refl) (λ f. refl); stays = λ kind call es. refl })
 goes_or_ends Window = inr (record { kept = both Window (λ f. refl) (λ f. refl); stays = λ kind call es. refl })
 goes_or_ends Choosing = inr (record { kept = both Choosing (λ f. refl) (λ f. refl); stays = λ kind call es. refl })
 goes_or_ends Prompting = inr (record { kept = both Prompting (λ f. refl) (λ f. refl); stays = λ kind call es. refl })
@@ -42,6 +44,7 @@ get_again Ended other f = refl
 get_again Reading other f = refl
 get_again Listing other f = refl
 get_again Mismatch other f = refl
+get_again Gathering other f = refl
 get_again Window other f = refl
 get_again Choosing other f = refl
 get_again Prompting other f = refl
@@ -53,6 +56,7 @@ disconnect_again Ended other f = refl
 disconnect_again Reading other f = refl
 disconnect_again Listing other f = refl
 disconnect_again Mismatch other f = refl
+disconnect_again Gathering other f = refl
 disconnect_again Window other f = refl
 disconnect_again Choosing other f = refl
 disconnect_again Prompting other f = refl

@@ -23,7 +23,8 @@ use Rattle.fed_script.specs.declared.event.Header.{Header}
 use Rattle.fed_disconnect.specs.Facts.{disconnect_options}
 use Rattle.fed_trace.specs.Begun.{Begun, CallKind, GetCall, DisconnectCall, CallOptions, ToGet, ToDisconnect, kind_asked}
 use Rattle.fed_trace.specs.Call.{Known, OfGet, OfDisconnect, kind_of, page_of, stage_of, known_first, first_row, input_row}
-use Rattle.fed_trace.specs.Effect.{Effect, PendingCall, pending_from, Time, Page, Closed, Cookie, Login, Begin, Move, Sent, Shown, Window}
+use Rattle.fed_trace.specs.Effect.{Effect, PendingCall, pending_from, Time, Page, Closed, Cookie, Login, Begin, Move, Sent, Dropped}
+use Rattle.fed_trace.specs.Effect.{Shown, Window}
 use Rattle.fed_trace.specs.Effect.{Kept, Flag, Result, Ignored, is_ignored, last_of, begins, call_change, get_change, begun_by}
 use Rattle.fed_trace.specs.Keyed.{entries_after}
 use Rattle.fed_trace.specs.Known.{world_at, is_begun, input_to, with_said, known_in, known_at}
@@ -66,13 +67,14 @@ keeps_outcome world cookies kind call page outcome es of_kind =
     let does = flat_map (call_effects world cookies kind call page) outcome.effects in
     ap gets_among (entries_after-append nat_eq call_change does (moves kind call outcome.stage) es
     ∙ ap (entries_after nat_eq call_change (moves kind call outcome.stage))
-    (entries_silent nat_eq call_change does es (silent_call call_change (λ n c p a k. refl) (λ c d. refl) (λ c p u. refl) (λ o s. refl)
+    (entries_silent nat_eq call_change does es (silent_call call_change (λ n c p a k. refl) (λ c d. refl) (λ c p f. refl)
+    (λ c p u. refl) (λ o s. refl)
     (λ t k. refl) (λ o k. refl) (λ c p f. refl) (λ w. refl) world cookies kind call page outcome.effects)))
     ∙ gets_moved kind call outcome.stage es of_kind
     ∙ sym (entries_after-append nat_eq get_change does (moves kind call outcome.stage) (gets_among es)
     ∙ ap (entries_after nat_eq get_change (moves kind call outcome.stage))
     (entries_silent nat_eq get_change does (gets_among es)
-    (silent_call get_change (λ n c p a k. refl) (λ c d. refl) (λ c p u. refl) (λ o s. refl) (λ t k. refl) (λ o k. refl)
+    (silent_call get_change (λ n c p a k. refl) (λ c d. refl) (λ c p f. refl) (λ c p u. refl) (λ o s. refl) (λ t k. refl) (λ o k. refl)
     (λ c p f. refl)
     (λ w. refl) world cookies kind call page outcome.effects)))
 
@@ -127,6 +129,7 @@ unbegun_last call (Login origin status ∷ effects) h = others_begin _ (unbegun_
 unbegun_last call (Move kind c stage ∷ effects) h = others_begin _ (unbegun_last call effects h)
 unbegun_last call (Sent kind c provider ask cookies ∷ effects) h = others_begin _ (unbegun_last call effects h)
 unbegun_last call (Shown c dialog ∷ effects) h = others_begin _ (unbegun_last call effects h)
+unbegun_last call (Dropped c provider failure ∷ effects) h = others_begin _ (unbegun_last call effects h)
 unbegun_last call (Window c provider url ∷ effects) h = others_begin _ (unbegun_last call effects h)
 unbegun_last call (Kept triple stays ∷ effects) h = others_begin _ (unbegun_last call effects h)
 unbegun_last call (Flag origin stays ∷ effects) h = others_begin _ (unbegun_last call effects h)
@@ -155,7 +158,11 @@ unbegun_unknown header [] call new = refl
 unbegun_unknown header (row ∷ rows) call new =
     let apart = any_append call (begun rows) (filter_map begun_by row.effects) new in
     let said = with_said (world_at (record { header = header; rows = rows })) (list_any is_ignored row.effects) (input_to call row.event) in
-    ap (λ o. option_or (option_map known_first o) (option_map said (known_in header rows call))) (unbegun_last call row.effects apart.1)
+    ap (λ o. option_or (option_map (known_first (world_at (record {
+      header = header;
+      rows =
+          rows;
+    }))) o) (option_map said (known_in header rows call))) (unbegun_last call row.effects apart.1)
     ∙ ap (option_map said) (unbegun_unknown header rows call apart.0)
 
 -- a call that is not over is pending as of its kind

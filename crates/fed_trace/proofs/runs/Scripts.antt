@@ -20,7 +20,7 @@ use Rattle.fed_trace.proofs.runs.Untaken.{IsUntaken, untaken_after}
 -- an event that may follow is new, where what is unused began in no row
 is_new : (rows : List Row) (used : UsedState) (event : Event) → IsUntaken used.calls (begun rows) → MayFollow used event
     → IsNew rows event
-is_new rows used (Get page call options) untaken may = (untaken call may.once, may.provider)
+is_new rows used (Get page call options) untaken may = (untaken call may.once, may.provider.0)
 is_new rows used (events.Have have) untaken may = tt
 is_new rows used (events.At time) untaken may = tt
 is_new rows used (events.Load page url raw) untaken may = tt

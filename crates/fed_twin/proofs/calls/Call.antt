@@ -1,27 +1,28 @@
 -- What a call does at an input is the same, as far as providers can tell, in two worlds that they cannot tell apart.
-use Rattle.std.proofs.Common.{◌≡◌, ℕ, zero, suc, Bool, true, false, ◌||◌, ◌⊎◌, inl, inr, List, [], ◌∷◌, map, length}
+use Rattle.std.proofs.Common.{◌≡◌, ℕ, zero, suc, Bool, true, false, ◌||◌, ◌⊎◌, inl, inr, List, [], ◌∷◌, ◌++◌, map, zip, length, arith}
 use Rattle.std.proofs.Common.{slice_get, Option}
-use Rattle.std.proofs.Common.{Some, None, Result as Answer, Ok, Err, is_some, IfSome, refl, sym, ap, subst, ◌∙◌}
-use Rattle.std.specs.Prelude.{option_and_then, option_map, unwrap_or, ⊤}
+use Rattle.std.proofs.Common.{Some, None, Ok, refl, sym, ap, ap₂, subst, ◌∙◌}
+use Rattle.std.specs.Prelude.{unwrap_or, ⊤, slice_set}
 use Rattle.std.specs.List.{filter_map, cons_option, list_any, AllByRecursion, AllZip}
-use Rattle.std.specs.Result.{result_ok}
 use Rattle.url.specs.Parts.{Parts}
 use Rattle.fed_origin.specs.declared.options.GetOptions.{GetOptions}
+use Rattle.fed_origin.specs.declared.options.Mediation.{Mediation}
+use Rattle.fed_origin.specs.declared.options.Mediation.TheVariants.{Silent, Optional, Required}
 use Rattle.fed_origin.specs.declared.options.ProviderOptions.{ProviderOptions}
 use Rattle.fed_origin.specs.declared.origin.Origin.{Origin}
-use Rattle.fed_origin.specs.declared.stage.ReplyKind.TheVariants as kinds
 use Rattle.fed_origin.specs.declared.stage.Stage.{Stage}
-use Rattle.fed_origin.specs.declared.stage.Stage.TheVariants.{Reading, Listing, Mismatch, Window, Choosing, Prompting, Asserting, Ended}
+use Rattle.fed_origin.specs.declared.stage.Stage.TheVariants.{Reading, Listing, Gathering, Mismatch, Window, Choosing, Prompting}
+use Rattle.fed_origin.specs.declared.stage.Stage.TheVariants.{Asserting, Ended}
+use Rattle.fed_origin.specs.declared.status.Triple.{Triple}
 use Rattle.fed_origin.specs.WebUrl.{host_of, origin_of}
 use Rattle.fed_provider.specs.declared.config.Config.{Config as Configuration}
-use Rattle.fed_provider.specs.declared.step.ProviderStep.{ProviderStep}
 use Rattle.fed_provider.specs.Config.{ConfigOf}
 use Rattle.fed_provider.proofs.promises.EndpointsAreOwn.{endpoints_are_own_lem}
 use Rattle.fed_accounts.specs.declared.account.Account.{Account}
-use Rattle.fed_accounts.specs.declared.step.AccountsStep.{AccountsStep}
 use Rattle.fed_accounts.specs.Hints.{Hinted}
 use Rattle.fed_accounts.specs.Read.{AccountsOf}
 use Rattle.fed_reply.specs.Steps.{◌>>=◌}
+use Rattle.fed_status.specs.Flags.{has_flag}
 use Rattle.fed_status.specs.Login.{status_of}
 use Rattle.fed_status.specs.Shared.{World}
 use Rattle.fed_status.proofs.lists.Same.{same_origin_is}
@@ -31,17 +32,22 @@ use Rattle.fed_consent.specs.declared.table.effect.Effect.{Effect as CallEffect}
 use Rattle.fed_consent.specs.declared.table.effect.Effect.TheVariants as does
 use Rattle.fed_consent.specs.declared.table.failure.Failure.{Failure}
 use Rattle.fed_consent.specs.declared.table.input.Input.{Input}
-use Rattle.fed_consent.specs.declared.table.input.Input.TheVariants as inputs
 use Rattle.fed_consent.specs.declared.table.why.Why.{Why}
-use Rattle.fed_consent.specs.Consent.{Candidate}
-use Rattle.fed_call.specs.Accounts.{accounts_of, candidate_of}
-use Rattle.fed_call.specs.Facts.{Facts, at_stage, provider_at, with_candidate, reselected, with_offer, by_account, with_accounts, with_list}
-use Rattle.fed_call.specs.Facts.{with_listing, with_choice, with_input, facts_after}
-use Rattle.fed_provider.specs.FirstReplies.{config_read, wellknown_of, wellknown_read}
-use Rattle.fed_consent.specs.Outcomes.{Outcome, fails, ignored, moves, after, is_ignored}
-use Rattle.fed_call.specs.ReadingRows.{wellknown_reply, config_reply}
+use Rattle.fed_consent.specs.Consent.{candidate_by}
+use Rattle.fed_consent.specs.Outcomes.{Outcome, fails, ignored, is_ignored}
+use Rattle.fed_call.specs.declared.progress.Progress.{Progress}
+use Rattle.fed_call.specs.declared.progress.Progress.TheVariants as progress_is
+use Rattle.fed_call.specs.Accounts.{Offered, Shortlist, accounts_of, all_offered, offered_by, offered_of, provider_at, reselected}
+use Rattle.fed_call.specs.Facts.{Facts, Conclusion, Awaits, NoneLeft, Reselects, NoneSilent, Offers, Prompts, at_stage, conclusion_of}
+use Rattle.fed_call.specs.Facts.{facts_after, shortlists, none_left, by_number, unless_silent, by_reselected, by_offered, concluded}
+use Rattle.fed_call.specs.Facts.{by_awaited}
+use Rattle.fed_call.specs.Facts.{with_picked, with_conclusion, with_input, with_progress}
+use Rattle.fed_call.specs.Dialogs.{prompt_effect}
+use Rattle.fed_call.specs.Progress.{is_awaited}
+use Rattle.fed_call.specs.SettledRows.{concludes}
+use Rattle.fed_trace.proofs.happens.Says.{asks_token}
 use Rattle.fed_twin.specs.Providers.{Providers, is_provider}
-use Rattle.fed_twin.specs.Same.{IfBoth, SameProvider, SameOptions, is_open, SameData, SameFacts, SameCall}
+use Rattle.fed_twin.specs.Same.{IfBoth, SameProvider, SameOptions, SameOffered, IsOwn, HasOwn, is_open, SameData, SameFacts, SameCall}
 
 -- two worlds agree on the rules and on the statuses of providers
 pub record AgreeWorlds (p : Providers) (w w' : World) : Type 0 where
@@ -86,60 +92,39 @@ pub record Keeps (p : Providers) (w w' : World) (f f' : Facts) (i i' : Input) (o
 
 -- ---- stages
 
--- a call is over, or goes on past Reading with its configuration
-abbrev pub Lands : Stage → Option Configuration → Type 0
-Lands stage config = (stage ≡ Ended) ⊎ ((is_open stage ≡ true) × ((stage ≡ Reading) ⊎ (is_some config ≡ true)))
+-- a call is over, or goes on and asked for no token
+abbrev pub Lands : Stage → Type 0
+Lands stage = (stage ≡ Ended) ⊎ (is_open stage ≡ true)
 
 restage : (p : Providers) (g g' : Facts) (s s' : Stage) → SameData p g g'
     → SameData p (record g { stage = s }) (record g' { stage = s' })
-restage p g g' s s' d = record { options = d.options; heard = d.heard; config = d.config; known = d.known; listed = d.listed }
+restage p g g' s s' d = record { options = d.options; progress = d.progress; known = d.known; offered = d.offered }
 
-has_config : (stage : Stage) (config : Option Configuration) → Lands stage config → (stage ≡ Ended → ⊥)
-    → (stage ≡ Reading) ⊎ (is_some config ≡ true)
-has_config stage config (inl e) ne = absurd (ne e)
-has_config stage config (inr h) ne = h.1
-
-pub after_at : (p : Providers) (g g' : Facts) (stage : Stage) → SameData p g g' → Lands stage g.config
+pub after_at : (p : Providers) (g g' : Facts) (stage : Stage) → SameData p g g' → Lands stage
     → SameCall p (at_stage stage g) (at_stage stage g')
 after_at p g g' Ended d l = tt
-after_at p g g' Reading d l = record { stage = refl; goes_on = refl; past = inl refl; said = restage p g g' Reading Reading d }
-after_at p g g' Listing d l =
-    record { stage = refl; goes_on = refl; past = has_config Listing g.config l (λ h. cc); said = restage p g g' Listing Listing d }
-after_at p g g' Mismatch d l =
-    record { stage = refl; goes_on = refl; past = has_config Mismatch g.config l (λ h. cc); said = restage p g g' Mismatch Mismatch d }
-after_at p g g' Window d l =
-    record { stage = refl; goes_on = refl; past = has_config Window g.config l (λ h. cc); said = restage p g g' Window Window d }
-after_at p g g' Choosing d l =
-    record { stage = refl; goes_on = refl; past = has_config Choosing g.config l (λ h. cc); said = restage p g g' Choosing Choosing d }
-after_at p g g' Prompting d l =
-    record {
-      stage = refl;
-      goes_on = refl;
-      past = has_config Prompting g.config l (λ h. cc);
-      said = restage p g g' Prompting Prompting d;
-    }
+after_at p g g' Reading d l = record { stage = refl; goes_on = refl; said = restage p g g' Reading Reading d }
+after_at p g g' Listing d l = record { stage = refl; goes_on = refl; said = restage p g g' Listing Listing d }
+after_at p g g' Gathering d l = record { stage = refl; goes_on = refl; said = restage p g g' Gathering Gathering d }
+after_at p g g' Mismatch d l = record { stage = refl; goes_on = refl; said = restage p g g' Mismatch Mismatch d }
+after_at p g g' Window d l = record { stage = refl; goes_on = refl; said = restage p g g' Window Window d }
+after_at p g g' Choosing d l = record { stage = refl; goes_on = refl; said = restage p g g' Choosing Choosing d }
+after_at p g g' Prompting d l = record { stage = refl; goes_on = refl; said = restage p g g' Prompting Prompting d }
 after_at p g g' Asserting d (inl e) = absurd (cc)
-after_at p g g' Asserting d (inr h) = absurd (let no : false ≡ true = h.0 in cc)
+after_at p g g' Asserting d (inr h) = absurd (let no : false ≡ true = h in cc)
 
-pub after_by : (p : Providers) (g g' : Facts) (stage stage' : Stage) → stage ≡ stage' → SameData p g g' → Lands stage g.config
+pub after_by : (p : Providers) (g g' : Facts) (stage stage' : Stage) → stage ≡ stage' → SameData p g g' → Lands stage
     → SameCall p (at_stage stage g) (at_stage stage' g')
 after_by p g g' stage stage' e d l = subst (λ s. SameCall p (at_stage stage g) (at_stage s g')) e (after_at p g g' stage d l)
 
 -- it stays where it was
-pub stands : (p : Providers) (f f' : Facts) → SameFacts p f f' → Lands f.stage f.config
-stands p f f' s = inr (s.goes_on, s.past)
-
--- past Reading
-pub configured : (p : Providers) (f f' : Facts) → SameFacts p f f' → (f.stage ≡ Reading → ⊥) → is_some f.config ≡ true
-configured p f f' s ne = go s.past
-  where
-    go : (f.stage ≡ Reading) ⊎ (is_some f.config ≡ true) → is_some f.config ≡ true
-    go (inl e) = absurd (ne e)
-    go (inr e) = e
+pub stands : (p : Providers) (f f' : Facts) → SameFacts p f f' → Lands f.stage
+stands p f f' s = inr s.goes_on
 
 open_at : (stage : Stage) (f : Facts) → is_open stage ≡ true → at_stage stage f ≡ Some (record f { stage = stage })
 open_at Reading f opened = refl
 open_at Listing f opened = refl
+open_at Gathering f opened = refl
 open_at Mismatch f opened = refl
 open_at Window f opened = refl
 open_at Choosing f opened = refl
@@ -151,7 +136,7 @@ open_at Ended f opened = absurd (cc)
 pub open_facts : (f : Facts) → is_open f.stage ≡ true → at_stage f.stage f ≡ Some f
 open_facts f opened = open_at f.stage f opened
 
--- ---- ignored in both, or ended in both
+-- ---- ignored in both, ended in both, or taken in both
 
 module _ (p : Providers) (w w' : World) (f f' : Facts) (s : SameFacts p f f') where
   pub keeps_ignored : (i i' : Input) (why why' : Why) → Keeps p w w' f f' i i' (ignored why) (ignored why')
@@ -164,141 +149,21 @@ module _ (p : Providers) (w w' : World) (f f' : Facts) (s : SameFacts p f f') wh
   pub keeps_fails : (i i' : Input) (failure failure' : Failure) → Keeps p w w' f f' i i' (fails failure) (fails failure')
   keeps_fails i i' failure failure' = record { outcome = record { stage = refl; told = refl; own = (tt, tt) }; after = tt }
 
-  -- one outcome for both
-  pub keeps_row : (i i' : Input) (o : Outcome) → AllOwn p o.effects
-      → ((ign : Bool) → SameData p (with_input w ign i f) (with_input w' ign i' f'))
-      → Lands (unwrap_or o.stage f.stage) (with_input w (list_any is_ignored o.effects) i f).config → Keeps p w w' f f' i i' o o
-  keeps_row i i' o own data_same lands =
-      let ign = list_any is_ignored o.effects in
+  -- both do what providers cannot tell apart, and neither ignores the input
+  pub keeps_does : (i i' : Input) (o o' : Outcome) → SameOutcome p o o'
+      → list_any is_ignored o.effects ≡ false → list_any is_ignored o'.effects ≡ false
+      → SameData p (with_input w false i f) (with_input w' false i' f') → Lands (unwrap_or o.stage f.stage)
+      → Keeps p w w' f f' i i' o o'
+  keeps_does i i' o o' same g g' data_same lands =
       record {
-        outcome = record { stage = refl; told = refl; own = own };
-        after = after_by p (with_input w ign i f) (with_input w' ign i' f') (unwrap_or o.stage f.stage) (unwrap_or o.stage f'.stage)
-            (ap (unwrap_or o.stage) s.stage) (data_same ign) lands;
-      }
-
-  -- both move with effects that providers are not told
-  pub keeps_moves : (i i' : Input) (stage : Stage) (e e' : CallEffect) → told_effect e ≡ None → told_effect e' ≡ None
-      → is_ignored e ≡ false → is_ignored e' ≡ false
-      → OwnSend p e → SameData p (with_input w false i f) (with_input w' false i' f') → Lands stage (with_input w false i f).config
-      → Keeps p w w' f f' i i' (moves stage e) (moves stage e')
-  keeps_moves i i' stage e e' t t' g g' own data_same lands =
-      record {
-        outcome = record { stage = refl; told = ap (λ o. cons_option o []) t ∙ sym (ap (λ o. cons_option o []) t'); own = (own, tt) };
+        outcome = same;
         after =
-            subst (λ b. SameCall p (at_stage stage (with_input w b i f))
-            (at_stage stage (with_input w' (list_any is_ignored (e' ∷ [])) i' f'))) (sym (ap (λ b. b || false) g))
-            (subst (λ b. SameCall p (at_stage stage (with_input w false i f)) (at_stage stage (with_input w' b i' f')))
-            (sym (ap (λ b. b || false) g'))
-            (after_at p (with_input w false i f) (with_input w' false i' f') stage data_same lands));
+            subst (λ b. SameCall p (at_stage (unwrap_or o.stage f.stage) (with_input w b i f)) (facts_after w' f' i' o')) (sym g)
+            (subst (λ b. SameCall p (at_stage (unwrap_or o.stage f.stage) (with_input w false i f))
+            (at_stage (unwrap_or o'.stage f'.stage) (with_input w' b i' f'))) (sym g')
+            (after_by p (with_input w false i f) (with_input w' false i' f') (unwrap_or o.stage f.stage) (unwrap_or o'.stage f'.stage)
+            (ap₂ unwrap_or same.stage s.stage) data_same lands));
       }
-
-  -- the same after a status is set
-  pub keeps_moves_after : (i i' : Input) (stage : Stage) (first first' e e' : CallEffect)
-      → filter_map told_effect (first ∷ []) ≡ filter_map told_effect (first' ∷ [])
-      → is_ignored first ≡ false → is_ignored first' ≡ false → OwnSend p first
-      → told_effect e ≡ None → told_effect e' ≡ None → is_ignored e ≡ false → is_ignored e' ≡ false
-      → OwnSend p e → SameData p (with_input w false i f) (with_input w' false i' f') → Lands stage (with_input w false i f).config
-      → Keeps p w w' f f' i i' (after first (moves stage e)) (after first' (moves stage e'))
-  keeps_moves_after i i' stage first first' e e' same a a' own_first t t' g g' own data_same lands =
-      record {
-        outcome = record {
-          stage = refl;
-          told =
-              ap (λ o. cons_option (told_effect first) (cons_option o [])) t ∙ same
-              ∙ sym (ap (λ o. cons_option (told_effect first') (cons_option o [])) t');
-          own = (own_first, (own, tt));
-        };
-        after =
-            subst (λ b. SameCall p (at_stage stage (with_input w b i f))
-            (at_stage stage (with_input w' (list_any is_ignored (first' ∷ e' ∷ [])) i' f')))
-            (sym (flag first e a g))
-            (subst (λ b. SameCall p (at_stage stage (with_input w false i f)) (at_stage stage (with_input w' b i' f')))
-            (sym (flag first' e' a' g'))
-            (after_at p (with_input w false i f) (with_input w' false i' f') stage data_same lands));
-      }
-    where
-      flag : (x y : CallEffect) → is_ignored x ≡ false → is_ignored y ≡ false → list_any is_ignored (x ∷ y ∷ []) ≡ false
-      flag x y h k = ap (λ b. b || (is_ignored y || false)) h ∙ ap (λ b. b || false) k
-
--- ---- what is known
-
-module _ (p : Providers) (f f' : Facts) (d : SameData p f f') where
-  pub same_heard : SameData p (record f { heard = true }) (record f' { heard = true })
-  same_heard = record { options = d.options; heard = refl; config = d.config; known = d.known; listed = d.listed }
-
-  pub same_config : (c c' : Option Configuration) → c ≡ c' → IfSome c (λ config. is_provider p (host_of config.accounts) ≡ true)
-      → SameData p (record f { config = c }) (record f' { config = c' })
-  same_config c c' e known = record { options = d.options; heard = d.heard; config = e; known = known; listed = d.listed }
-
-  pub same_waits : (b b' : Bool) → SameData p (record f { waits = b }) (record f' { waits = b' })
-  same_waits b b' = record { options = d.options; heard = d.heard; config = d.config; known = d.known; listed = d.listed }
-
-  pub same_candidate : (c c' : Candidate) → SameData p (with_candidate c f) (with_candidate c' f')
-  same_candidate c c' = record { options = d.options; heard = d.heard; config = d.config; known = d.known; listed = tt }
-
-  pub same_choice : (c c' : Option Candidate) → IfBoth (λ a b. a.account ≡ b.account) c c'
-      → SameData p (with_choice c f) (with_choice c' f')
-  same_choice None None h = d
-  same_choice (Some c) (Some c') h = same_candidate c c'
-  same_choice None (Some c') h = absurd h
-  same_choice (Some c) None h = absurd h
-
-lengths : {A B C : Type 0} (g : A → B) (h : A → C) (xs : List A) → length (map g xs) ≡ length (map h xs)
-lengths g h [] = refl
-lengths g h (x ∷ xs) = ap suc (lengths g h xs)
-
-same_offer : (p : Providers) (w w' : World) (f f' : Facts) → SameData p f f' → (q q' : ProviderOptions) (accounts : List Account)
-    → SameData p (with_offer w q accounts f) (with_offer w' q' accounts f')
-same_offer p w w' f f' d q q' [] = d
-same_offer p w w' f f' d q q' (only ∷ []) =
-    same_candidate p f f' d (candidate_of w f.origin q only) (candidate_of w' f'.origin q' only)
-same_offer p w w' f f' d q q' (first ∷ second ∷ more) =
-    record {
-      options = d.options;
-      heard = d.heard;
-      config = d.config;
-      known = d.known;
-      listed = record { accounts = refl; connected = lengths _ _ (first ∷ second ∷ more) };
-    }
-
--- no account is reselected of what was read
-abbrev pub ReselectsNone : World → Facts → ℕ → ProviderOptions → Answer (List Account) AccountsStep → Type 0
-ReselectsNone w f place q (Err step) = ⊤
-ReselectsNone w f place q (Ok accounts) = reselected w f place q accounts ≡ None
-
--- none of a reply
-abbrev pub OffersOnly : World → Facts → ℕ → Option ProviderOptions → List ℕ → Type 0
-OffersOnly w f place None raw = ⊤
-OffersOnly w f place (Some q) raw = ReselectsNone w f place q (accounts_of raw q)
-
-same_list : (p : Providers) (w w' : World) (f f' : Facts) → SameData p f f' → (place : ℕ)
-    → (q q' : ProviderOptions) (read : Answer (List Account) AccountsStep)
-    → ReselectsNone w f place q read → ReselectsNone w' f' place q' read
-    → SameData p (with_list w place q read f) (with_list w' place q' read f')
-same_list p w w' f f' d place q q' (Err step) none none' = d
-same_list p w w' f f' d place q q' (Ok accounts) none none' =
-    subst (λ r. SameData p (by_account w q accounts r f) (with_accounts w' place q' accounts f')) (sym none)
-    (subst (λ r. SameData p (with_offer w q accounts f) (by_account w' q' accounts r f')) (sym none')
-    (same_offer p w w' f f' d q q' accounts))
-
--- the accounts that a reply holds are the same for both
-pub read_same : (p : Providers) (raw : List ℕ) (q q' : ProviderOptions) → SameProvider p q q'
-    → accounts_of raw q ≡ accounts_of raw q'
-unfolding accounts_of
-read_same p raw q q' h =
-    ap (λ hint. AccountsOf raw >>= (λ accounts. Hinted accounts hint q.domain_hint)) h.shares.login_hint
-    ∙ ap (λ hint. AccountsOf raw >>= (λ accounts. Hinted accounts q'.login_hint hint)) h.shares.domain_hint
-
-pub same_listing : (p : Providers) (w w' : World) (f f' : Facts) → SameData p f f' → (raw : List ℕ) (place : ℕ)
-    → (q q' : Option ProviderOptions) → IfBoth (SameProvider p) q q' → OffersOnly w f place q raw → OffersOnly w' f' place q' raw
-    → SameData p (with_listing w raw place q f) (with_listing w' raw place q' f')
-same_listing p w w' f f' d raw place None None h none none' = d
-same_listing p w w' f f' d raw place (Some q) (Some q') h none none' =
-    subst (λ read. SameData p (with_list w place q (accounts_of raw q) f) (with_list w' place q' read f')) (read_same p raw q q' h)
-    (same_list p w w' f f' d place q q' (accounts_of raw q) none
-    (subst (ReselectsNone w' f' place q') (sym (read_same p raw q q' h)) none'))
-same_listing p w w' f f' d raw place None (Some q') h none none' = absurd h
-same_listing p w w' f f' d raw place (Some q) None h none none' = absurd h
 
 -- ---- providers
 
@@ -314,154 +179,262 @@ pub providers_both : (p : Providers) (a b : GetOptions) → SameOptions p a b �
     → IfBoth (SameProvider p) (provider_at place a) (provider_at place b)
 providers_both p a b h place = get_both (SameProvider p) a.providers b.providers h.providers place
 
--- what hangs on the configuration URL alone
-pub by_config : {A : Type 0} (p : Providers) (g : Parts → A) (q q' : Option ProviderOptions) → IfBoth (SameProvider p) q q'
-    → option_map (λ x. g x.config) q ≡ option_map (λ x. g x.config) q'
-by_config p g None None h = refl
-by_config p g (Some q) (Some q') h = ap (λ c. Some (g c)) h.shares.config
-by_config p g None (Some q') h = absurd h
-by_config p g (Some q) None h = absurd h
+-- the accounts that a reply holds are the same for both
+pub read_same : (p : Providers) (raw : List ℕ) (q q' : ProviderOptions) → SameProvider p q q'
+    → accounts_of raw q ≡ accounts_of raw q'
+unfolding accounts_of
+read_same p raw q q' h =
+    ap (λ hint. AccountsOf raw >>= (λ accounts. Hinted accounts hint q.domain_hint)) h.shares.login_hint
+    ∙ ap (λ hint. AccountsOf raw >>= (λ accounts. Hinted accounts q'.login_hint hint)) h.shares.domain_hint
 
 -- a configuration has its accounts at the provider's own origin
-own_config : (p : Providers) (raw : List ℕ) (url : Parts) (config : Configuration) → ConfigOf raw url ≡ Ok config
-    → is_provider p (host_of url) ≡ true
-    → is_provider p (host_of config.accounts) ≡ true
+pub own_config : (p : Providers) (raw : List ℕ) (url : Parts) (config : Configuration) → ConfigOf raw url ≡ Ok config
+    → is_provider p (host_of url) ≡ true → IsOwn p config
 own_config p raw url config h known =
     ap (λ o. is_provider p o.host) (same_origin_is (origin_of config.accounts) (origin_of url)
     (endpoints_are_own_lem raw url config h).accounts)
     ∙ known
 
--- ---- in Reading
+-- ---- what all providers offer
 
-lands_wellknown : (place : ℕ) (heard : Bool) (config : Option Configuration) (read : Option (Answer (Unit {0}) ProviderStep))
-    → Lands (unwrap_or (wellknown_reply place heard config read).stage Reading) config
-lands_wellknown place true config read = inr (refl, inl refl)
-lands_wellknown place false config None = inr (refl, inl refl)
-lands_wellknown place false None (Some (Err step)) = inl refl
-lands_wellknown place false (Some config) (Some (Err step)) = inl refl
-lands_wellknown place false None (Some (Ok u)) = inr (refl, inl refl)
-lands_wellknown place false (Some config) (Some (Ok u)) = inr (refl, inr refl)
+-- the same configuration, and the same accounts of the same provider; their permissions are not said
+record SameList (p : Providers) (a b : Shortlist) : Type 0 where
+  options : SameProvider p a.options b.options
+  config : a.config ≡ b.config
+  place : a.offer.provider ≡ b.offer.provider
+  accounts : a.offer.accounts ≡ b.offer.accounts
+  kept : length a.offer.kept ≡ length b.offer.kept
 
-own_wellknown : (p : Providers) (place : ℕ) (heard : Bool) (config : Option Configuration) (read : Option (Answer (Unit {0}) ProviderStep))
-    → IfSome config (λ c. is_provider p (host_of c.accounts) ≡ true) → AllOwn p (wellknown_reply place heard config read).effects
-own_wellknown p place true config read known = (tt, tt)
-own_wellknown p place false config None known = (tt, tt)
-own_wellknown p place false None (Some (Err step)) known = (tt, tt)
-own_wellknown p place false (Some config) (Some (Err step)) known = (tt, tt)
-own_wellknown p place false None (Some (Ok u)) known = tt
-own_wellknown p place false (Some config) (Some (Ok u)) known = (known, tt)
+lengths : {A B C : Type 0} (g : A → B) (h : A → C) (xs : List A) → length (map g xs) ≡ length (map h xs)
+lengths g h [] = refl
+lengths g h (x ∷ xs) = ap suc (lengths g h xs)
 
--- the configuration after a reply, by whether it is ignored
-abbrev taken : Bool → Option Configuration → Option (Answer Configuration ProviderStep) → Option Configuration
-taken true old read = old
-taken false old read = option_and_then result_ok read
-
-lands_config : (place : ℕ) (heard : Bool) (config : Option Configuration) (read : Option (Answer Configuration ProviderStep))
-    → Lands (unwrap_or (config_reply place heard config read).stage Reading)
-    (taken (list_any is_ignored (config_reply place heard config read).effects) config read)
-lands_config place heard (Some config) read = inr (refl, inl refl)
-lands_config place heard None None = inr (refl, inl refl)
-lands_config place false None (Some (Err step)) = inl refl
-lands_config place true None (Some (Err step)) = inl refl
-lands_config place false None (Some (Ok config)) = inr (refl, inl refl)
-lands_config place true None (Some (Ok config)) = inr (refl, inr refl)
-
-own_first_config : (p : Providers) (place : ℕ) (heard : Bool) (config : Option Configuration)
-    (read : Option (Answer Configuration ProviderStep))
-    → IfSome (option_and_then result_ok read) (λ c. is_provider p (host_of c.accounts) ≡ true)
-    → AllOwn p (config_reply place heard config read).effects
-own_first_config p place heard (Some config) read known = (tt, tt)
-own_first_config p place heard None None known = (tt, tt)
-own_first_config p place false None (Some (Err step)) known = (tt, tt)
-own_first_config p place true None (Some (Err step)) known = (tt, tt)
-own_first_config p place false None (Some (Ok config)) known = tt
-own_first_config p place true None (Some (Ok config)) known = (known, tt)
-
-own_read : (p : Providers) (raw : List ℕ) (q q' : Option ProviderOptions) → IfBoth (SameProvider p) q q'
-    → IfSome (option_and_then result_ok (config_read raw q)) (λ c. is_provider p (host_of c.accounts) ≡ true)
-own_read p raw None q' h = tt
-own_read p raw (Some q) None h = absurd h
-own_read p raw (Some q) (Some q') h = go (ConfigOf raw q.config) refl
+lists_same : (p : Providers) (kept kept' : List Triple) (page page' : Origin) (n : ℕ) (qs qs' : List ProviderOptions)
+    → AllZip (SameProvider p) qs qs' → (progress : List Progress)
+    → AllZip (SameList p) (shortlists kept page n qs progress) (shortlists kept' page' n qs' progress)
+lists_same p kept kept' page page' n [] [] h progress = tt
+lists_same p kept kept' page page' n [] (q' ∷ qs') h progress = absurd h
+lists_same p kept kept' page page' n (q ∷ qs) [] h progress = absurd h
+lists_same p kept kept' page page' n (q ∷ qs) (q' ∷ qs') h [] = tt
+lists_same p kept kept' page page' n (q ∷ qs) (q' ∷ qs') h (g ∷ more) =
+    go g (lists_same p kept kept' page page' (suc n) qs qs' h.1 more)
   where
-    go : (read : Answer Configuration ProviderStep) → ConfigOf raw q.config ≡ read
-        → IfSome (result_ok read) (λ c. is_provider p (host_of c.accounts) ≡ true)
-    go (Err step) e = tt
-    go (Ok config) e = own_config p raw q.config config e h.known
+    go : (g : Progress)
+        → AllZip (SameList p) (shortlists kept page (suc n) qs more) (shortlists kept' page' (suc n) qs' more)
+        → AllZip (SameList p) (shortlists kept page n (q ∷ qs) (g ∷ more)) (shortlists kept' page' n (q' ∷ qs') (g ∷ more))
+    go (progress_is.Listed config accounts) rest =
+        (record { options = h.0; config = refl; place = refl; accounts = refl; kept = lengths _ _ accounts }, rest)
+    go (progress_is.Reading replies) rest = rest
+    go (progress_is.Listing config) rest = rest
+    go (progress_is.Dropped failure) rest = rest
 
-module _ (p : Providers) (w w' : World) (agree : AgreeWorlds p w w') (f f' : Facts) (s : SameFacts p f f') where
-  rules_same : w.rules ≡ w'.rules
-  rules_same = agree.rules ∙ sym agree.rules'
+append_zip : {A B : Type 0} (R : A → B → Type 0) (xs : List A) (ys : List B) (us : List A) (vs : List B)
+    → AllZip R xs ys → AllZip R us vs → AllZip R (xs ++ us) (ys ++ vs)
+append_zip R [] [] us vs h k = k
+append_zip R [] (y ∷ ys) us vs h k = absurd h
+append_zip R (x ∷ xs) [] us vs h k = absurd h
+append_zip R (x ∷ xs) (y ∷ ys) us vs h k = (h.0, append_zip R xs ys us vs h.1 k)
 
-  pub both : (place : ℕ) → IfBoth (SameProvider p) (provider_at place f.options) (provider_at place f'.options)
-  both place = providers_both p f.options f'.options s.said.options place
+-- of one provider, by its accounts
+accounts_same : (p : Providers) (a b : Shortlist) → SameList p a b → (client client' : List ℕ) (accounts : List Account)
+    (kept kept' : List Bool) → length kept ≡ length kept'
+    → AllZip (SameOffered p) (map (offered_by a) (map (candidate_by client) (zip accounts kept)))
+    (map (offered_by b) (map (candidate_by client') (zip accounts kept')))
+accounts_same p a b same client client' [] kept kept' e = tt
+accounts_same p a b same client client' (x ∷ xs) [] [] e = tt
+accounts_same p a b same client client' (x ∷ xs) [] (k' ∷ kept') e = absurd (omega (arith, e))
+accounts_same p a b same client client' (x ∷ xs) (k ∷ kept) [] e = absurd (omega (arith, e))
+accounts_same p a b same client client' (x ∷ xs) (k ∷ kept) (k' ∷ kept') e = (
+  record { place = same.place; options = same.options; config = same.config; account = refl },
+  accounts_same p a b same client client' xs kept kept' (omega (arith, e)),
+)
 
-  heard_by : (place : ℕ) (raw : List ℕ) (ign : Bool)
-      → SameData p (with_input w ign (inputs.Reply place kinds.WellKnown raw) f)
-      (with_input w' ign (inputs.Reply place kinds.WellKnown raw) f')
-  heard_by place raw true = s.said
-  heard_by place raw false = same_heard p f f' s.said
+offered_same : (p : Providers) (a b : Shortlist) → SameList p a b → AllZip (SameOffered p) (offered_of a) (offered_of b)
+offered_same p a b same =
+    subst (λ accounts. AllZip (SameOffered p) (offered_of a)
+    (map (offered_by b) (map (candidate_by b.offer.client) (zip accounts b.offer.kept)))) same.accounts
+    (accounts_same p a b same a.offer.client b.offer.client a.offer.accounts a.offer.kept b.offer.kept same.kept)
 
-  wellknown_kept : (place : ℕ) (raw : List ℕ) (ign : Bool)
-      → f.config ≡ (with_input w ign (inputs.Reply place kinds.WellKnown raw) f).config
-  wellknown_kept place raw true = refl
-  wellknown_kept place raw false = refl
+all_same : (p : Providers) (lists lists' : List Shortlist) → AllZip (SameList p) lists lists'
+    → AllZip (SameOffered p) (all_offered lists) (all_offered lists')
+all_same p [] [] h = tt
+all_same p [] (b ∷ lists') h = absurd h
+all_same p (a ∷ lists) [] h = absurd h
+all_same p (a ∷ lists) (b ∷ lists') h =
+    append_zip (SameOffered p) (offered_of a) (offered_of b) (all_offered lists) (all_offered lists') (offered_same p a b h.0)
+    (all_same p lists lists' h.1)
 
-  wellknowns_same : (place : ℕ) (raw : List ℕ)
-      → wellknown_of w.rules raw (provider_at place f.options) ≡ wellknown_of w'.rules raw (provider_at place f'.options)
-  wellknowns_same place raw =
-      ap (λ r. wellknown_of r raw (provider_at place f.options)) rules_same
-      ∙ by_config p (λ c. wellknown_read w'.rules c raw) (provider_at place f.options) (provider_at place f'.options) (both place)
+-- ---- what a call comes to
 
-  pub keeps_wellknown : (place : ℕ) (raw : List ℕ) → f.stage ≡ Reading
-      → Keeps p w w' f f' (inputs.Reply place kinds.WellKnown raw) (inputs.Reply place kinds.WellKnown raw)
-      (wellknown_reply place f.heard f.config (wellknown_of w.rules raw (provider_at place f.options)))
-      (wellknown_reply place f'.heard f'.config (wellknown_of w'.rules raw (provider_at place f'.options)))
-  keeps_wellknown place raw at =
-      let i = inputs.Reply place kinds.WellKnown raw in
-      let read = wellknown_of w.rules raw (provider_at place f.options) in
-      let o = wellknown_reply place f.heard f.config read in
-      let same : o ≡ wellknown_reply place f'.heard f'.config (wellknown_of w'.rules raw (provider_at place f'.options)) =
-      ap (λ h. wellknown_reply place h f.config read) s.said.heard ∙ ap (λ c. wellknown_reply place f'.heard c read) s.said.config
-      ∙ ap (wellknown_reply place f'.heard f'.config) (wellknowns_same place raw) in
-      subst (Keeps p w w' f f' i i o) same
-      (keeps_row p w w' f f' s i i o (own_wellknown p place f.heard f.config read s.said.known) (heard_by place raw)
-      (subst (λ st. Lands (unwrap_or o.stage st) (with_input w (list_any is_ignored o.effects) i f).config) (sym at)
-      (subst (Lands (unwrap_or o.stage Reading)) (wellknown_kept place raw (list_any is_ignored o.effects))
-      (lands_wellknown place f.heard f.config read))))
+-- no account is signed in again without the user
+abbrev pub ReselectsNone : Conclusion → Type 0
+ReselectsNone (Reselects offered) = ⊥
+ReselectsNone _ = ⊤
 
-  configs_same : (place : ℕ) (raw : List ℕ)
-      → config_read raw (provider_at place f.options) ≡ config_read raw (provider_at place f'.options)
-  configs_same place raw = by_config p (ConfigOf raw) (provider_at place f.options) (provider_at place f'.options) (both place)
+-- the same, as far as providers can tell
+abbrev pub SameConclusion : Providers → Conclusion → Conclusion → Type 0
+SameConclusion p Awaits Awaits = ⊤
+SameConclusion p (NoneLeft failure) (NoneLeft failure') = ⊤
+SameConclusion p NoneSilent NoneSilent = ⊤
+SameConclusion p (Offers offered) (Offers offered') = AllZip (SameOffered p) offered offered'
+SameConclusion p (Prompts offered) (Prompts offered') = SameOffered p offered offered'
+SameConclusion p _ _ = ⊥
 
-  config_by : (place : ℕ) (raw : List ℕ) (ign : Bool)
-      → SameData p (with_input w ign (inputs.Reply place kinds.Config raw) f) (with_input w' ign (inputs.Reply place kinds.Config raw) f')
-  config_by place raw true = s.said
-  config_by place raw false =
-      same_config p f f' s.said _ _ (ap (option_and_then result_ok) (configs_same place raw))
-      (own_read p raw (provider_at place f.options) (provider_at place f'.options) (both place))
+same_left : (p : Providers) (progress : List Progress) → SameConclusion p (none_left progress) (none_left progress)
+same_left p [] = tt
+same_left p (progress_is.Reading replies ∷ progress) = tt
+same_left p (progress_is.Listing config ∷ progress) = tt
+same_left p (progress_is.Listed config accounts ∷ progress) = tt
+same_left p (progress_is.Dropped failure ∷ progress) = tt
 
-  config_kept : (place : ℕ) (raw : List ℕ) (ign : Bool)
-      → taken ign f.config (config_read raw (provider_at place f.options))
-      ≡ (with_input w ign (inputs.Reply place kinds.Config raw) f).config
-  config_kept place raw true = refl
-  config_kept place raw false = refl
+same_number : (p : Providers) (u v : Offered) (us vs : List Offered) → AllZip (SameOffered p) (u ∷ us) (v ∷ vs)
+    → SameConclusion p (by_number u us) (by_number v vs)
+same_number p u v [] [] h = h.0
+same_number p u v [] (z ∷ vs) h = absurd h.1
+same_number p u v (y ∷ us) [] h = absurd h.1
+same_number p u v (y ∷ us) (z ∷ vs) h = h
 
-  pub keeps_config : (place : ℕ) (raw : List ℕ) → f.stage ≡ Reading
-      → Keeps p w w' f f' (inputs.Reply place kinds.Config raw) (inputs.Reply place kinds.Config raw)
-      (config_reply place f.heard f.config (config_read raw (provider_at place f.options)))
-      (config_reply place f'.heard f'.config (config_read raw (provider_at place f'.options)))
-  keeps_config place raw at =
-      let i = inputs.Reply place kinds.Config raw in
-      let read = config_read raw (provider_at place f.options) in
-      let o = config_reply place f.heard f.config read in
-      let same : o ≡ config_reply place f'.heard f'.config (config_read raw (provider_at place f'.options)) =
-      ap (λ h. config_reply place h f.config read) s.said.heard ∙ ap (λ c. config_reply place f'.heard c read) s.said.config
-      ∙ ap (config_reply place f'.heard f'.config) (configs_same place raw) in
-      subst (Keeps p w w' f f' i i o) same
-      (keeps_row p w w' f f' s i i o
-      (own_first_config p place f.heard f.config read
-      (own_read p raw (provider_at place f.options) (provider_at place f'.options) (both place)))
-      (config_by place raw)
-      (subst (λ st. Lands (unwrap_or o.stage st) (with_input w (list_any is_ignored o.effects) i f).config) (sym at)
-      (subst (Lands (unwrap_or o.stage Reading)) (config_kept place raw (list_any is_ignored o.effects))
-      (lands_config place f.heard f.config read))))
+same_silent : (p : Providers) (m : Mediation) (u v : Offered) (us vs : List Offered) → AllZip (SameOffered p) (u ∷ us) (v ∷ vs)
+    → SameConclusion p (unless_silent m u us) (unless_silent m v vs)
+same_silent p Silent u v us vs h = tt
+same_silent p Optional u v us vs h = same_number p u v us vs h
+same_silent p Required u v us vs h = same_number p u v us vs h
+
+same_reselected : (p : Providers) (m : Mediation) (o o' : Option Offered) (u v : Offered) (us vs : List Offered)
+    → AllZip (SameOffered p) (u ∷ us) (v ∷ vs) → ReselectsNone (by_reselected m o u us) → ReselectsNone (by_reselected m o' v vs)
+    → SameConclusion p (by_reselected m o u us) (by_reselected m o' v vs)
+same_reselected p m (Some o) o' u v us vs h none none' = absurd none
+same_reselected p m None (Some o') u v us vs h none none' = absurd none'
+same_reselected p m None None u v us vs h none none' = same_silent p m u v us vs h
+
+same_by_offered : (p : Providers) (m : Mediation) (progress : List Progress) (o o' : Option Offered) (us vs : List Offered)
+    → AllZip (SameOffered p) us vs → ReselectsNone (by_offered m progress o us) → ReselectsNone (by_offered m progress o' vs)
+    → SameConclusion p (by_offered m progress o us) (by_offered m progress o' vs)
+same_by_offered p m progress o o' [] [] h none none' = same_left p progress
+same_by_offered p m progress o o' [] (v ∷ vs) h none none' = absurd h
+same_by_offered p m progress o o' (u ∷ us) [] h none none' = absurd h
+same_by_offered p m progress o o' (u ∷ us) (v ∷ vs) h none none' = same_reselected p m o o' u v us vs h none none'
+
+same_concluded : (p : Providers) (m m' : Mediation) → m ≡ m' → (progress : List Progress) (flag flag' : Bool)
+    (lists lists' : List Shortlist) → AllZip (SameList p) lists lists'
+    → ReselectsNone (concluded m progress flag lists) → ReselectsNone (concluded m' progress flag' lists')
+    → SameConclusion p (concluded m progress flag lists) (concluded m' progress flag' lists')
+same_concluded p m m' e progress flag flag' lists lists' h none none' =
+    subst (λ x. SameConclusion p (concluded m progress flag lists) (concluded x progress flag' lists')) e
+    (same_by_offered p m progress (reselected m flag lists) (reselected m flag' lists') (all_offered lists) (all_offered lists')
+    (all_same p lists lists' h) none
+    (subst (λ x. ReselectsNone (concluded x progress flag' lists')) (sym e) none'))
+
+-- whatever the flags and the permissions, where none is reselected in either world
+pub same_conclusion : (p : Providers) (w w' : World) (o u : Origin) (a b : GetOptions) → SameOptions p a b
+    → (progress progress' : List Progress) → progress ≡ progress'
+    → ReselectsNone (conclusion_of w o a progress) → ReselectsNone (conclusion_of w' u b progress')
+    → SameConclusion p (conclusion_of w o a progress) (conclusion_of w' u b progress')
+same_conclusion p w w' o u a b same progress progress' e none none' =
+    subst (λ g. SameConclusion p (conclusion_of w o a progress) (conclusion_of w' u b g)) e
+    (go (list_any is_awaited progress) none (subst (λ g. ReselectsNone (conclusion_of w' u b g)) (sym e) none'))
+  where
+    go : (awaited : Bool) → ReselectsNone (by_awaited w o a progress awaited) → ReselectsNone (by_awaited w' u b progress awaited)
+        → SameConclusion p (by_awaited w o a progress awaited) (by_awaited w' u b progress awaited)
+    go true n n' = tt
+    go false n n' =
+        same_concluded p a.mediation b.mediation same.mediation progress (has_flag w.flags o) (has_flag w'.flags u)
+        (shortlists w.kept o 0 a.providers progress) (shortlists w'.kept u 0 b.providers progress)
+        (lists_same p w.kept w'.kept o u 0 a.providers b.providers same.providers progress) n n'
+
+-- ---- what it does then
+
+pub prompt_untold : (w : World) (f : Facts) (o : Offered) (b : Bool) (to : Option Parts) → told_effect (prompt_effect w f o b to) ≡ None
+prompt_untold w f o true to = refl
+prompt_untold w f o false None = refl
+prompt_untold w f o false (Some to) = refl
+
+pub prompt_taken : (w : World) (f : Facts) (o : Offered) (b : Bool) (to : Option Parts) → is_ignored (prompt_effect w f o b to) ≡ false
+prompt_taken w f o true to = refl
+prompt_taken w f o false None = refl
+prompt_taken w f o false (Some to) = refl
+
+pub prompt_own : (p : Providers) (w : World) (f : Facts) (o : Offered) (b : Bool) (to : Option Parts) → OwnSend p (prompt_effect w f o b to)
+prompt_own p w f o true to = tt
+prompt_own p w f o false None = tt
+prompt_own p w f o false (Some to) = tt
+
+-- an outcome asks for no token
+abbrev pub IsQuiet : Outcome → Type 0
+IsQuiet o = filter_map asks_token o.effects ≡ []
+
+-- a token is asked for where an account is reselected
+pub quiet_conclusion : (w : World) (f : Facts) (c : Conclusion) → IsQuiet (concludes w f c) → ReselectsNone c
+quiet_conclusion w f Awaits quiet = tt
+quiet_conclusion w f (NoneLeft failure) quiet = tt
+quiet_conclusion w f (Reselects offered) quiet = absurd (cc)
+quiet_conclusion w f NoneSilent quiet = tt
+quiet_conclusion w f (Offers offered) quiet = tt
+quiet_conclusion w f (Prompts offered) quiet = tt
+
+pub concludes_same : (p : Providers) (w w' : World) (f f' : Facts) (c c' : Conclusion) → SameConclusion p c c'
+    → SameOutcome p (concludes w f c) (concludes w' f' c')
+concludes_same p w w' f f' Awaits Awaits h = record { stage = refl; told = refl; own = tt }
+concludes_same p w w' f f' (NoneLeft failure) (NoneLeft failure') h = record { stage = refl; told = refl; own = (tt, tt) }
+concludes_same p w w' f f' NoneSilent NoneSilent h = record { stage = refl; told = refl; own = (tt, tt) }
+concludes_same p w w' f f' (Offers us) (Offers vs) h = record { stage = refl; told = refl; own = (tt, tt) }
+concludes_same p w w' f f' (Prompts o) (Prompts o') h =
+    record {
+      stage = refl;
+      told =
+          ap (λ e. cons_option e []) (prompt_untold w f o o.candidate.connected o.config.metadata)
+          ∙ sym (ap (λ e. cons_option e []) (prompt_untold w' f' o' o'.candidate.connected o'.config.metadata));
+      own = (prompt_own p w f o o.candidate.connected o.config.metadata, tt);
+    }
+concludes_same p w w' f f' _ _ h = absurd h
+
+pub concludes_taken : (w : World) (f : Facts) (c : Conclusion) → list_any is_ignored (concludes w f c).effects ≡ false
+concludes_taken w f Awaits = refl
+concludes_taken w f (NoneLeft failure) = refl
+concludes_taken w f (Reselects offered) = refl
+concludes_taken w f NoneSilent = refl
+concludes_taken w f (Offers offered) = refl
+concludes_taken w f (Prompts o) = ap (λ b. b || false) (prompt_taken w f o o.candidate.connected o.config.metadata)
+
+-- where it goes on, it asked for no token
+pub concludes_lands : (w : World) (f : Facts) (c : Conclusion) → ReselectsNone c → (stage : Stage) → Lands stage
+    → Lands (unwrap_or (concludes w f c).stage stage)
+concludes_lands w f Awaits none stage lands = lands
+concludes_lands w f (NoneLeft failure) none stage lands = inl refl
+concludes_lands w f (Reselects offered) none stage lands = absurd none
+concludes_lands w f NoneSilent none stage lands = inl refl
+concludes_lands w f (Offers offered) none stage lands = inr refl
+concludes_lands w f (Prompts offered) none stage lands = inr refl
+
+-- ---- what is known
+
+module _ (p : Providers) (f f' : Facts) (d : SameData p f f') where
+  pub same_waits : (b b' : Bool) → SameData p (record f { waits = b }) (record f' { waits = b' })
+  same_waits b b' = record { options = d.options; progress = d.progress; known = d.known; offered = d.offered }
+
+  pub same_picked : (o o' : Offered) → SameData p (with_picked o f) (with_picked o' f')
+  same_picked o o' = record { options = d.options; progress = refl; known = tt; offered = tt }
+
+  pub same_ended : (c c' : Conclusion) → SameConclusion p c c' → SameData p (with_conclusion c f) (with_conclusion c' f')
+  same_ended Awaits Awaits h = d
+  same_ended (NoneLeft failure) (NoneLeft failure') h = d
+  same_ended NoneSilent NoneSilent h = d
+  same_ended (Offers us) (Offers vs) h = record { options = d.options; progress = refl; known = tt; offered = h }
+  same_ended (Prompts o) (Prompts o') h = same_picked o o'
+  same_ended _ _ h = absurd h
+
+  pub same_progress : (place : ℕ) (progress : Progress) → HasOwn p progress
+      → SameData p (with_progress place progress f) (with_progress place progress f')
+  same_progress place progress own =
+      record {
+        options = d.options;
+        progress = ap (λ xs. slice_set xs place progress) d.progress;
+        known = set_all (HasOwn p) f.progress place progress d.known own;
+        offered = d.offered;
+      }
+    where
+      set_all : (P : Progress → Type 0) (xs : List Progress) (n : ℕ) (x : Progress) → AllByRecursion P xs → P x
+          → AllByRecursion P (slice_set xs n x)
+      set_all P [] n x all own = tt
+      set_all P (y ∷ ys) zero x all own = (own, all.1)
+      set_all P (y ∷ ys) (suc n) x all own = (all.0, set_all P ys n x all.1 own)

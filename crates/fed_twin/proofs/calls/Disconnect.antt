@@ -112,6 +112,7 @@ stage_later world facts stages.Reading kind raw =
 stage_later world facts stages.Asserting kind raw = sending_later world.kept facts.origin (provider_origin facts.options) kind raw
 stage_later world facts stages.Listing kind raw = record { flags = refl; firsts = refl; shut = refl }
 stage_later world facts stages.Mismatch kind raw = record { flags = refl; firsts = refl; shut = refl }
+stage_later world facts stages.Gathering kind raw = record { flags = refl; firsts = refl; shut = refl }
 stage_later world facts stages.Window kind raw = record { flags = refl; firsts = refl; shut = refl }
 stage_later world facts stages.Choosing kind raw = record { flags = refl; firsts = refl; shut = refl }
 stage_later world facts stages.Prompting kind raw = record { flags = refl; firsts = refl; shut = refl }

@@ -129,6 +129,7 @@ disconnect_unseen p w ck call page (does.Send place ask ∷ es) none = disconnec
 disconnect_unseen p w ck call page (does.Finish finish ∷ es) none = disconnect_unseen p w ck call page es none
 disconnect_unseen p w ck call page (does.Ignored why ∷ es) none = disconnect_unseen p w ck call page es none
 disconnect_unseen p w ck call page (does.Dialog dialog ∷ es) none = disconnect_unseen p w ck call page es none
+disconnect_unseen p w ck call page (does.Dropped place failure ∷ es) none = disconnect_unseen p w ck call page es none
 disconnect_unseen p w ck call page (does.Window place url ∷ es) none = disconnect_unseen p w ck call page es none
 disconnect_unseen p w ck call page (does.Keep triple ∷ es) none = disconnect_unseen p w ck call page es none
 disconnect_unseen p w ck call page (does.Forget triple ∷ es) none = disconnect_unseen p w ck call page es none

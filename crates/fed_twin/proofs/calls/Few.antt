@@ -1,33 +1,24 @@
--- A call does at most three things at an event, and clears a flag only where it waits for a token.
-use Rattle.std.proofs.Common.{◌≡◌, ℕ, ◌≤◌, Bool, true, false, List, [], ◌∷◌, length, Option, Some, None, Ok, Err, refl}
-use Rattle.std.proofs.Common.{ap, ◌∙◌}
-use Rattle.std.proofs.Common.{arith, lit≤}
-use Rattle.std.specs.Prelude.{Result, option_and_then, not}
-use Rattle.std.specs.List.{filter_map, cons_option}
+-- A call does at most three things at an input, and clears a flag only where it waits for a token.
+use Rattle.std.proofs.Common.{◌≡◌, ℕ, suc, ◌+◌, ◌≤◌, Bool, true, false, ◌||◌, List, [], ◌∷◌, ◌++◌, map, length, append-nil, Option, Some}
+use Rattle.std.proofs.Common.{None, Ok, Err, refl, sym}
+use Rattle.std.proofs.Common.{ap, subst, ◌∙◌, arith, lit≤}
+use Rattle.std.proofs.lemmas.List.{length-append}
+use Rattle.std.proofs.lemmas.List.Elements.{filter_map-append}
+use Rattle.std.specs.Prelude.{Result}
+use Rattle.std.specs.List.{filter_map, cons_option, list_any}
 use Rattle.url.specs.Parts.{Parts}
 use Rattle.fed_origin.specs.declared.options.GetOptions.{GetOptions}
-use Rattle.fed_origin.specs.declared.options.Mediation.{Mediation}
-use Rattle.fed_origin.specs.declared.options.Mediation.TheVariants.{Silent, Optional, Required}
+use Rattle.fed_origin.specs.declared.options.Mode.{Mode}
 use Rattle.fed_origin.specs.declared.options.ProviderOptions.{ProviderOptions}
 use Rattle.fed_origin.specs.declared.origin.Origin.{Origin}
-use Rattle.fed_origin.specs.declared.scheme.Scheme.{Scheme}
-use Rattle.fed_origin.specs.declared.scheme.Scheme.TheVariants.{Http, Https}
 use Rattle.fed_origin.specs.declared.stage.ReplyKind.{ReplyKind}
 use Rattle.fed_origin.specs.declared.stage.ReplyKind.TheVariants as kinds
 use Rattle.fed_origin.specs.declared.stage.Stage.{Stage}
 use Rattle.fed_origin.specs.declared.stage.Stage.TheVariants as stages
 use Rattle.fed_origin.specs.declared.status.LoginStatus.TheVariants.{LoggedIn, LoggedOut}
 use Rattle.fed_origin.specs.Origin.{origin_text}
-use Rattle.fed_origin.specs.WebUrl.{origin_of, scheme_of}
-use Rattle.fed_suffix.specs.Rule.{RuleSet}
+use Rattle.fed_origin.specs.WebUrl.{origin_of}
 use Rattle.fed_provider.specs.declared.config.Config.{Config}
-use Rattle.fed_provider.specs.declared.metadata.PolicyLinks.{PolicyLinks}
-use Rattle.fed_provider.specs.declared.step.ProviderStep.{ProviderStep}
-use Rattle.fed_provider.specs.FirstReplies.{config_read, wellknown_of}
-use Rattle.fed_provider.specs.Metadata.{MetadataOf}
-use Rattle.fed_provider.specs.WellKnown.{WellKnownUrlOf}
-use Rattle.fed_accounts.specs.declared.account.Account.{Account}
-use Rattle.fed_accounts.specs.declared.step.AccountsStep.{AccountsStep}
 use Rattle.fed_token.specs.declared.step.TokenStep.{TokenStep}
 use Rattle.fed_token.specs.Read.{AssertionOf}
 use Rattle.fed_status.specs.Flags.{has_flag}
@@ -35,27 +26,31 @@ use Rattle.fed_status.specs.Login.{status_of}
 use Rattle.fed_status.specs.Shared.{World}
 use Rattle.fed_consent.specs.declared.table.effect.Effect.{Effect as CallEffect}
 use Rattle.fed_consent.specs.declared.table.effect.Effect.TheVariants as does
-use Rattle.fed_consent.specs.declared.table.effect.Effect.TheVariants.{SetLogin}
 use Rattle.fed_consent.specs.declared.table.failure.Failure.{Failure}
-use Rattle.fed_consent.specs.declared.table.finish.Finish.TheVariants.{Token}
+use Rattle.fed_consent.specs.declared.table.failure.FailStep.{FailStep}
+use Rattle.fed_consent.specs.declared.table.failure.FailStep.TheVariants as steps
+use Rattle.fed_consent.specs.declared.table.finish.Finish.TheVariants.{Failed, Token}
 use Rattle.fed_consent.specs.declared.table.input.Input.{Input}
 use Rattle.fed_consent.specs.declared.table.input.Input.TheVariants as inputs
-use Rattle.fed_consent.specs.declared.consent.manner.Manner.TheVariants.{Chosen, Prompted}
-use Rattle.fed_consent.specs.Consent.{Agreement, Candidate, Pick, by_reselection, chosen}
-use Rattle.fed_consent.specs.Failures.{accounts_failure}
-use Rattle.fed_consent.specs.Outcomes.{Outcome, after, finishes, only_place}
-use Rattle.fed_call.specs.Accounts.{accounts_of, candidate_of}
-use Rattle.fed_call.specs.AssertingRows.{asserts, clears, keeps, by_token, assertion_reply, asserting_reply}
-use Rattle.fed_call.specs.DialogRows.{links_shown, metadata_reply, prompting_reply, agreed_to, settles, choice, chose, goes_on, went_on}
-use Rattle.fed_call.specs.DialogRows.{cancelled}
-use Rattle.fed_call.specs.Facts.{Facts, provider_at, metadata_endpoint, reselected}
-use Rattle.fed_call.specs.ListingRows.{is_mismatch, by_mismatch, by_window, prompt_effect, prompts, offers, unless_silent, by_reselected}
-use Rattle.fed_call.specs.ListingRows.{by_accounts}
-use Rattle.fed_call.specs.ListingRows.{accounts_reply, listing_reply, site_of}
-use Rattle.fed_call.specs.ReadingRows.{start_at, by_scheme, by_activation, by_silence, by_gate, lacks_activation, is_prevented, is_gated}
-use Rattle.fed_call.specs.ReadingRows.{first_wellknown, first_config}
-use Rattle.fed_call.specs.ReadingRows.{wellknown_reply, config_reply, reading_reply}
-use Rattle.fed_call.specs.Row.{stage_reply, input_row}
+use Rattle.fed_consent.specs.Failures.{plain}
+use Rattle.fed_consent.specs.Outcomes.{Outcome, after, fails, finishes, only_place, stays}
+use Rattle.fed_call.specs.declared.progress.Progress.{Progress}
+use Rattle.fed_call.specs.declared.progress.Progress.TheVariants as progress_is
+use Rattle.fed_call.specs.Accounts.{Offered, provider_at}
+use Rattle.fed_call.specs.AssertingRows.{clears, by_token, assertion_reply, asserting_reply, picked_at}
+use Rattle.fed_call.specs.DialogRows.{metadata_reply, prompting_reply, by_connection, choice, chose, goes_on, went_on, cancelled}
+use Rattle.fed_call.specs.Dialogs.{prompt_effect, prompts, site_of}
+use Rattle.fed_call.specs.Facts.{Facts, Conclusion, Awaits, NoneLeft, Reselects, NoneSilent, Offers, Prompts, came_at, conclusion_of}
+use Rattle.fed_call.specs.Facts.{config_at}
+use Rattle.fed_call.specs.Facts.{by_awaited, found_offered, is_single, with_progress}
+use Rattle.fed_call.specs.GatheringRows.{opens, opens_from, gathers, first_settles, start_all, start_several, by_prevented, by_twice}
+use Rattle.fed_call.specs.GatheringRows.{by_active, is_twice, is_active, gathering_came}
+use Rattle.fed_call.specs.Progress.{Came, Unawaited, Refused, Waits, Both, NoneFits, Fit, Closed, NotSecure, Siteless, Gated}
+use Rattle.fed_call.specs.Progress.{first_progress, is_awaited, opened, opening}
+use Rattle.fed_call.specs.ReadingRows.{start_by, lacks_activation, is_prevented}
+use Rattle.fed_call.specs.Row.{start_with, came_row, provider_row, stage_reply, input_row}
+use Rattle.fed_call.specs.SettledRows.{concludes, settles}
+use Rattle.fed_call.specs.SingleRows.{single_came, by_mismatch, by_window, is_mismatch}
 use Rattle.fed_call.specs.WindowRows.{may_sign_in, opens_window, asked_to_sign_in, asks_again, resumed, window_shut}
 use Rattle.fed_trace.specs.Call.{get_outcome}
 use Rattle.fed_twin.specs.Same.{is_open}
@@ -65,225 +60,296 @@ abbrev pub clears_flag : CallEffect → Option Origin
 clears_flag (does.ClearFlag origin) = Some origin
 clears_flag _ = None
 
--- few things, and no flag is cleared
-pub record IsSmall (outcome : Outcome) : Type 0 where
-  pub few : length outcome.effects ≤ 3
+-- at most so many things, and no flag is cleared
+pub record Clears (most : ℕ) (outcome : Outcome) : Type 0 where
+  pub few : length outcome.effects ≤ most
   pub flags : filter_map clears_flag outcome.effects ≡ []
 
--- ---- a call that asked for no token
+-- one thing more, which is no flag
+more : (most : ℕ) (effect : CallEffect) → clears_flag effect ≡ None → (outcome : Outcome) → Clears most outcome
+    → Clears (suc most) (after effect outcome)
+more most effect none outcome h =
+    record {
+      few = omega (arith, h.few);
+      flags = ap (λ o. cons_option o (filter_map clears_flag outcome.effects)) none ∙ h.flags;
+    }
 
-small_gate : (place : ℕ) (config wellknown : Parts) (gated : Bool) → IsSmall (by_gate place config wellknown gated)
-small_gate place config wellknown true = record { few = lit≤ tt; flags = refl }
-small_gate place config wellknown false = record { few = lit≤ tt; flags = refl }
+-- few are not too many
+at_most : (most other : ℕ) (outcome : Outcome) → most ≤ other → Clears most outcome → Clears other outcome
+at_most most other outcome e h = record { few = omega (arith, e, h.few); flags = h.flags }
 
-small_silence : (place : ℕ) (config wellknown : Parts) (prevented gated : Bool)
-    → IsSmall (by_silence place config wellknown prevented gated)
-small_silence place config wellknown true gated = record { few = lit≤ tt; flags = refl }
-small_silence place config wellknown false gated = small_gate place config wellknown gated
+-- ---- a get
 
-small_activation : (place : ℕ) (config : Parts) (wellknown : Result Parts ProviderStep) (lacking prevented gated : Bool)
-    → IsSmall (by_activation place config wellknown lacking prevented gated)
-small_activation place config wellknown true prevented gated = record { few = lit≤ tt; flags = refl }
-small_activation place config (Err step) false prevented gated = record { few = lit≤ tt; flags = refl }
-small_activation place config (Ok wellknown) false prevented gated = small_silence place config wellknown prevented gated
+small_first : (provider : ProviderOptions) (opening : Result Parts Closed) (lacking prevented : Bool)
+    → Clears 2 (start_by provider opening lacking prevented)
+small_first provider (Err NotSecure) lacking prevented = record { few = lit≤ tt; flags = refl }
+small_first provider (Err Siteless) true prevented = record { few = lit≤ tt; flags = refl }
+small_first provider (Err Siteless) false prevented = record { few = lit≤ tt; flags = refl }
+small_first provider (Err Gated) true prevented = record { few = lit≤ tt; flags = refl }
+small_first provider (Err Gated) false true = record { few = lit≤ tt; flags = refl }
+small_first provider (Err Gated) false false = record { few = lit≤ tt; flags = refl }
+small_first provider (Ok wellknown) true prevented = record { few = lit≤ tt; flags = refl }
+small_first provider (Ok wellknown) false true = record { few = lit≤ tt; flags = refl }
+small_first provider (Ok wellknown) false false = record { few = lit≤ tt; flags = refl }
 
-small_scheme : (place : ℕ) (scheme : Scheme) (config : Parts) (wellknown : Result Parts ProviderStep) (lacking prevented gated : Bool)
-    → IsSmall (by_scheme place scheme config wellknown lacking prevented gated)
-small_scheme place Http config wellknown lacking prevented gated = record { few = lit≤ tt; flags = refl }
-small_scheme place Https config wellknown lacking prevented gated = small_activation place config wellknown lacking prevented gated
+small_opens : (world : World) (mode : Mode) (n : ℕ) (providers : List ProviderOptions)
+    → filter_map clears_flag (opens_from world mode n providers) ≡ []
+small_opens world mode n [] = refl
+small_opens world mode n (provider ∷ providers) = go (opening world mode provider) (small_opens world mode (suc n) providers)
+  where
+    go : (o : Result Parts Closed) → filter_map clears_flag (opens_from world mode (suc n) providers) ≡ []
+        → filter_map clears_flag (opens n provider.config o ++ opens_from world mode (suc n) providers) ≡ []
+    go (Ok wellknown) rest = rest
+    go (Err closed) rest = rest
 
-small_start : (world : World) (origin : Origin) (options : GetOptions) (place : ℕ) (provider : Option ProviderOptions)
-    → IsSmall (start_at world origin options place provider)
-small_start world origin options place None = record { few = lit≤ tt; flags = refl }
-small_start world origin options place (Some provider) =
-    small_scheme place (scheme_of provider.config) provider.config (WellKnownUrlOf world.rules provider.config)
-    (lacks_activation options.mode options.activation) (is_prevented options.mediation (has_flag world.flags origin))
-    (is_gated options.mode (status_of world.login (origin_of provider.config)))
+-- ---- where all are settled
 
-pub small_get : (world : World) (busy : Bool) (origin : Origin) (options : GetOptions) → IsSmall (get_outcome world busy origin options)
-small_get world true origin options = record { few = lit≤ tt; flags = refl }
-small_get world false origin options = small_start world origin options only_place (provider_at only_place options)
+small_prompt : (world : World) (facts : Facts) (offered : Offered) (connected : Bool) (endpoint : Option Parts)
+    → filter_map clears_flag (prompt_effect world facts offered connected endpoint ∷ []) ≡ []
+small_prompt world facts offered true endpoint = refl
+small_prompt world facts offered false None = refl
+small_prompt world facts offered false (Some to) = refl
 
-small_first_wellknown : (place : ℕ) (config : Option Config) (read : Result (Unit {0}) ProviderStep)
-    → IsSmall (first_wellknown place config read)
-small_first_wellknown place config (Err step) = record { few = lit≤ tt; flags = refl }
-small_first_wellknown place None (Ok u) = record { few = lit≤ tt; flags = refl }
-small_first_wellknown place (Some config) (Ok u) = record { few = lit≤ tt; flags = refl }
+small_prompts : (world : World) (facts : Facts) (offered : Offered) → Clears 1 (prompts world facts offered)
+small_prompts world facts offered =
+    record { few = lit≤ tt; flags = small_prompt world facts offered offered.candidate.connected offered.config.metadata }
 
-small_wellknown : (place : ℕ) (heard : Bool) (config : Option Config) (read : Option (Result (Unit {0}) ProviderStep))
-    → IsSmall (wellknown_reply place heard config read)
-small_wellknown place true config read = record { few = lit≤ tt; flags = refl }
-small_wellknown place false config None = record { few = lit≤ tt; flags = refl }
-small_wellknown place false config (Some read) = small_first_wellknown place config read
+small_conclusion : (world : World) (facts : Facts) (c : Conclusion) → Clears 1 (concludes world facts c)
+small_conclusion world facts Awaits = record { few = lit≤ tt; flags = refl }
+small_conclusion world facts (NoneLeft failure) = record { few = lit≤ tt; flags = refl }
+small_conclusion world facts (Reselects offered) = record { few = lit≤ tt; flags = refl }
+small_conclusion world facts NoneSilent = record { few = lit≤ tt; flags = refl }
+small_conclusion world facts (Offers offered) = record { few = lit≤ tt; flags = refl }
+small_conclusion world facts (Prompts offered) = small_prompts world facts offered
 
-small_first_config : (place : ℕ) (heard : Bool) (read : Result Config ProviderStep) → IsSmall (first_config place heard read)
-small_first_config place heard (Err step) = record { few = lit≤ tt; flags = refl }
-small_first_config place false (Ok config) = record { few = lit≤ tt; flags = refl }
-small_first_config place true (Ok config) = record { few = lit≤ tt; flags = refl }
+small_settles : (world : World) (facts : Facts) → Clears 1 (settles world facts)
+small_settles world facts = small_conclusion world facts (conclusion_of world facts.origin facts.options facts.progress)
 
-small_config : (place : ℕ) (heard : Bool) (config : Option Config) (read : Option (Result Config ProviderStep))
-    → IsSmall (config_reply place heard config read)
-small_config place heard (Some config) read = record { few = lit≤ tt; flags = refl }
-small_config place heard None None = record { few = lit≤ tt; flags = refl }
-small_config place heard None (Some read) = small_first_config place heard read
+-- ---- a get with several providers
 
-small_reading : (rules : RuleSet) (heard : Bool) (config : Option Config) (place : ℕ) (provider : Option ProviderOptions)
-    (kind : ReplyKind)
-    (raw : List ℕ)
-    → IsSmall (reading_reply rules heard config place provider kind raw)
-small_reading rules heard config place provider kinds.WellKnown raw = small_wellknown place heard config (wellknown_of rules raw provider)
-small_reading rules heard config place provider kinds.Config raw = small_config place heard config (config_read raw provider)
-small_reading rules heard config place provider _ raw = record { few = lit≤ tt; flags = refl }
+-- two things at most for each, and one where it drops out
+few_opens : (world : World) (mode : Mode) (n : ℕ) (providers : List ProviderOptions)
+    → length (opens_from world mode n providers) ≤ length providers + length providers
+few_opens world mode n [] = lit≤ tt
+few_opens world mode n (provider ∷ providers) = go (opening world mode provider) (few_opens world mode (suc n) providers)
+  where
+    go : (o : Result Parts Closed) → length (opens_from world mode (suc n) providers) ≤ length providers + length providers
+        → length (opens n provider.config o ++ opens_from world mode (suc n) providers) ≤ suc (length providers) + suc (length providers)
+    go (Ok wellknown) rest = omega (arith, rest)
+    go (Err closed) rest = omega (arith, rest)
 
-small_prompt : (world : World) (facts : Facts) (place : ℕ) (provider : ProviderOptions) (candidate : Candidate) (connected : Bool)
-    (endpoint : Option Parts)
-    → filter_map clears_flag (prompt_effect world facts place provider candidate connected endpoint ∷ []) ≡ []
-small_prompt world facts place provider candidate true endpoint = refl
-small_prompt world facts place provider candidate false None = refl
-small_prompt world facts place provider candidate false (Some to) = refl
+few_dropped : (world : World) (mode : Mode) (n : ℕ) (providers : List ProviderOptions)
+    → list_any is_awaited (map (first_progress world mode) providers) ≡ false
+    → length (opens_from world mode n providers) ≤ length providers
+few_dropped world mode n [] none = lit≤ tt
+few_dropped world mode n (provider ∷ providers) none = go (opening world mode provider) none (few_dropped world mode (suc n) providers)
+  where
+    go : (o : Result Parts Closed) → is_awaited (opened o) || list_any is_awaited (map (first_progress world mode) providers) ≡ false
+        → (list_any is_awaited (map (first_progress world mode) providers) ≡ false
+        → length (opens_from world mode (suc n) providers) ≤ length providers)
+        → length (opens n provider.config o ++ opens_from world mode (suc n) providers) ≤ suc (length providers)
+    go (Ok wellknown) none rest = absurd (cc)
+    go (Err closed) none rest = let less = rest none in omega (arith, less)
 
-small_prompts : (world : World) (facts : Facts) (place : ℕ) (provider : ProviderOptions) (candidate : Candidate)
-    → filter_map clears_flag (prompts world facts place provider candidate).effects ≡ []
-small_prompts world facts place provider candidate =
-    small_prompt world facts place provider candidate candidate.connected (metadata_endpoint facts.config)
+module _ (world : World) (origin : Origin) (options : GetOptions) (several : 2 ≤ length options.providers) where
+  abbrev first : List CallEffect
+  first = opens_from world options.mode 0 options.providers
 
--- after one thing more, which is no flag
-small_after : (effect : CallEffect) → clears_flag effect ≡ None → (outcome : Outcome) → length outcome.effects ≤ 2
-    → filter_map clears_flag outcome.effects ≡ [] → IsSmall (after effect outcome)
-small_after effect none outcome few flags = record {
-  few = omega (arith, few);
-  flags = ap (λ o. cons_option o (filter_map clears_flag outcome.effects)) none ∙ flags;
-}
+  abbrev most : ℕ
+  most = length options.providers + length options.providers
 
-small_refused : (effect : CallEffect) → clears_flag effect ≡ None → (place : ℕ) (site : List ℕ) (failure : Failure) (shown : Bool)
-    → IsSmall (after effect (by_mismatch place site failure shown))
-small_refused effect none place site failure true = small_after effect none _ (lit≤ tt) refl
-small_refused effect none place site failure false = small_after effect none _ (lit≤ tt) refl
+  small_early : (c : Conclusion) → ((failure : Failure) → c ≡ NoneLeft failure → length first ≤ length options.providers)
+      → Clears most (gathers first (first_settles c))
+  small_early c dropped = by c dropped
+    where
+      on : Clears most (gathers first stays)
+      on =
+          let few = few_opens world options.mode 0 options.providers in
+          record {
+            few = subst (λ es. length es ≤ most) (sym (append-nil first)) few;
+            flags = ap (filter_map clears_flag) (append-nil first) ∙ small_opens world options.mode 0 options.providers;
+          }
 
--- a login window that opens, where there is a configuration
-small_window : (effect : CallEffect) → clears_flag effect ≡ None → (place : ℕ) (config : Option Config) (other : Outcome)
-    (active : Bool) → IsSmall (after effect other) → IsSmall (after effect (by_window place config other active))
-small_window effect none place None other true small = small_after effect none _ (lit≤ tt) refl
-small_window effect none place (Some config) other true small = small_after effect none _ (lit≤ tt) refl
-small_window effect none place config other false small = small
+      by : (c : Conclusion) → ((failure : Failure) → c ≡ NoneLeft failure → length first ≤ length options.providers)
+          → Clears most (gathers first (first_settles c))
+      by (NoneLeft failure) dropped =
+          let all = dropped failure refl in
+          let longer : length (first ++ does.Finish (Failed failure) ∷ [])
+          ≡ length first + 1 = length-append first (does.Finish (Failed failure) ∷ []) in
+          record {
+            few = omega (arith, all, longer, several);
+            flags = filter_map-append clears_flag first (does.Finish (Failed failure) ∷ [])
+                ∙ ap (λ xs. xs ++ []) (small_opens world options.mode 0 options.providers);
+          }
+      by Awaits dropped = on
+      by (Reselects offered) dropped = on
+      by NoneSilent dropped = on
+      by (Offers offered) dropped = on
+      by (Prompts offered) dropped = on
 
-small_offers : (world : World) (facts : Facts) (place : ℕ) (provider : ProviderOptions) (effect : CallEffect)
-    → clears_flag effect ≡ None
-    → (accounts : List Account) → IsSmall (after effect (offers world facts place provider accounts))
-small_offers world facts place provider effect none [] = small_after effect none _ (lit≤ tt) refl
-small_offers world facts place provider effect none (only ∷ []) =
-    small_after effect none _ (lit≤ tt) (small_prompts world facts place provider (candidate_of world facts.origin provider only))
-small_offers world facts place provider effect none (first ∷ second ∷ more) = small_after effect none _ (lit≤ tt) refl
+  fails_once : (step : FailStep) → Clears most (fails (plain step))
+  fails_once step = record { few = omega (arith, several); flags = refl }
 
-small_silent : (effect : CallEffect) → clears_flag effect ≡ None → (mediation : Mediation) (offered : Outcome)
-    → IsSmall (after effect offered) → IsSmall (after effect (unless_silent mediation offered))
-small_silent effect none Silent offered small = small_after effect none _ (lit≤ tt) refl
-small_silent effect none Optional offered small = small
-small_silent effect none Required offered small = small
+  small_all : Clears most (start_all world origin options)
+  small_all = small_early (conclusion_of world origin options progress) (λ failure is. by (list_any is_awaited progress) refl failure is)
+    where
+      progress : List Progress
+      progress = map (first_progress world options.mode) options.providers
 
-small_asserts : (facts : Facts) (place : ℕ) (provider : Option ProviderOptions) (config : Option Config) (agreed : Agreement)
-    → IsSmall (asserts facts place provider config agreed)
-small_asserts facts place None config agreed = record { few = lit≤ tt; flags = refl }
-small_asserts facts place (Some provider) None agreed = record { few = lit≤ tt; flags = refl }
-small_asserts facts place (Some provider) (Some config) agreed = record { few = lit≤ tt; flags = refl }
+      by : (awaited : Bool) → list_any is_awaited progress ≡ awaited → (failure : Failure)
+          → by_awaited world origin options progress awaited ≡ NoneLeft failure → length first ≤ length options.providers
+      by true is failure left = absurd (cc)
+      by false is failure left = few_dropped world options.mode 0 options.providers is
 
-small_asserts_after : (effect : CallEffect) → clears_flag effect ≡ None
-    → (facts : Facts) (place : ℕ) (provider : ProviderOptions) (config : Option Config) (agreed : Agreement)
-    → IsSmall (after effect (asserts facts place (Some provider) config agreed))
-small_asserts_after effect none facts place provider None agreed = small_after effect none _ (lit≤ tt) refl
-small_asserts_after effect none facts place provider (Some config) agreed = small_after effect none _ (lit≤ tt) refl
+  small_prevented : (b : Bool) → Clears most (by_prevented world origin options b)
+  small_prevented true = fails_once steps.SilentPrevented
+  small_prevented false = small_all
 
-small_reselected : (world : World) (facts : Facts) (place : ℕ) (provider : ProviderOptions) (effect : CallEffect)
-    → clears_flag effect ≡ None → (accounts : List Account) (pick : Option Pick)
-    → IsSmall (after effect (by_reselected world facts place provider accounts pick))
-small_reselected world facts place provider effect none accounts None =
-    small_silent effect none facts.options.mediation (offers world facts place provider accounts)
-    (small_offers world facts place provider effect none accounts)
-small_reselected world facts place provider effect none accounts (Some pick) =
-    small_asserts_after effect none facts place provider facts.config (by_reselection pick)
+  small_twice : (b : Bool) → Clears most (by_twice world origin options b)
+  small_twice true = fails_once steps.ProviderTwice
+  small_twice false = small_prevented (is_prevented options.mediation (has_flag world.flags origin))
 
-small_read : (world : World) (facts : Facts) (place : ℕ) (provider : ProviderOptions) (read : Result (List Account) AccountsStep)
-    → IsSmall (by_accounts world facts place provider read)
-small_read world facts place provider (Err step) =
-    small_window (SetLogin (origin_of provider.config) LoggedOut) refl place facts.config _
-    (may_sign_in facts.options.mode facts.options.mediation)
-    (small_refused (SetLogin (origin_of provider.config) LoggedOut) refl place (site_of world facts.origin) (accounts_failure step)
-    (is_mismatch facts.options.mode facts.options.mediation (status_of world.login (origin_of provider.config))))
-small_read world facts place provider (Ok accounts) =
-    small_reselected world facts place provider (SetLogin (origin_of provider.config) LoggedIn) refl accounts
-    (reselected world facts place provider accounts)
+  small_several : Clears most (start_several world origin options)
+  small_several = by (is_active options.mode)
+    where
+      by : (b : Bool) → Clears most (by_active world origin options b)
+      by true = fails_once steps.ActiveMany
+      by false = small_twice (is_twice options)
 
-small_accounts : (world : World) (facts : Facts) (place : ℕ) (provider : Option ProviderOptions) (raw : List ℕ)
-    → IsSmall (accounts_reply world facts place provider raw)
-small_accounts world facts place None raw = record { few = lit≤ tt; flags = refl }
-small_accounts world facts place (Some provider) raw = small_read world facts place provider (accounts_of raw provider)
+small_start : (world : World) (origin : Origin) (options : GetOptions) (providers : List ProviderOptions) → options.providers ≡ providers
+    → 1 ≤ length providers → Clears (length options.providers + length options.providers) (start_with world origin options providers)
+small_start world origin options [] are some = absurd (omega (arith, some))
+small_start world origin options (provider ∷ []) are some =
+    let one : length options.providers ≡ 1 = ap length are in
+    at_most 2 _ _ (omega (arith, one)) (small_first provider (opening world options.mode provider)
+    (lacks_activation options.mode options.activation) (is_prevented options.mediation (has_flag world.flags origin)))
+small_start world origin options (first ∷ second ∷ rest) are some =
+    let more : length options.providers ≡ suc (suc (length rest)) = ap length are in
+    small_several world origin options (omega (arith, more))
 
-small_listing : (world : World) (facts : Facts) (place : ℕ) (provider : Option ProviderOptions) (kind : ReplyKind) (raw : List ℕ)
-    → IsSmall (listing_reply world facts place provider kind raw)
-small_listing world facts place provider kinds.Accounts raw = small_accounts world facts place provider raw
-small_listing world facts place provider _ raw = record { few = lit≤ tt; flags = refl }
+-- a get does two things at most for each provider
+pub small_get : (world : World) (busy : Bool) (origin : Origin) (options : GetOptions) → 1 ≤ length options.providers
+    → Clears (length options.providers + length options.providers) (get_outcome world busy origin options)
+small_get world true origin options some = record { few = omega (arith, some); flags = refl }
+small_get world false origin options some = small_start world origin options options.providers refl some
 
-small_links : (world : World) (facts : Facts) (place : ℕ) (picked : Option Candidate) (links : PolicyLinks)
-    → IsSmall (links_shown world facts place picked links)
-small_links world facts place None links = record { few = lit≤ tt; flags = refl }
-small_links world facts place (Some candidate) links = record { few = lit≤ tt; flags = refl }
+-- and clears no flag
+pub get_clears_none : (world : World) (busy : Bool) (origin : Origin) (options : GetOptions)
+    → filter_map clears_flag (get_outcome world busy origin options).effects ≡ []
+get_clears_none world true origin options = refl
+get_clears_none world false origin options = by options.providers refl
+  where
+    by : (providers : List ProviderOptions) → options.providers ≡ providers
+        → filter_map clears_flag (start_with world origin options providers).effects ≡ []
+    by [] are = refl
+    by (provider ∷ rest) are = (small_start world origin options (provider ∷ rest) are (omega arith)).flags
 
-small_metadata : (world : World) (facts : Facts) (waits : Bool) (place : ℕ) (provider : Option ProviderOptions) (raw : List ℕ)
-    → IsSmall (metadata_reply world facts waits place provider raw)
-small_metadata world facts false place provider raw = record { few = lit≤ tt; flags = refl }
-small_metadata world facts true place None raw = record { few = lit≤ tt; flags = refl }
-small_metadata world facts true place (Some provider) raw = small_links world facts place facts.picked (MetadataOf raw)
+-- ---- a reply that comes to this
 
-small_prompting : (world : World) (facts : Facts) (place : ℕ) (provider : Option ProviderOptions) (kind : ReplyKind) (raw : List ℕ)
-    → IsSmall (prompting_reply world facts place provider kind raw)
-small_prompting world facts place provider kinds.Metadata raw = small_metadata world facts facts.waits place provider raw
-small_prompting world facts place provider _ raw = record { few = lit≤ tt; flags = refl }
+small_shown : (place : ℕ) (site : List ℕ) (failure : Failure) (shown : Bool) → Clears 1 (by_mismatch place site failure shown)
+small_shown place site failure true = record { few = lit≤ tt; flags = refl }
+small_shown place site failure false = record { few = lit≤ tt; flags = refl }
+
+small_window : (place : ℕ) (config : Option Config) (other : Outcome) (active : Bool) → Clears 1 other
+    → Clears 1 (by_window place config other active)
+small_window place None other true h = record { few = lit≤ tt; flags = refl }
+small_window place (Some config) other true h = record { few = lit≤ tt; flags = refl }
+small_window place config other false h = h
+
+small_single : (world : World) (facts : Facts) (place : ℕ) (provider : Origin) (c : Came)
+    → Clears 3 (single_came world facts place provider c)
+small_single world facts place provider Unawaited = record { few = lit≤ tt; flags = refl }
+small_single world facts place provider (Refused failure) = record { few = lit≤ tt; flags = refl }
+small_single world facts place provider (Waits replies) = record { few = lit≤ tt; flags = refl }
+small_single world facts place provider (Both config) = record { few = lit≤ tt; flags = refl }
+small_single world facts place provider (NoneFits failure) =
+    at_most 2 3 _ (lit≤ tt)
+    (more 1 (does.SetLogin provider LoggedOut) refl _
+    (small_window place (config_at place facts) _ (may_sign_in facts.options.mode facts.options.mediation)
+    (small_shown place (site_of world facts.origin) failure
+    (is_mismatch facts.options.mode facts.options.mediation (status_of world.login provider)))))
+small_single world facts place provider (Fit config accounts) =
+    at_most 2 3 _ (lit≤ tt) (more 1 (does.SetLogin provider LoggedIn) refl _ (small_settles world (with_progress place
+    (progress_is.Listed config accounts) facts)))
+
+small_gathering : (world : World) (facts : Facts) (place : ℕ) (provider : Origin) (c : Came)
+    → Clears 3 (gathering_came world facts place provider c)
+small_gathering world facts place provider Unawaited = record { few = lit≤ tt; flags = refl }
+small_gathering world facts place provider (Refused failure) =
+    at_most 2 3 _ (lit≤ tt) (more 1 (does.Dropped place failure) refl _ (small_settles world (with_progress place
+    (progress_is.Dropped failure) facts)))
+small_gathering world facts place provider (Waits replies) = record { few = lit≤ tt; flags = refl }
+small_gathering world facts place provider (Both config) = record { few = lit≤ tt; flags = refl }
+small_gathering world facts place provider (NoneFits failure) =
+    more 2 (does.SetLogin provider LoggedOut) refl _
+    (more 1 (does.Dropped place failure) refl _ (small_settles world (with_progress place (progress_is.Dropped failure) facts)))
+small_gathering world facts place provider (Fit config accounts) =
+    at_most 2 3 _ (lit≤ tt) (more 1 (does.SetLogin provider LoggedIn) refl _ (small_settles world (with_progress place
+    (progress_is.Listed config accounts) facts)))
+
+small_awaited : (world : World) (facts : Facts) (place : ℕ) (q : Option ProviderOptions) (c : Came)
+    → Clears 3 (provider_row world facts place q c)
+small_awaited world facts place None c = record { few = lit≤ tt; flags = refl }
+small_awaited world facts place (Some provider) c = by (is_single facts.options)
+  where
+    by : (single : Bool) → Clears 3 (came_row world facts place single (origin_of provider.config) c)
+    by true = small_single world facts place (origin_of provider.config) c
+    by false = small_gathering world facts place (origin_of provider.config) c
+
+small_metadata : (world : World) (facts : Facts) (waits : Bool) (offered : Option Offered) (raw : List ℕ)
+    → Clears 3 (metadata_reply world facts waits offered raw)
+small_metadata world facts false offered raw = record { few = lit≤ tt; flags = refl }
+small_metadata world facts true None raw = record { few = lit≤ tt; flags = refl }
+small_metadata world facts true (Some offered) raw = record { few = lit≤ tt; flags = refl }
+
+small_prompting : (world : World) (facts : Facts) (place : ℕ) (kind : ReplyKind) (raw : List ℕ)
+    → Clears 3 (prompting_reply world facts place kind raw)
+small_prompting world facts place kinds.Metadata raw = small_metadata world facts facts.waits (picked_at place facts.picked) raw
+small_prompting world facts place _ raw = record { few = lit≤ tt; flags = refl }
 
 small_reply : (world : World) (facts : Facts) (stage : Stage) (place : ℕ) (kind : ReplyKind) (raw : List ℕ) → is_open stage ≡ true
-    → IsSmall (stage_reply world facts stage place kind raw)
+    → Clears 3 (stage_reply world facts stage place kind raw)
 small_reply world facts stages.Reading place kind raw opened =
-    small_reading world.rules facts.heard facts.config place (provider_at place facts.options) kind raw
-small_reply world facts stages.Listing place kind raw opened = small_listing world facts place (provider_at place facts.options) kind raw
+    small_awaited world facts place (provider_at place facts.options) (came_at world facts place kind raw)
+small_reply world facts stages.Listing place kind raw opened =
+    small_awaited world facts place (provider_at place facts.options) (came_at world facts place kind raw)
+small_reply world facts stages.Gathering place kind raw opened =
+    small_awaited world facts place (provider_at place facts.options) (came_at world facts place kind raw)
 small_reply world facts stages.Mismatch place kind raw opened = record { few = lit≤ tt; flags = refl }
 small_reply world facts stages.Window place kind raw opened = record { few = lit≤ tt; flags = refl }
 small_reply world facts stages.Choosing place kind raw opened = record { few = lit≤ tt; flags = refl }
-small_reply world facts stages.Prompting place kind raw opened =
-    small_prompting world facts place (provider_at place facts.options) kind raw
+small_reply world facts stages.Prompting place kind raw opened = small_prompting world facts place kind raw
 small_reply world facts stages.Asserting place kind raw opened = absurd (cc)
 small_reply world facts stages.Ended place kind raw opened = absurd (cc)
 
-small_settles : (world : World) (facts : Facts) (place : ℕ) (provider : ProviderOptions) (candidate : Candidate) (connected : Bool)
-    → IsSmall (settles world facts place provider candidate connected)
-small_settles world facts place provider candidate true =
-    small_asserts facts place (Some provider) facts.config (agreed_to facts place candidate Chosen false)
-small_settles world facts place provider candidate false =
-    record { few = lit≤ tt; flags = small_prompts world facts place provider candidate }
+-- ---- the user's words
 
-small_choice : (world : World) (facts : Facts) (place : ℕ) (provider : Option ProviderOptions) (candidate : Option Candidate)
-    → IsSmall (choice world facts place provider candidate)
-small_choice world facts place None candidate = record { few = lit≤ tt; flags = refl }
-small_choice world facts place (Some provider) None = record { few = lit≤ tt; flags = refl }
-small_choice world facts place (Some provider) (Some candidate) = small_settles world facts place provider candidate candidate.connected
+small_chosen : (world : World) (facts : Facts) (offered : Offered) (connected : Bool)
+    → Clears 3 (by_connection world facts offered connected)
+small_chosen world facts offered true = record { few = lit≤ tt; flags = refl }
+small_chosen world facts offered false = at_most 1 3 _ (lit≤ tt) (small_prompts world facts offered)
 
-small_chose : (world : World) (facts : Facts) (stage : Stage) (place : ℕ) (id : List ℕ) → IsSmall (chose world facts stage place id)
-small_chose world facts stages.Choosing place id =
-    small_choice world facts place (provider_at place facts.options) (option_and_then (chosen id) facts.listed)
+small_choice : (world : World) (facts : Facts) (offered : Option Offered) → Clears 3 (choice world facts offered)
+small_choice world facts None = record { few = lit≤ tt; flags = refl }
+small_choice world facts (Some offered) = small_chosen world facts offered offered.candidate.connected
+
+small_chose : (world : World) (facts : Facts) (stage : Stage) (place : ℕ) (id : List ℕ) → Clears 3 (chose world facts stage place id)
+small_chose world facts stages.Choosing place id = small_choice world facts (found_offered place id facts)
 small_chose world facts _ place id = record { few = lit≤ tt; flags = refl }
 
-small_goes_on : (facts : Facts) (waits : Bool) (picked : Option Candidate) → IsSmall (goes_on facts waits picked)
+small_goes_on : (facts : Facts) (waits : Bool) (picked : Option Offered) → Clears 3 (goes_on facts waits picked)
 small_goes_on facts true picked = record { few = lit≤ tt; flags = refl }
 small_goes_on facts false None = record { few = lit≤ tt; flags = refl }
-small_goes_on facts false (Some candidate) =
-    small_asserts facts only_place (provider_at only_place facts.options) facts.config
-    (agreed_to facts only_place candidate Prompted (not candidate.connected))
+small_goes_on facts false (Some offered) = record { few = lit≤ tt; flags = refl }
 
-small_went_on : (facts : Facts) (stage : Stage) → IsSmall (went_on facts stage)
+small_went_on : (facts : Facts) (stage : Stage) → Clears 3 (went_on facts stage)
 small_went_on facts stages.Prompting = small_goes_on facts facts.waits facts.picked
 small_went_on facts _ = record { few = lit≤ tt; flags = refl }
 
-small_cancelled : (stage : Stage) → IsSmall (cancelled stage)
+small_cancelled : (stage : Stage) → Clears 3 (cancelled stage)
 small_cancelled stages.Reading = record { few = lit≤ tt; flags = refl }
 small_cancelled stages.Listing = record { few = lit≤ tt; flags = refl }
+small_cancelled stages.Gathering = record { few = lit≤ tt; flags = refl }
 small_cancelled stages.Mismatch = record { few = lit≤ tt; flags = refl }
 small_cancelled stages.Window = record { few = lit≤ tt; flags = refl }
 small_cancelled stages.Choosing = record { few = lit≤ tt; flags = refl }
@@ -293,28 +359,28 @@ small_cancelled stages.Ended = record { few = lit≤ tt; flags = refl }
 
 -- ---- signing in at the provider
 
-small_opens : (place : ℕ) (config : Option Config) → IsSmall (opens_window place config)
-small_opens place None = record { few = lit≤ tt; flags = refl }
-small_opens place (Some config) = record { few = lit≤ tt; flags = refl }
+small_window_opens : (place : ℕ) (config : Option Config) → Clears 3 (opens_window place config)
+small_window_opens place None = record { few = lit≤ tt; flags = refl }
+small_window_opens place (Some config) = record { few = lit≤ tt; flags = refl }
 
-small_sign_in : (facts : Facts) (stage : Stage) → IsSmall (asked_to_sign_in facts stage)
-small_sign_in facts stages.Mismatch = small_opens only_place facts.config
+small_sign_in : (facts : Facts) (stage : Stage) → Clears 3 (asked_to_sign_in facts stage)
+small_sign_in facts stages.Mismatch = small_window_opens only_place (config_at only_place facts)
 small_sign_in facts _ = record { few = lit≤ tt; flags = refl }
 
-small_again : (place : ℕ) (config : Option Config) → IsSmall (asks_again place config)
+small_again : (place : ℕ) (config : Option Config) → Clears 3 (asks_again place config)
 small_again place None = record { few = lit≤ tt; flags = refl }
 small_again place (Some config) = record { few = lit≤ tt; flags = refl }
 
-small_resumed : (facts : Facts) (stage : Stage) → IsSmall (resumed facts stage)
-small_resumed facts stages.Window = small_again only_place facts.config
+small_resumed : (facts : Facts) (stage : Stage) → Clears 3 (resumed facts stage)
+small_resumed facts stages.Window = small_again only_place (config_at only_place facts)
 small_resumed facts _ = record { few = lit≤ tt; flags = refl }
 
-small_shut : (stage : Stage) → IsSmall (window_shut stage)
+small_shut : (stage : Stage) → Clears 3 (window_shut stage)
 small_shut stages.Window = record { few = lit≤ tt; flags = refl }
 small_shut _ = record { few = lit≤ tt; flags = refl }
 
 -- a call that goes on, and asked for no token
-pub small_input : (world : World) (facts : Facts) (input : Input) → is_open facts.stage ≡ true → IsSmall (input_row world facts input)
+pub small_input : (world : World) (facts : Facts) (input : Input) → is_open facts.stage ≡ true → Clears 3 (input_row world facts input)
 small_input world facts (inputs.Reply place kind raw) opened = small_reply world facts facts.stage place kind raw opened
 small_input world facts (inputs.Choose place id) opened = small_chose world facts facts.stage place id
 small_input world facts inputs.GoOn opened = small_went_on facts facts.stage
@@ -331,42 +397,33 @@ few_clears : (auto : Bool) (origin : Origin) (outcome : Outcome) → length outc
 few_clears true origin outcome few = omega (arith, few)
 few_clears false origin outcome few = omega (arith, few)
 
-few_keeps : (page provider : Origin) (picked : Option Candidate) (outcome : Outcome) → length outcome.effects ≤ 2
-    → length (keeps page provider picked outcome).effects ≤ 3
-few_keeps page provider None outcome few = omega (arith, few)
-few_keeps page provider (Some candidate) outcome few = omega (arith, few)
+few_token : (facts : Facts) (offered : Offered) (read : Result (List ℕ) TokenStep) → length (by_token facts offered read).effects ≤ 3
+few_token facts offered (Ok token) =
+    let two = few_clears facts.auto facts.origin (finishes (Token facts.auto offered.place token)) (lit≤ tt) in omega (arith, two)
+few_token facts offered (Err step) = lit≤ tt
 
-few_token : (facts : Facts) (place : ℕ) (provider : ProviderOptions) (read : Result (List ℕ) TokenStep)
-    → length (by_token facts place provider read).effects ≤ 3
-few_token facts place provider (Ok token) =
-    few_keeps facts.origin (origin_of provider.config) facts.picked
-    (clears facts.auto facts.origin (finishes (Token facts.auto place token)))
-    (few_clears facts.auto facts.origin (finishes (Token facts.auto place token)) (lit≤ tt))
-few_token facts place provider (Err step) = lit≤ tt
+few_assertion : (facts : Facts) (offered : Option Offered) (raw : List ℕ) → length (assertion_reply facts offered raw).effects ≤ 3
+few_assertion facts None raw = lit≤ tt
+few_assertion facts (Some offered) raw = few_token facts offered (AssertionOf raw (origin_text facts.origin))
 
-few_assertion : (facts : Facts) (place : ℕ) (provider : Option ProviderOptions) (raw : List ℕ)
-    → length (assertion_reply facts place provider raw).effects ≤ 3
-few_assertion facts place None raw = lit≤ tt
-few_assertion facts place (Some provider) raw = few_token facts place provider (AssertionOf raw (origin_text facts.origin))
-
-few_asserting : (facts : Facts) (place : ℕ) (provider : Option ProviderOptions) (kind : ReplyKind) (raw : List ℕ)
-    → length (asserting_reply facts place provider kind raw).effects ≤ 3
-few_asserting facts place provider kinds.Assertion raw = few_assertion facts place provider raw
-few_asserting facts place provider kinds.WellKnown raw = lit≤ tt
-few_asserting facts place provider kinds.Config raw = lit≤ tt
-few_asserting facts place provider kinds.Accounts raw = lit≤ tt
-few_asserting facts place provider kinds.Metadata raw = lit≤ tt
-few_asserting facts place provider kinds.Disconnect raw = lit≤ tt
+few_asserting : (facts : Facts) (place : ℕ) (kind : ReplyKind) (raw : List ℕ) → length (asserting_reply facts place kind raw).effects ≤ 3
+few_asserting facts place kinds.Assertion raw = few_assertion facts (picked_at place facts.picked) raw
+few_asserting facts place kinds.WellKnown raw = lit≤ tt
+few_asserting facts place kinds.Config raw = lit≤ tt
+few_asserting facts place kinds.Accounts raw = lit≤ tt
+few_asserting facts place kinds.Metadata raw = lit≤ tt
+few_asserting facts place kinds.Disconnect raw = lit≤ tt
 
 few_reply : (world : World) (facts : Facts) (stage : Stage) (place : ℕ) (kind : ReplyKind) (raw : List ℕ)
     → length (stage_reply world facts stage place kind raw).effects ≤ 3
 few_reply world facts stages.Reading place kind raw = (small_reply world facts stages.Reading place kind raw refl).few
 few_reply world facts stages.Listing place kind raw = (small_reply world facts stages.Listing place kind raw refl).few
+few_reply world facts stages.Gathering place kind raw = (small_reply world facts stages.Gathering place kind raw refl).few
 few_reply world facts stages.Mismatch place kind raw = lit≤ tt
 few_reply world facts stages.Window place kind raw = lit≤ tt
 few_reply world facts stages.Choosing place kind raw = lit≤ tt
 few_reply world facts stages.Prompting place kind raw = (small_reply world facts stages.Prompting place kind raw refl).few
-few_reply world facts stages.Asserting place kind raw = few_asserting facts place (provider_at place facts.options) kind raw
+few_reply world facts stages.Asserting place kind raw = few_asserting facts place kind raw
 few_reply world facts stages.Ended place kind raw = lit≤ tt
 
 pub few_input : (world : World) (facts : Facts) (input : Input) → length (input_row world facts input).effects ≤ 3

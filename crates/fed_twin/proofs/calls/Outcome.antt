@@ -24,9 +24,8 @@ use Rattle.fed_twin.specs.Script.{names}
 use Rattle.fed_twin.specs.Providers.{Providers, is_provider}
 use Rattle.fed_twin.specs.Seen.{Login, Sent, seen}
 use Rattle.fed_twin.specs.Same.{SameWorlds}
-use Rattle.fed_twin.proofs.calls.Call.{AgreeWorlds, told_effect, AllOwn, SameOutcome}
+use Rattle.fed_twin.proofs.calls.Call.{AgreeWorlds, IsQuiet, told_effect, AllOwn, SameOutcome}
 use Rattle.fed_twin.proofs.seen.Look.{now_same, text_same, status_same}
-use Rattle.fed_twin.proofs.calls.Row.{IsQuiet}
 use Rattle.fed_trace.proofs.effects.Silent.{goes_silent}
 use Rattle.fed_status.specs.Kept.{triples_of_pair}
 use Rattle.fed_status.specs.Shared.{World}
@@ -57,6 +56,7 @@ seen_told p w ck call page (does.SetLogin origin status ∷ es) =
 seen_told p w ck call page (does.Finish finish ∷ es) = seen_told p w ck call page es
 seen_told p w ck call page (does.Ignored why ∷ es) = seen_told p w ck call page es
 seen_told p w ck call page (does.Dialog dialog ∷ es) = seen_told p w ck call page es
+seen_told p w ck call page (does.Dropped place failure ∷ es) = seen_told p w ck call page es
 seen_told p w ck call page (does.Window place url ∷ es) = seen_told p w ck call page es
 seen_told p w ck call page (does.Keep triple ∷ es) = seen_told p w ck call page es
 seen_told p w ck call page (does.Forget triple ∷ es) = seen_told p w ck call page es
@@ -88,6 +88,7 @@ seen_cookies p w w' ck ck' h call page page' (does.SetLogin origin status ∷ es
 seen_cookies p w w' ck ck' h call page page' (does.Finish finish ∷ es) own = seen_cookies p w w' ck ck' h call page page' es own.1
 seen_cookies p w w' ck ck' h call page page' (does.Ignored why ∷ es) own = seen_cookies p w w' ck ck' h call page page' es own.1
 seen_cookies p w w' ck ck' h call page page' (does.Dialog dialog ∷ es) own = seen_cookies p w w' ck ck' h call page page' es own.1
+seen_cookies p w w' ck ck' h call page page' (does.Dropped place failure ∷ es) own = seen_cookies p w w' ck ck' h call page page' es own.1
 seen_cookies p w w' ck ck' h call page page' (does.Window place url ∷ es) own = seen_cookies p w w' ck ck' h call page page' es own.1
 seen_cookies p w w' ck ck' h call page page' (does.Keep triple ∷ es) own = seen_cookies p w w' ck ck' h call page page' es own.1
 seen_cookies p w w' ck ck' h call page page' (does.Forget triple ∷ es) own = seen_cookies p w w' ck ck' h call page page' es own.1
@@ -152,6 +153,7 @@ asks_none call (effects.Login origin status ∷ es) h = asks_none call es h
 asks_none call (effects.Begin b ∷ es) h = asks_none call es h
 asks_none call (effects.Move kind c stage ∷ es) h = asks_none call es h
 asks_none call (effects.Shown c dialog ∷ es) h = asks_none call es h
+asks_none call (effects.Dropped c provider failure ∷ es) h = asks_none call es h
 asks_none call (effects.Result c page finish ∷ es) h = asks_none call es h
 asks_none call (effects.Ignored why ∷ es) h = asks_none call es h
 

@@ -1,21 +1,26 @@
--- The table of a call in two worlds that providers cannot tell apart.
-use Rattle.std.proofs.Common.{◌≡◌, ℕ, zero, suc, Bool, true, false, inr, List, [], ◌∷◌, length, slice_get, position, Option}
-use Rattle.std.proofs.Common.{Some}
-use Rattle.std.proofs.Common.{None, Result as Answer, Ok, Err, is_some, refl, sym, ap, subst, ◌∙◌, arith}
-use Rattle.std.specs.Prelude.{option_and_then, option_map, unwrap_or, ⊤, not}
-use Rattle.std.specs.List.{filter_map, cons_option, list_any}
+-- The tables of a call in two worlds that providers cannot tell apart.
+use Rattle.std.proofs.Common.{◌≡◌, ℕ, zero, suc, Bool, true, false, ◌||◌, ◌&&◌, ◌==◌, nat_eq, inl, inr, List, [], ◌∷◌, length, slice_get}
+use Rattle.std.proofs.Common.{Option}
+use Rattle.std.proofs.Common.{Some, None, Result as Answer, Ok, Err, IfSome, refl, sym, ap, subst, ◌∙◌, cond}
+use Rattle.std.specs.Prelude.{unwrap_or, ⊤, slice_set, bytes_eq}
+use Rattle.std.specs.List.{filter_map, cons_option, list_any, find, AllByRecursion, AllZip}
 use Rattle.url.specs.Parts.{Parts}
-use Rattle.fed_origin.specs.declared.options.Mediation.{Mediation}
-use Rattle.fed_origin.specs.declared.options.Mediation.TheVariants.{Silent, Optional, Required}
 use Rattle.fed_origin.specs.declared.options.ProviderOptions.{ProviderOptions}
+use Rattle.fed_origin.specs.declared.origin.Origin.{Origin}
 use Rattle.fed_origin.specs.declared.stage.ReplyKind.{ReplyKind}
 use Rattle.fed_origin.specs.declared.stage.ReplyKind.TheVariants as kinds
 use Rattle.fed_origin.specs.declared.stage.Stage.{Stage}
-use Rattle.fed_origin.specs.declared.stage.Stage.TheVariants.{Reading, Listing, Mismatch, Window, Choosing, Prompting, Asserting, Ended}
+use Rattle.fed_origin.specs.declared.stage.Stage.TheVariants.{Reading, Listing, Gathering, Mismatch, Window, Choosing, Prompting}
+use Rattle.fed_origin.specs.declared.stage.Stage.TheVariants.{Asserting, Ended}
 use Rattle.fed_origin.specs.declared.status.LoginStatus.TheVariants.{LoggedIn, LoggedOut}
-use Rattle.fed_origin.specs.WebUrl.{origin_of}
+use Rattle.fed_origin.specs.WebUrl.{host_of, origin_of}
+use Rattle.fed_suffix.specs.Rule.{RuleSet}
 use Rattle.fed_provider.specs.declared.config.Config.{Config as Configuration}
-use Rattle.fed_provider.specs.Metadata.{MetadataOf}
+use Rattle.fed_provider.specs.declared.first_replies.FirstReplies.{FirstReplies}
+use Rattle.fed_provider.specs.declared.first_replies.Heard.TheVariants as heards
+use Rattle.fed_provider.specs.declared.step.ProviderStep.{ProviderStep}
+use Rattle.fed_provider.specs.Config.{ConfigOf}
+use Rattle.fed_provider.specs.FirstReplies.{reply_heard, wellknown_heard, config_heard, wellknown_read}
 use Rattle.fed_accounts.specs.declared.account.Account.{Account}
 use Rattle.fed_accounts.specs.declared.step.AccountsStep.{AccountsStep}
 use Rattle.fed_status.specs.Login.{status_of}
@@ -28,342 +33,488 @@ use Rattle.fed_consent.specs.declared.table.input.Input.{Input}
 use Rattle.fed_consent.specs.declared.table.input.Input.TheVariants as inputs
 use Rattle.fed_consent.specs.declared.table.why.Why.{Why}
 use Rattle.fed_consent.specs.declared.table.why.Why.TheVariants.{NotWaited, NotOffered, NoAccount, CallEnded}
-use Rattle.fed_consent.specs.Consent.{Agreement, Candidate, Listed, Pick, by_reselection, candidate_at, chosen, has_id}
-use Rattle.fed_consent.specs.declared.consent.manner.Manner.TheVariants.{Chosen, Prompted}
-use Rattle.fed_call.specs.Accounts.{accounts_of, candidate_of}
-use Rattle.fed_call.specs.AssertingRows.{asserts}
-use Rattle.fed_call.specs.DialogRows.{agreed_to, chose, choice, settles, goes_on, went_on, cancelled, metadata_reply, links_shown}
-use Rattle.fed_call.specs.Facts.{Facts, at_stage, provider_at, metadata_endpoint, reselected, with_offer, by_account, with_list}
-use Rattle.fed_call.specs.Facts.{with_listing, with_choice, with_input, facts_after}
-use Rattle.fed_consent.specs.Outcomes.{Outcome, ignored, stays, after, only_place, is_ignored}
-use Rattle.fed_consent.specs.Failures.{plain, accounts_failure}
-use Rattle.fed_call.specs.ListingRows.{offers, unless_silent, by_reselected, accounts_reply, by_accounts, prompt_effect, by_mismatch}
-use Rattle.fed_call.specs.ListingRows.{by_window, is_mismatch, site_of}
-use Rattle.fed_call.specs.Row.{stage_reply}
+use Rattle.fed_call.specs.declared.progress.Progress.{Progress}
+use Rattle.fed_call.specs.declared.progress.Progress.TheVariants as progress_is
+use Rattle.fed_call.specs.Accounts.{Offered, accounts_of, provider_at}
+use Rattle.fed_call.specs.AssertingRows.{picked_at}
+use Rattle.fed_call.specs.DialogRows.{chose, choice, by_connection, goes_on, went_on, cancelled, metadata_reply}
+use Rattle.fed_call.specs.Dialogs.{site_of}
+use Rattle.fed_call.specs.Facts.{Facts, at_stage, came_at, conclusion_of, config_at, facts_after, found_offered, is_named, is_single}
+use Rattle.fed_call.specs.Facts.{progress_at}
+use Rattle.fed_call.specs.Facts.{with_came, with_choice, with_input, with_none_fitting, with_progress, with_settled}
+use Rattle.fed_call.specs.GatheringRows.{gathering_came}
+use Rattle.fed_call.specs.Progress.{Came, Unawaited, Refused, Waits, Both, NoneFits, Fit, came, came_heard, came_listing, came_read}
+use Rattle.fed_call.specs.Progress.{config_of}
+use Rattle.fed_call.specs.Row.{stage_reply, came_row, provider_row, awaited_reply}
+use Rattle.fed_call.specs.SettledRows.{settles}
+use Rattle.fed_call.specs.SingleRows.{single_came, refused, by_mismatch, by_window, is_mismatch}
 use Rattle.fed_call.specs.WindowRows.{may_sign_in, opens_window, asked_to_sign_in, window_shut}
-use Rattle.fed_trace.proofs.happens.Says.{asks_token}
-use Rattle.fed_twin.specs.Providers.{Providers}
-use Rattle.fed_twin.specs.Same.{IfBoth, SameProvider, SameListed, is_open, SameData, SameFacts, SameCall}
-use Rattle.fed_twin.proofs.calls.Call.{AgreeWorlds, told_effect, OwnSend, Keeps, after_by, open_facts, stands, keeps_ignored, keeps_fails}
-use Rattle.fed_twin.proofs.calls.Call.{keeps_row, keeps_moves, keeps_moves_after, same_choice, same_listing, both, keeps_wellknown}
-use Rattle.fed_twin.proofs.calls.Call.{keeps_config, configured, read_same, AllOwn, ReselectsNone, OffersOnly}
+use Rattle.fed_consent.specs.Outcomes.{Outcome, ignored, stays, after, only_place, is_ignored}
+use Rattle.fed_consent.specs.Failures.{plain}
+use Rattle.fed_twin.specs.Providers.{Providers, is_provider}
+use Rattle.fed_twin.specs.Same.{IfBoth, SameProvider, SameOffered, IsOwn, HasOwn, is_open, SameData, SameFacts, SameCall}
+use Rattle.fed_twin.proofs.calls.Call.{AgreeWorlds, told_effect, OwnSend, AllOwn, SameOutcome, Keeps, Lands, open_facts, stands}
+use Rattle.fed_twin.proofs.calls.Call.{keeps_ignored}
+use Rattle.fed_twin.proofs.calls.Call.{keeps_fails, keeps_does, providers_both, read_same, own_config, ReselectsNone}
+use Rattle.fed_twin.proofs.calls.Call.{same_conclusion, prompt_untold, prompt_taken, prompt_own, IsQuiet, quiet_conclusion, concludes_same}
+use Rattle.fed_twin.proofs.calls.Call.{concludes_taken, concludes_lands, same_picked, same_ended, same_progress}
 
--- ---- what comes first of a prompt
+-- ---- what a reply comes to
 
-pub prompt_untold : (w : World) (f : Facts) (place : ℕ) (q : ProviderOptions) (c : Candidate) (b : Bool) (to : Option Parts)
-    → told_effect (prompt_effect w f place q c b to) ≡ None
-prompt_untold w f place q c true to = refl
-prompt_untold w f place q c false None = refl
-prompt_untold w f place q c false (Some to) = refl
-
-prompt_taken : (w : World) (f : Facts) (place : ℕ) (q : ProviderOptions) (c : Candidate) (b : Bool) (to : Option Parts)
-    → is_ignored (prompt_effect w f place q c b to) ≡ false
-prompt_taken w f place q c true to = refl
-prompt_taken w f place q c false None = refl
-prompt_taken w f place q c false (Some to) = refl
-
-prompt_own : (p : Providers) (w : World) (f : Facts) (place : ℕ) (q : ProviderOptions) (c : Candidate) (b : Bool) (to : Option Parts)
-    → OwnSend p (prompt_effect w f place q c b to)
-prompt_own p w f place q c true to = tt
-prompt_own p w f place q c false None = tt
-prompt_own p w f place q c false (Some to) = tt
-
--- accounts leave the configuration
-offer_config : (w : World) (q : ProviderOptions) (accounts : List Account) (f : Facts) → (with_offer w q accounts f).config ≡ f.config
-offer_config w q [] f = refl
-offer_config w q (only ∷ []) f = refl
-offer_config w q (first ∷ second ∷ more) f = refl
-
-account_config : (w : World) (q : ProviderOptions) (accounts : List Account) (pick : Option Pick) (f : Facts)
-    → (by_account w q accounts pick f).config ≡ f.config
-account_config w q accounts None f = offer_config w q accounts f
-account_config w q accounts (Some pick) f = refl
-
-list_config : (w : World) (place : ℕ) (q : ProviderOptions) (read : Answer (List Account) AccountsStep) (f : Facts)
-    → (with_list w place q read f).config ≡ f.config
-list_config w place q (Err step) f = refl
-list_config w place q (Ok accounts) f = account_config w q accounts (reselected w f place q accounts) f
-
-listing_config : (w : World) (raw : List ℕ) (place : ℕ) (q : Option ProviderOptions) (f : Facts)
-    → (with_listing w raw place q f).config ≡ f.config
-listing_config w raw place None f = refl
-listing_config w raw place (Some q) f = list_config w place q (accounts_of raw q) f
-
-choice_config : (c : Option Candidate) (f : Facts) → (with_choice c f).config ≡ f.config
-choice_config None f = refl
-choice_config (Some c) f = refl
-
--- ---- choices
-
-flags_both : (xs ys : List Bool) → length xs ≡ length ys → (n : ℕ) → IfBoth (λ a b. ⊤) (slice_get xs n) (slice_get ys n)
-flags_both [] [] h n = tt
-flags_both [] (y ∷ ys) h n = absurd (omega (arith, h))
-flags_both (x ∷ xs) [] h n = absurd (omega (arith, h))
-flags_both (x ∷ xs) (y ∷ ys) h zero = tt
-flags_both (x ∷ xs) (y ∷ ys) h (suc n) = flags_both xs ys (omega (arith, h)) n
-
-abbrev IsSameAccount : Candidate → Candidate → Type 0
-IsSameAccount a b = a.account ≡ b.account
-
-at_place : (a b : Listed) → SameListed a b → (place : ℕ) → IfBoth IsSameAccount (candidate_at a place) (candidate_at b place)
-at_place a b h place =
-    subst (λ accounts. IfBoth IsSameAccount (candidate_at a place)
-    (candidate_at (record { accounts = accounts; connected = b.connected }) place)) h.accounts
-    (go (slice_get a.accounts place) (slice_get a.connected place) (slice_get b.connected place)
-    (flags_both a.connected b.connected h.connected place))
+came_by : (p : Providers) (rules : RuleSet) (progress : Option Progress) (q q' : Option ProviderOptions) → IfBoth (SameProvider p) q q'
+    → (kind : ReplyKind) (raw : List ℕ) → came rules progress q kind raw ≡ came rules progress q' kind raw
+came_by p rules None q q' h kind raw = refl
+came_by p rules (Some g) None None h kind raw = refl
+came_by p rules (Some g) None (Some q') h kind raw = absurd h
+came_by p rules (Some g) (Some q) None h kind raw = absurd h
+came_by p rules (Some (progress_is.Reading replies)) (Some q) (Some q') h kind raw =
+    ap (λ c. came_heard (reply_heard rules replies c kind raw)) h.shares.config
+came_by p rules (Some (progress_is.Listing config)) (Some q) (Some q') h kind raw = by kind
   where
-    go : (account : Option Account) (x y : Option Bool) → IfBoth (λ a b. ⊤) x y
-        → IfBoth IsSameAccount
-        (option_and_then (λ account. option_map (λ connected. record { account = account; connected = connected }) x) account)
-        (option_and_then (λ account. option_map (λ connected. record { account = account; connected = connected }) y) account)
-    go None x y k = tt
-    go (Some account) None None k = tt
-    go (Some account) (Some x) (Some y) k = refl
-    go (Some account) None (Some y) k = absurd k
-    go (Some account) (Some x) None k = absurd k
+    by : (kind : ReplyKind) → came_listing config q kind raw ≡ came_listing config q' kind raw
+    by kinds.Accounts = ap (came_read config) (read_same p raw q q' h)
+    by kinds.WellKnown = refl
+    by kinds.Config = refl
+    by kinds.Metadata = refl
+    by kinds.Assertion = refl
+    by kinds.Disconnect = refl
+came_by p rules (Some (progress_is.Listed config accounts)) (Some q) (Some q') h kind raw = refl
+came_by p rules (Some (progress_is.Dropped failure)) (Some q) (Some q') h kind raw = refl
 
-chosen_one : (id : List ℕ) (a b : Listed) → SameListed a b → IfBoth IsSameAccount (chosen id a) (chosen id b)
-chosen_one id a b h =
-    subst (λ accounts. IfBoth IsSameAccount (chosen id a) (option_and_then (candidate_at b) (position (has_id id) accounts))) h.accounts
-    (go (position (has_id id) a.accounts))
+-- a configuration that it brings is the provider's own
+abbrev OwnCame : Providers → Came → Type 0
+OwnCame p (Waits replies) = IfSome replies.config (IsOwn p)
+OwnCame p (Both config) = IsOwn p config
+OwnCame p _ = ⊤
+
+own_wellknown : (p : Providers) (heard : Bool) (config : Option Configuration) → IfSome config (IsOwn p)
+    → (read : Answer (Unit {0}) ProviderStep) → OwnCame p (came_heard (wellknown_heard heard config read))
+own_wellknown p true config known read = tt
+own_wellknown p false config known (Err step) = tt
+own_wellknown p false None known (Ok u) = tt
+own_wellknown p false (Some c) known (Ok u) = known
+
+own_read : (p : Providers) (heard : Bool) (config : Option Configuration) (read : Answer Configuration ProviderStep)
+    → ((c : Configuration) → read ≡ Ok c → IsOwn p c) → OwnCame p (came_heard (config_heard heard config read))
+own_read p heard (Some config) read own = tt
+own_read p heard None (Err step) own = tt
+own_read p false None (Ok c) own = own c refl
+own_read p true None (Ok c) own = own c refl
+
+own_heard : (p : Providers) (rules : RuleSet) (replies : FirstReplies) (url : Parts) → IfSome replies.config (IsOwn p)
+    → is_provider p (host_of url) ≡ true → (kind : ReplyKind) (raw : List ℕ)
+    → OwnCame p (came_heard (reply_heard rules replies url kind raw))
+own_heard p rules replies url known there kinds.WellKnown raw =
+    own_wellknown p replies.wellknown replies.config known (wellknown_read rules url raw)
+own_heard p rules replies url known there kinds.Config raw =
+    own_read p replies.wellknown replies.config (ConfigOf raw url) (λ c e. own_config p raw url c e there)
+own_heard p rules replies url known there kinds.Accounts raw = tt
+own_heard p rules replies url known there kinds.Metadata raw = tt
+own_heard p rules replies url known there kinds.Assertion raw = tt
+own_heard p rules replies url known there kinds.Disconnect raw = tt
+
+own_listing : (p : Providers) (config : Configuration) (q : ProviderOptions) (kind : ReplyKind) (raw : List ℕ)
+    → OwnCame p (came_listing config q kind raw)
+own_listing p config q kinds.Accounts raw = by (accounts_of raw q)
   where
-    go : (place : Option ℕ) → IfBoth IsSameAccount (option_and_then (candidate_at a) place) (option_and_then (candidate_at b) place)
-    go None = tt
-    go (Some place) = at_place a b h place
+    by : (read : Answer (List Account) AccountsStep) → OwnCame p (came_read config read)
+    by (Err step) = tt
+    by (Ok accounts) = tt
+own_listing p config q kinds.WellKnown raw = tt
+own_listing p config q kinds.Config raw = tt
+own_listing p config q kinds.Metadata raw = tt
+own_listing p config q kinds.Assertion raw = tt
+own_listing p config q kinds.Disconnect raw = tt
 
-chosen_both : (id : List ℕ) (a b : Option Listed) → IfBoth SameListed a b
-    → IfBoth IsSameAccount (option_and_then (chosen id) a) (option_and_then (chosen id) b)
-chosen_both id None None h = tt
-chosen_both id (Some a) (Some b) h = chosen_one id a b h
-chosen_both id None (Some b) h = absurd h
-chosen_both id (Some a) None h = absurd h
+own_came : (p : Providers) (rules : RuleSet) (progress : Option Progress) → IfSome progress (HasOwn p)
+    → (q q' : Option ProviderOptions) → IfBoth (SameProvider p) q q' → (kind : ReplyKind) (raw : List ℕ)
+    → OwnCame p (came rules progress q kind raw)
+own_came p rules None known q q' h kind raw = tt
+own_came p rules (Some g) known None q' h kind raw = tt
+own_came p rules (Some g) known (Some q) None h kind raw = absurd h
+own_came p rules (Some (progress_is.Reading replies)) known (Some q) (Some q') h kind raw =
+    own_heard p rules replies q.config known h.known kind raw
+own_came p rules (Some (progress_is.Listing config)) known (Some q) (Some q') h kind raw = own_listing p config q kind raw
+own_came p rules (Some (progress_is.Listed config accounts)) known (Some q) (Some q') h kind raw = tt
+own_came p rules (Some (progress_is.Dropped failure)) known (Some q) (Some q') h kind raw = tt
 
--- an outcome asks for no token
-abbrev pub IsQuiet : Outcome → Type 0
-IsQuiet o = filter_map asks_token o.effects ≡ []
+get_all : {A : Type 0} (P : A → Type 0) (xs : List A) → AllByRecursion P xs → (n : ℕ) → IfSome (slice_get xs n) P
+get_all P [] all n = tt
+get_all P (x ∷ xs) all zero = all.0
+get_all P (x ∷ xs) all (suc n) = get_all P xs all.1 n
 
-asserts_loud : {A : Type 0} (f : Facts) (place : ℕ) (q : ProviderOptions) (config : Option Configuration) (agreed : Agreement)
-    → is_some config ≡ true
-    → IsQuiet (asserts f place (Some q) config agreed) → A
-asserts_loud f place q None agreed known quiet = absurd (let no : false ≡ true = known in cc)
-asserts_loud f place q (Some config) agreed known quiet = absurd (cc)
+same_length : {A B : Type 0} (R : A → B → Type 0) (xs : List A) (ys : List B) → AllZip R xs ys → length xs ≡ length ys
+same_length R [] [] h = refl
+same_length R [] (y ∷ ys) h = absurd h
+same_length R (x ∷ xs) [] h = absurd h
+same_length R (x ∷ xs) (y ∷ ys) h = ap suc (same_length R xs ys h.1)
 
--- ---- reselection
+-- the first stages await none of the later replies
+no_later : (v : World) (progress : Option Progress) (q : Option ProviderOptions) (kind : ReplyKind) (raw : List ℕ)
+    → ((replies : FirstReplies) (url : Parts) → reply_heard v.rules replies url kind raw ≡ heards.NotWaited replies)
+    → ((config : Configuration) (o : ProviderOptions) → came_listing config o kind raw ≡ Unawaited)
+    → came v.rules progress q kind raw ≡ Unawaited
+no_later v None q kind raw h k = refl
+no_later v (Some g) None kind raw h k = refl
+no_later v (Some (progress_is.Reading replies)) (Some q) kind raw h k = ap came_heard (h replies q.config)
+no_later v (Some (progress_is.Listing config)) (Some q) kind raw h k = k config q
+no_later v (Some (progress_is.Listed config accounts)) (Some q) kind raw h k = refl
+no_later v (Some (progress_is.Dropped failure)) (Some q) kind raw h k = refl
 
--- where an account is reselected, a token is asked for
-reselects_loud : (w : World) (f : Facts) (place : ℕ) (q : ProviderOptions) (accounts : List Account) (effect : CallEffect)
-    → asks_token effect ≡ None → is_some f.config ≡ true → (pick : Option Pick)
-    → IsQuiet (after effect (by_reselected w f place q accounts pick)) → pick ≡ None
-reselects_loud w f place q accounts effect unasked known None quiet = refl
-reselects_loud w f place q accounts effect unasked known (Some pick) quiet =
-    asserts_loud f place q f.config (by_reselection pick) known
-    (sym (ap (λ o. cons_option o (filter_map asks_token
-    (asserts f place (Some q) f.config (by_reselection pick)).effects)) unasked) ∙ quiet)
+pub no_assertion : (v : World) (g : Facts) (place : ℕ) (raw : List ℕ) → came_at v g place kinds.Assertion raw ≡ Unawaited
+no_assertion v g place raw =
+    no_later v (progress_at place g) (provider_at place g.options) kinds.Assertion raw (λ r u. refl) (λ c o. refl)
 
-read_loud : (w : World) (f : Facts) (place : ℕ) (q : ProviderOptions) (read : Answer (List Account) AccountsStep)
-    → is_some f.config ≡ true → IsQuiet (by_accounts w f place q read) → ReselectsNone w f place q read
-read_loud w f place q (Err step) known quiet = tt
-read_loud w f place q (Ok accounts) known quiet =
-    reselects_loud w f place q accounts (does.SetLogin (origin_of q.config) LoggedIn) refl known (reselected w f place q accounts) quiet
+no_disconnect : (v : World) (g : Facts) (place : ℕ) (raw : List ℕ) → came_at v g place kinds.Disconnect raw ≡ Unawaited
+no_disconnect v g place raw =
+    no_later v (progress_at place g) (provider_at place g.options) kinds.Disconnect raw (λ r u. refl) (λ c o. refl)
 
--- so of a quiet reply none is
-offers_only : (w : World) (f : Facts) (place : ℕ) (q : Option ProviderOptions) (raw : List ℕ) → is_some f.config ≡ true
-    → IsQuiet (accounts_reply w f place q raw) → OffersOnly w f place q raw
-offers_only w f place None raw known quiet = tt
-offers_only w f place (Some q) raw known quiet = read_loud w f place q (accounts_of raw q) known quiet
+no_metadata : (v : World) (g : Facts) (place : ℕ) (raw : List ℕ) → came_at v g place kinds.Metadata raw ≡ Unawaited
+no_metadata v g place raw =
+    no_later v (progress_at place g) (provider_at place g.options) kinds.Metadata raw (λ r u. refl) (λ c o. refl)
+
+-- a reply that is not awaited
+unawaited_row : (v : World) (g : Facts) (place : ℕ) (q : Option ProviderOptions) (c : Came) → c ≡ Unawaited
+    → provider_row v g place q c ≡ ignored NotWaited
+unawaited_row v g place None c is = refl
+unawaited_row v g place (Some q) c is = ap (provider_row v g place (Some q)) is ∙ by (is_single g.options)
+  where
+    by : (single : Bool) → came_row v g place single (origin_of q.config) Unawaited ≡ ignored NotWaited
+    by true = refl
+    by false = refl
+
+-- the row of a reply with accounts that fit
+abbrev fits : World → Facts → ℕ → ProviderOptions → Configuration → List Account → Outcome
+fits w f place q config accounts =
+    after (does.SetLogin (origin_of q.config) LoggedIn) (settles w (with_progress place (progress_is.Listed config accounts) f))
+
+-- where all are settled then, none is reselected
+abbrev SettlesQuiet : World → Facts → ℕ → Progress → Type 0
+SettlesQuiet w f place progress = ReselectsNone (conclusion_of w f.origin f.options (slice_set f.progress place progress))
+
+-- the same where no account of the provider fits, by whether it is the only one
+abbrev QuietNone : World → Facts → ℕ → Failure → Bool → Type 0
+QuietNone w f place failure true = ⊤
+QuietNone w f place failure false = SettlesQuiet w f place (progress_is.Dropped failure)
+
+abbrev QuietCame : World → Facts → ℕ → Came → Type 0
+QuietCame w f place (Refused failure) = SettlesQuiet w f place (progress_is.Dropped failure)
+QuietCame w f place (NoneFits failure) = QuietNone w f place failure (is_single f.options)
+QuietCame w f place (Fit config accounts) = SettlesQuiet w f place (progress_is.Listed config accounts)
+QuietCame w f place _ = ⊤
 
 module _ (p : Providers) (w w' : World) (agree : AgreeWorlds p w w') (f f' : Facts) (s : SameFacts p f f') where
-  -- ---- in Listing
+  rules_same : w.rules ≡ w'.rules
+  rules_same = agree.rules ∙ sym agree.rules'
 
-  past_reading : (st : Stage) → f.stage ≡ st → (st ≡ Reading → ⊥) → is_some f.config ≡ true
-  past_reading st at other = configured p f f' s (λ r. other (sym at ∙ r))
+  both : (place : ℕ) → IfBoth (SameProvider p) (provider_at place f.options) (provider_at place f'.options)
+  both place = providers_both p f.options f'.options s.said.options place
 
-  listing_known : (place : ℕ) (raw : List ℕ) → f.stage ≡ Listing
-      → is_some (with_input w false (inputs.Reply place kinds.Accounts raw) f).config ≡ true
-  listing_known place raw at =
-      ap is_some (listing_config w raw place (provider_at place f.options) f) ∙ past_reading Listing at (λ r. cc)
+  singles : is_single f.options ≡ is_single f'.options
+  singles = ap (λ n. n == 1) (same_length (SameProvider p) f.options.providers f'.options.providers s.said.options.providers)
 
-  module _ (place : ℕ) (raw : List ℕ) (at : f.stage ≡ Listing)
-      (listing_by : SameData p (with_input w false (inputs.Reply place kinds.Accounts raw) f)
-      (with_input w' false (inputs.Reply place kinds.Accounts raw) f')) where
-    abbrev accounts_input : Input
-    accounts_input = inputs.Reply place kinds.Accounts raw
+  came_same : (place : ℕ) (kind : ReplyKind) (raw : List ℕ) → came_at w f place kind raw ≡ came_at w' f' place kind raw
+  came_same place kind raw =
+      ap (λ r. came r (progress_at place f) (provider_at place f.options) kind raw) rules_same
+      ∙ ap (λ g. came w'.rules (slice_get g place) (provider_at place f.options) kind raw) s.said.progress
+      ∙ came_by p w'.rules (progress_at place f') (provider_at place f.options) (provider_at place f'.options) (both place) kind raw
 
-    refused_by : (q q' : ProviderOptions) → SameProvider p q q' → (failure : Failure) (b b' : Bool) → b ≡ b'
-        → Keeps p w w' f f' accounts_input accounts_input
-        (after (does.SetLogin (origin_of q.config) LoggedOut) (by_mismatch place (site_of w f.origin) failure b))
-        (after (does.SetLogin (origin_of q'.config) LoggedOut) (by_mismatch place (site_of w' f'.origin) failure b'))
-    refused_by q q' h failure true true e =
-        keeps_moves_after p w w' f f' s _ _ Mismatch _ _ _ _
-        (ap (λ c. does.SetLogin (origin_of c) LoggedOut ∷ []) h.shares.config) refl refl tt refl refl refl refl tt
-        listing_by (inr (refl, inr (listing_known place raw at)))
-    refused_by q q' h failure false false e =
-        record {
-          outcome = record {
-            stage = refl;
-            told = ap (λ c. does.SetLogin (origin_of c) LoggedOut ∷ []) h.shares.config;
-            own = (tt, (tt, tt));
-          };
-          after = tt;
-        }
-    refused_by q q' h failure true false e = absurd (cc)
-    refused_by q q' h failure false true e = absurd (cc)
+  came_own : (place : ℕ) (kind : ReplyKind) (raw : List ℕ) → OwnCame p (came_at w f place kind raw)
+  came_own place kind raw =
+      own_came p w.rules (progress_at place f) (get_all (HasOwn p) f.progress s.said.known place)
+      (provider_at place f.options) (provider_at place f'.options) (both place) kind raw
 
-    -- by whether the user may be sent to sign in, and by the configuration
-    window_by : (q q' : ProviderOptions) → SameProvider p q q' → (c c' : Option Configuration) → f.config ≡ c → c ≡ c'
-        → (other other' : Outcome) (b b' : Bool) → b ≡ b'
-        → Keeps p w w' f f' accounts_input accounts_input
-        (after (does.SetLogin (origin_of q.config) LoggedOut) other) (after (does.SetLogin (origin_of q'.config) LoggedOut) other')
-        → Keeps p w w' f f' accounts_input accounts_input
-        (after (does.SetLogin (origin_of q.config) LoggedOut) (by_window place c other b))
-        (after (does.SetLogin (origin_of q'.config) LoggedOut) (by_window place c' other' b'))
-    window_by q q' h (Some c) (Some c') is e other other' true true same kept =
-        keeps_moves_after p w w' f f' s _ _ Window _ _ _ _
-        (ap (λ x. does.SetLogin (origin_of x) LoggedOut ∷ []) h.shares.config) refl refl tt refl refl refl refl tt
-        listing_by (inr (refl, inr (listing_known place raw at)))
-    window_by q q' h None None is e other other' true true same kept =
-        absurd (let no : false ≡ true = sym (ap is_some is) ∙ past_reading Listing at (λ r. cc) in cc)
-    window_by q q' h None (Some c') is e other other' true true same kept = absurd (cc)
-    window_by q q' h (Some c) None is e other other' true true same kept = absurd (cc)
-    window_by q q' h c c' is e other other' false false same kept = kept
-    window_by q q' h c c' is e other other' true false same kept = absurd (cc)
-    window_by q q' h c c' is e other other' false true same kept = absurd (cc)
+  settled_data : (place : ℕ) (progress : Progress) → HasOwn p progress
+      → SettlesQuiet w f place progress → SettlesQuiet w' f' place progress
+      → SameData p (with_settled w (with_progress place progress f)) (with_settled w' (with_progress place progress f'))
+  settled_data place progress own quiet quiet' =
+      same_ended p (with_progress place progress f) (with_progress place progress f') (same_progress p f f' s.said place progress own) _ _
+      (same_conclusion p w w' f.origin f'.origin f.options f'.options s.said.options _ _
+      (ap (λ g. slice_set g place progress) s.said.progress) quiet quiet')
 
-    offers_by : (q q' : ProviderOptions) → SameProvider p q q' → (accounts : List Account)
-        → Keeps p w w' f f' accounts_input accounts_input
-        (after (does.SetLogin (origin_of q.config) LoggedIn) (offers w f place q accounts))
-        (after (does.SetLogin (origin_of q'.config) LoggedIn) (offers w' f' place q' accounts))
-    offers_by q q' h [] =
-        record {
-          outcome = record { stage = refl; told = ap (λ c. does.SetLogin (origin_of c) LoggedIn ∷ []) h.shares.config; own = (tt, tt) };
-          after = after_by p _ _ f.stage f'.stage s.stage listing_by (inr (s.goes_on, inr (listing_known place raw at)));
-        }
-    offers_by q q' h (only ∷ []) =
-        let c = candidate_of w f.origin q only in
-        let c' = candidate_of w' f'.origin q' only in
-        keeps_moves_after p w w' f f' s _ _ Prompting _ _ _ _
-        (ap (λ c. does.SetLogin (origin_of c) LoggedIn ∷ []) h.shares.config) refl refl tt
-        (prompt_untold w f place q c c.connected (metadata_endpoint f.config))
-        (prompt_untold w' f' place q' c' c'.connected (metadata_endpoint f'.config))
-        (prompt_taken w f place q c c.connected (metadata_endpoint f.config))
-        (prompt_taken w' f' place q' c' c'.connected (metadata_endpoint f'.config))
-        (prompt_own p w f place q c c.connected (metadata_endpoint f.config))
-        listing_by (inr (refl, inr (listing_known place raw at)))
-    offers_by q q' h (first ∷ second ∷ more) =
-        keeps_moves_after p w w' f f' s _ _ Choosing _ _ _ _
-        (ap (λ c. does.SetLogin (origin_of c) LoggedIn ∷ []) h.shares.config) refl refl tt refl refl refl refl tt
-        listing_by (inr (refl, inr (listing_known place raw at)))
+  settled_same : (place : ℕ) (progress : Progress)
+      → SettlesQuiet w f place progress → SettlesQuiet w' f' place progress
+      → SameOutcome p (settles w (with_progress place progress f)) (settles w' (with_progress place progress f'))
+  settled_same place progress quiet quiet' =
+      concludes_same p w w' (with_progress place progress f) (with_progress place progress f') _ _
+      (same_conclusion p w w' f.origin f'.origin f.options f'.options s.said.options _ _
+      (ap (λ g. slice_set g place progress) s.said.progress) quiet quiet')
 
-    silent_by : (q q' : ProviderOptions) → SameProvider p q q' → (accounts : List Account) (m m' : Mediation) → m ≡ m'
-        → Keeps p w w' f f' accounts_input accounts_input
-        (after (does.SetLogin (origin_of q.config) LoggedIn) (unless_silent m (offers w f place q accounts)))
-        (after (does.SetLogin (origin_of q'.config) LoggedIn) (unless_silent m' (offers w' f' place q' accounts)))
-    silent_by q q' h accounts Silent Silent e =
-        record {
-          outcome = record {
-            stage = refl;
-            told = ap (λ c. does.SetLogin (origin_of c) LoggedIn ∷ []) h.shares.config;
-            own = (tt, (tt, tt));
-          };
-          after = tt;
-        }
-    silent_by q q' h accounts Optional Optional e = offers_by q q' h accounts
-    silent_by q q' h accounts Required Required e = offers_by q q' h accounts
-    silent_by q q' h accounts Silent Optional e = absurd (cc)
-    silent_by q q' h accounts Silent Required e = absurd (cc)
-    silent_by q q' h accounts Optional Silent e = absurd (cc)
-    silent_by q q' h accounts Optional Required e = absurd (cc)
-    silent_by q q' h accounts Required Silent e = absurd (cc)
-    silent_by q q' h accounts Required Optional e = absurd (cc)
+  none_data : (place : ℕ) (failure : Failure) (b b' : Bool) → b ≡ b' → QuietNone w f place failure b → QuietNone w' f' place failure b'
+      → SameData p (with_none_fitting w place failure b f) (with_none_fitting w' place failure b' f')
+  none_data place failure true true e quiet quiet' = s.said
+  none_data place failure false false e quiet quiet' = settled_data place (progress_is.Dropped failure) tt quiet quiet'
+  none_data place failure true false e quiet quiet' = absurd (cc)
+  none_data place failure false true e quiet quiet' = absurd (cc)
 
-    accounts_by : (q q' : ProviderOptions) → SameProvider p q q' → (read : Answer (List Account) AccountsStep)
-        → ReselectsNone w f place q read → ReselectsNone w' f' place q' read
-        → Keeps p w w' f f' accounts_input accounts_input (by_accounts w f place q read) (by_accounts w' f' place q' read)
-    accounts_by q q' h (Err step) none none' =
-        window_by q q' h f.config f'.config refl s.said.config _ _ _ _
-        (ap (λ m. may_sign_in m f.options.mediation) s.said.options.mode ∙ ap (may_sign_in f'.options.mode) s.said.options.mediation)
-        (refused_by q q' h (accounts_failure step) _ _
+  came_data : (place : ℕ) (c : Came) → OwnCame p c → QuietCame w f place c → QuietCame w' f' place c
+      → SameData p (with_came w place c f) (with_came w' place c f')
+  came_data place Unawaited own quiet quiet' = s.said
+  came_data place (Refused failure) own quiet quiet' = settled_data place (progress_is.Dropped failure) tt quiet quiet'
+  came_data place (Waits replies) own quiet quiet' = same_progress p f f' s.said place (progress_is.Reading replies) own
+  came_data place (Both config) own quiet quiet' = same_progress p f f' s.said place (progress_is.Listing config) own
+  came_data place (NoneFits failure) own quiet quiet' =
+      none_data place failure (is_single f.options) (is_single f'.options) singles quiet quiet'
+  came_data place (Fit config accounts) own quiet quiet' = settled_data place (progress_is.Listed config accounts) tt quiet quiet'
+
+  -- ---- with one effect in front
+
+  after_same : (e e' : CallEffect) → told_effect e ≡ told_effect e' → OwnSend p e → (o o' : Outcome) → SameOutcome p o o'
+      → SameOutcome p (after e o) (after e' o')
+  after_same e e' told own o o' same =
+      record {
+        stage = same.stage;
+        told = ap (λ x. cons_option x (filter_map told_effect o.effects)) told ∙ ap (cons_option (told_effect e')) same.told;
+        own = (own, same.own);
+      }
+
+  -- ---- a reply that comes to this, in both
+
+  module _ (place : ℕ) (kind : ReplyKind) (raw : List ℕ)
+      (says : (v : World) (g : Facts)
+      → with_input v false (inputs.Reply place kind raw) g ≡ with_came v place (came_at v g place kind raw) g) where
+    abbrev input : Input
+    input = inputs.Reply place kind raw
+
+    -- what is known then
+    said_data : (c : Came) → came_at w f place kind raw ≡ c → OwnCame p c → QuietCame w f place c → QuietCame w' f' place c
+        → SameData p (with_input w false input f) (with_input w' false input f')
+    said_data c is own quiet quiet' =
+        subst (λ g. SameData p g (with_input w' false input f')) (sym (says w f ∙ ap (λ x. with_came w place x f) is))
+        (subst (SameData p (with_came w place c f))
+        (sym (says w' f' ∙ ap (λ x. with_came w' place x f') (sym (came_same place kind raw) ∙ is)))
+        (came_data place c own quiet quiet'))
+
+    login_told : (q q' : ProviderOptions) → SameProvider p q q' → (status : _)
+        → told_effect (does.SetLogin (origin_of q.config) status) ≡ told_effect (does.SetLogin (origin_of q'.config) status)
+    login_told q q' h status = ap (λ c. told_effect (does.SetLogin (origin_of c) status)) h.shares.config
+
+    -- the accounts fit
+    fits_by : (q q' : ProviderOptions) → SameProvider p q q' → (config : Configuration) (accounts : List Account)
+        → came_at w f place kind raw ≡ Fit config accounts → IsQuiet (fits w f place q config accounts)
+        → IsQuiet (fits w' f' place q' config accounts)
+        → Keeps p w w' f f' input input (fits w f place q config accounts) (fits w' f' place q' config accounts)
+    fits_by q q' h config accounts is quiet quiet' =
+        let g = with_progress place (progress_is.Listed config accounts) f in
+        let g' = with_progress place (progress_is.Listed config accounts) f' in
+        let c = conclusion_of w f.origin f.options g.progress in
+        let c' = conclusion_of w' f'.origin f'.options g'.progress in
+        let none = quiet_conclusion w g c quiet in
+        let none' = quiet_conclusion w' g' c' quiet' in
+        keeps_does p w w' f f' s input input _ _
+        (after_same (does.SetLogin (origin_of q.config) LoggedIn) (does.SetLogin (origin_of q'.config) LoggedIn)
+        (login_told q q' h LoggedIn) tt _ _ (settled_same place (progress_is.Listed config accounts) none none'))
+        (concludes_taken w g c) (concludes_taken w' g' c') (said_data (Fit config accounts) is tt none none')
+        (concludes_lands w g c none f.stage (stands p f f' s))
+
+    -- a file is good, and the other is awaited
+    waits_by : (replies : FirstReplies) → came_at w f place kind raw ≡ Waits replies → OwnCame p (Waits replies)
+        → Keeps p w w' f f' input input stays stays
+    waits_by replies is own =
+        keeps_does p w w' f f' s input input _ _ (record { stage = refl; told = refl; own = tt }) refl refl
+        (said_data (Waits replies) is own tt tt) (stands p f f' s)
+
+    -- ---- a call with several providers
+
+    gathering_by : is_single f.options ≡ false → is_single f'.options ≡ false → (q q' : ProviderOptions) → SameProvider p q q'
+        → (c : Came) → came_at w f place kind raw ≡ c → OwnCame p c
+        → IsQuiet (gathering_came w f place (origin_of q.config) c) → IsQuiet (gathering_came w' f' place (origin_of q'.config) c)
+        → Keeps p w w' f f' input input (gathering_came w f place (origin_of q.config) c) (gathering_came w' f' place
+        (origin_of q'.config) c)
+    gathering_by several several' q q' h Unawaited is own quiet quiet' = keeps_ignored p w w' f f' s input input NotWaited NotWaited
+    gathering_by several several' q q' h (Refused failure) is own quiet quiet' =
+        let g = with_progress place (progress_is.Dropped failure) f in
+        let g' = with_progress place (progress_is.Dropped failure) f' in
+        let c = conclusion_of w f.origin f.options g.progress in
+        let c' = conclusion_of w' f'.origin f'.options g'.progress in
+        let none = quiet_conclusion w g c quiet in
+        let none' = quiet_conclusion w' g' c' quiet' in
+        keeps_does p w w' f f' s input input _ _
+        (after_same (does.Dropped place failure) (does.Dropped place failure) refl tt _ _
+        (settled_same place (progress_is.Dropped failure) none none'))
+        (concludes_taken w g c) (concludes_taken w' g' c') (said_data (Refused failure) is own none none')
+        (concludes_lands w g c none f.stage (stands p f f' s))
+    gathering_by several several' q q' h (Waits replies) is own quiet quiet' = waits_by replies is own
+    gathering_by several several' q q' h (Both config) is own quiet quiet' =
+        keeps_does p w w' f f' s input input _ _ (record { stage = refl; told = refl; own = (own, tt) }) refl refl
+        (said_data (Both config) is own tt tt) (stands p f f' s)
+    gathering_by several several' q q' h (NoneFits failure) is own quiet quiet' =
+        let g = with_progress place (progress_is.Dropped failure) f in
+        let g' = with_progress place (progress_is.Dropped failure) f' in
+        let c = conclusion_of w f.origin f.options g.progress in
+        let c' = conclusion_of w' f'.origin f'.options g'.progress in
+        let none = quiet_conclusion w g c quiet in
+        let none' = quiet_conclusion w' g' c' quiet' in
+        keeps_does p w w' f f' s input input _ _
+        (after_same (does.SetLogin (origin_of q.config) LoggedOut) (does.SetLogin (origin_of q'.config) LoggedOut)
+        (login_told q q' h LoggedOut) tt _ _
+        (after_same (does.Dropped place failure) (does.Dropped place failure) refl tt _ _
+        (settled_same place (progress_is.Dropped failure) none none')))
+        (concludes_taken w g c) (concludes_taken w' g' c')
+        (said_data (NoneFits failure) is own (subst (QuietNone w f place failure) (sym several) none)
+        (subst (QuietNone w' f' place failure) (sym several') none'))
+        (concludes_lands w g c none f.stage (stands p f f' s))
+    gathering_by several several' q q' h (Fit config accounts) is own quiet quiet' = fits_by q q' h config accounts is quiet quiet'
+
+    -- ---- a call with one provider
+
+    mismatch_by : (place : ℕ) (site site' : List ℕ) (failure : Failure) (b b' : Bool) → b ≡ b'
+        → SameOutcome p (by_mismatch place site failure b) (by_mismatch place site' failure b')
+    mismatch_by place site site' failure true true e = record { stage = refl; told = refl; own = (tt, tt) }
+    mismatch_by place site site' failure false false e = record { stage = refl; told = refl; own = (tt, tt) }
+    mismatch_by place site site' failure true false e = absurd (cc)
+    mismatch_by place site site' failure false true e = absurd (cc)
+
+    window_by : (c c' : Option Configuration) → c ≡ c' → (o o' : Outcome) → SameOutcome p o o' → (b b' : Bool) → b ≡ b'
+        → SameOutcome p (by_window place c o b) (by_window place c' o' b')
+    window_by c c' e o o' same false false k = same
+    window_by None None e o o' same true true k = record { stage = refl; told = refl; own = tt }
+    window_by (Some c) (Some c') e o o' same true true k = record { stage = refl; told = refl; own = (tt, tt) }
+    window_by None (Some c') e o o' same true true k = absurd (cc)
+    window_by (Some c) None e o o' same true true k = absurd (cc)
+    window_by c c' e o o' same true false k = absurd (cc)
+    window_by c c' e o o' same false true k = absurd (cc)
+
+    refused_same : (q q' : ProviderOptions) → SameProvider p q q' → (failure : Failure)
+        → SameOutcome p (refused w f place (origin_of q.config) failure) (refused w' f' place (origin_of q'.config) failure)
+    refused_same q q' h failure =
+        window_by (config_at place f) (config_at place f') (ap (λ g. config_of (slice_get g place)) s.said.progress) _ _
+        (mismatch_by place _ _ failure _ _
         (ap (λ m. is_mismatch m f.options.mediation (status_of w.login (origin_of q.config))) s.said.options.mode
         ∙ ap (λ m. is_mismatch f'.options.mode m (status_of w.login (origin_of q.config))) s.said.options.mediation
         ∙ ap (is_mismatch f'.options.mode f'.options.mediation)
         (agree.status (origin_of q.config) h.known ∙ ap (λ c. status_of w'.login (origin_of c)) h.shares.config)))
-    accounts_by q q' h (Ok accounts) none none' =
-        let set = does.SetLogin (origin_of q.config) LoggedIn in
-        let set' = does.SetLogin (origin_of q'.config) LoggedIn in
-        subst (λ r. Keeps p w w' f f' accounts_input accounts_input (after set (by_reselected w f place q accounts r))
-        (by_accounts w' f' place q' (Ok accounts))) (sym none)
-        (subst (λ r. Keeps p w w' f f' accounts_input accounts_input (after set (by_reselected w f place q accounts None))
-        (after set' (by_reselected w' f' place q' accounts r))) (sym none')
-        (silent_by q q' h accounts f.options.mediation f'.options.mediation s.said.options.mediation))
+        _ _ (ap (λ m. may_sign_in m f.options.mediation) s.said.options.mode ∙ ap (may_sign_in f'.options.mode) s.said.options.mediation)
 
-    keeps_accounts : (q q' : Option ProviderOptions) → IfBoth (SameProvider p) q q'
-        → OffersOnly w f place q raw → OffersOnly w' f' place q' raw
-        → Keeps p w w' f f' accounts_input accounts_input (accounts_reply w f place q raw) (accounts_reply w' f' place q' raw)
-    keeps_accounts None None h none none' = keeps_ignored p w w' f f' s _ _ NotWaited NotWaited
-    keeps_accounts (Some q) (Some q') h none none' =
-        subst (λ read. Keeps p w w' f f' accounts_input accounts_input
-        (by_accounts w f place q (accounts_of raw q)) (by_accounts w' f' place q' read))
-        (read_same p raw q q' h)
-        (accounts_by q q' h (accounts_of raw q) none (subst (ReselectsNone w' f' place q') (sym (read_same p raw q q' h)) none'))
-    keeps_accounts None (Some q') h none none' = absurd h
-    keeps_accounts (Some q) None h none none' = absurd h
+    -- a stage of a call with one provider
+    refused_lands : (origin : Origin) (failure : Failure) → Lands f.stage
+        → Lands (unwrap_or (refused w f place origin failure).stage f.stage)
+    refused_lands origin failure lands =
+        by_config (config_at place f) (may_sign_in f.options.mode f.options.mediation)
+      where
+        by_shown : (b : Bool) → Lands (unwrap_or (by_mismatch place (site_of w f.origin) failure b).stage f.stage)
+        by_shown true = inr refl
+        by_shown false = inl refl
 
-  -- ---- a reply, by the stage and the kind
+        by_config : (c : Option Configuration) (b : Bool)
+            → Lands (unwrap_or (by_window place c (by_mismatch place (site_of w f.origin) failure
+            (is_mismatch f.options.mode f.options.mediation (status_of w.login origin))) b).stage f.stage)
+        by_config None true = lands
+        by_config (Some c) true = inr refl
+        by_config c false = by_shown (is_mismatch f.options.mode f.options.mediation (status_of w.login origin))
 
+    refused_taken : (v : World) (g : Facts) (origin : Origin) (failure : Failure)
+        → list_any is_ignored (refused v g place origin failure).effects ≡ false
+    refused_taken v g origin failure = by_config (config_at place g) (may_sign_in g.options.mode g.options.mediation)
+      where
+        by_shown : (b : Bool) → list_any is_ignored (by_mismatch place (site_of v g.origin) failure b).effects ≡ false
+        by_shown true = refl
+        by_shown false = refl
+
+        by_config : (c : Option Configuration) (b : Bool)
+            → list_any is_ignored (by_window place c (by_mismatch place (site_of v g.origin) failure
+            (is_mismatch g.options.mode g.options.mediation (status_of v.login origin))) b).effects ≡ false
+        by_config None true = refl
+        by_config (Some c) true = refl
+        by_config c false = by_shown (is_mismatch g.options.mode g.options.mediation (status_of v.login origin))
+
+    single_by : is_single f.options ≡ true → is_single f'.options ≡ true → (q q' : ProviderOptions) → SameProvider p q q'
+        → (c : Came) → came_at w f place kind raw ≡ c → OwnCame p c
+        → IsQuiet (single_came w f place (origin_of q.config) c) → IsQuiet (single_came w' f' place (origin_of q'.config) c)
+        → Keeps p w w' f f' input input (single_came w f place (origin_of q.config) c) (single_came w' f' place (origin_of q'.config) c)
+    single_by one one' q q' h Unawaited is own quiet quiet' = keeps_ignored p w w' f f' s input input NotWaited NotWaited
+    single_by one one' q q' h (Refused failure) is own quiet quiet' = keeps_fails p w w' f f' s input input failure failure
+    single_by one one' q q' h (Waits replies) is own quiet quiet' = waits_by replies is own
+    single_by one one' q q' h (Both config) is own quiet quiet' =
+        keeps_does p w w' f f' s input input _ _ (record { stage = refl; told = refl; own = (own, tt) }) refl refl
+        (said_data (Both config) is own tt tt) (inr refl)
+    single_by one one' q q' h (NoneFits failure) is own quiet quiet' =
+        keeps_does p w w' f f' s input input _ _
+        (after_same (does.SetLogin (origin_of q.config) LoggedOut) (does.SetLogin (origin_of q'.config) LoggedOut)
+        (login_told q q' h LoggedOut) tt _ _ (refused_same q q' h failure))
+        (refused_taken w f (origin_of q.config) failure) (refused_taken w' f' (origin_of q'.config) failure)
+        (said_data (NoneFits failure) is own (subst (QuietNone w f place failure) (sym one) tt)
+        (subst (QuietNone w' f' place failure) (sym one') tt))
+        (refused_lands (origin_of q.config) failure (stands p f f' s))
+    single_by one one' q q' h (Fit config accounts) is own quiet quiet' = fits_by q q' h config accounts is quiet quiet'
+
+    -- ---- by the number of providers, and by the provider
+
+    came_row_by : (b b' : Bool) → is_single f.options ≡ b → is_single f'.options ≡ b' → (q q' : ProviderOptions) → SameProvider p q q'
+        → (c : Came) → came_at w f place kind raw ≡ c → OwnCame p c
+        → IsQuiet (came_row w f place b (origin_of q.config) c) → IsQuiet (came_row w' f' place b' (origin_of q'.config) c)
+        → Keeps p w w' f f' input input (came_row w f place b (origin_of q.config) c) (came_row w' f' place b' (origin_of q'.config) c)
+    came_row_by true true one one' q q' h c is own quiet quiet' = single_by one one' q q' h c is own quiet quiet'
+    came_row_by false false several several' q q' h c is own quiet quiet' = gathering_by several several' q q' h c is own quiet quiet'
+    came_row_by true false one several q q' h c is own quiet quiet' =
+        let no : true ≡ false = sym one ∙ singles ∙ several in absurd (cc)
+    came_row_by false true several one q q' h c is own quiet quiet' =
+        let no : false ≡ true = sym several ∙ singles ∙ one in absurd (cc)
+
+    by_provider : (q q' : Option ProviderOptions) → IfBoth (SameProvider p) q q'
+        → IsQuiet (provider_row w f place q (came_at w f place kind raw))
+        → IsQuiet (provider_row w' f' place q' (came_at w' f' place kind raw))
+        → Keeps p w w' f f' input input (provider_row w f place q (came_at w f place kind raw))
+        (provider_row w' f' place q' (came_at w' f' place kind raw))
+    by_provider None None h quiet quiet' = keeps_ignored p w w' f f' s input input NotWaited NotWaited
+    by_provider None (Some q') h quiet quiet' = absurd h
+    by_provider (Some q) None h quiet quiet' = absurd h
+    by_provider (Some q) (Some q') h quiet quiet' =
+        subst (λ c. Keeps p w w' f f' input input (provider_row w f place (Some q) (came_at w f place kind raw))
+        (provider_row w' f' place (Some q') c)) (came_same place kind raw)
+        (came_row_by (is_single f.options) (is_single f'.options) refl refl q q' h (came_at w f place kind raw) refl
+        (came_own place kind raw) quiet
+        (subst (λ c. IsQuiet (provider_row w' f' place (Some q') c)) (sym (came_same place kind raw)) quiet'))
+
+    -- one of the first replies, or one of accounts
+    pub reply_first : (st : Stage) → f.stage ≡ st
+        → ((v : World) (g : Facts) → stage_reply v g Prompting place kind raw ≡ ignored NotWaited)
+        → IsQuiet (stage_reply w f st place kind raw) → IsQuiet (stage_reply w' f' st place kind raw)
+        → Keeps p w w' f f' input input (stage_reply w f st place kind raw) (stage_reply w' f' st place kind raw)
+    reply_first Reading at silent quiet quiet' =
+        by_provider (provider_at place f.options) (provider_at place f'.options) (both place) quiet quiet'
+    reply_first Listing at silent quiet quiet' =
+        by_provider (provider_at place f.options) (provider_at place f'.options) (both place) quiet quiet'
+    reply_first Gathering at silent quiet quiet' =
+        by_provider (provider_at place f.options) (provider_at place f'.options) (both place) quiet quiet'
+    reply_first Mismatch at silent quiet quiet' = keeps_ignored p w w' f f' s input input NotWaited NotWaited
+    reply_first Window at silent quiet quiet' = keeps_ignored p w w' f f' s input input NotWaited NotWaited
+    reply_first Choosing at silent quiet quiet' = keeps_ignored p w w' f f' s input input NotWaited NotWaited
+    reply_first Prompting at silent quiet quiet' =
+        subst (λ o. Keeps p w w' f f' input input o (stage_reply w' f' Prompting place kind raw)) (sym (silent w f))
+        (subst (λ o. Keeps p w w' f f' input input (ignored NotWaited) o) (sym (silent w' f'))
+        (keeps_ignored p w w' f f' s input input NotWaited NotWaited))
+    reply_first Asserting at silent quiet quiet' = absurd (let no : false ≡ true = sym (ap is_open at) ∙ s.goes_on in cc)
+    reply_first Ended at silent quiet quiet' = keeps_ignored p w w' f f' s input input CallEnded CallEnded
+
+  -- no token is awaited
   ignored_reply : (place : ℕ) (kind : ReplyKind) (raw raw' : List ℕ)
       → Keeps p w w' f f' (inputs.Reply place kind raw) (inputs.Reply place kind raw') (ignored NotWaited) (ignored NotWaited)
   ignored_reply place kind raw raw' = keeps_ignored p w w' f f' s _ _ NotWaited NotWaited
 
-  pub reply_wellknown : (place : ℕ) (raw : List ℕ) (st : Stage) → f.stage ≡ st
-      → Keeps p w w' f f' (inputs.Reply place kinds.WellKnown raw) (inputs.Reply place kinds.WellKnown raw)
-      (stage_reply w f st place kinds.WellKnown raw) (stage_reply w' f' st place kinds.WellKnown raw)
-  reply_wellknown place raw Reading at = keeps_wellknown p w w' agree f f' s place raw at
-  reply_wellknown place raw Listing at = ignored_reply place kinds.WellKnown raw raw
-  reply_wellknown place raw Mismatch at = ignored_reply place kinds.WellKnown raw raw
-  reply_wellknown place raw Window at = ignored_reply place kinds.WellKnown raw raw
-  reply_wellknown place raw Choosing at = ignored_reply place kinds.WellKnown raw raw
-  reply_wellknown place raw Prompting at = ignored_reply place kinds.WellKnown raw raw
-  reply_wellknown place raw Asserting at = ignored_reply place kinds.WellKnown raw raw
-  reply_wellknown place raw Ended at = keeps_ignored p w w' f f' s _ _ CallEnded CallEnded
+  -- a reply that no stage but Asserting awaits, by how the first stages ignore it
+  later_by : (place : ℕ) (kind : ReplyKind) (raw raw' : List ℕ) → ((v : World) (g : Facts) (r : List ℕ)
+      → came_at v g place kind r ≡ Unawaited)
+      → Keeps p w w' f f' (inputs.Reply place kind raw) (inputs.Reply place kind raw') (awaited_reply w f place kind raw)
+      (awaited_reply w' f' place kind raw')
+  later_by place kind raw raw' none =
+      subst (λ o. Keeps p w w' f f' i i' o (awaited_reply w' f' place kind raw'))
+      (sym (unawaited_row w f place (provider_at place f.options) _ (none w f raw)))
+      (subst (λ o. Keeps p w w' f f' i i' (ignored NotWaited) o)
+      (sym (unawaited_row w' f' place (provider_at place f'.options) _ (none w' f' raw'))) (ignored_reply place kind raw raw'))
+    where
+      i : Input
+      i = inputs.Reply place kind raw
 
-  pub reply_config : (place : ℕ) (raw : List ℕ) (st : Stage) → f.stage ≡ st
-      → Keeps p w w' f f' (inputs.Reply place kinds.Config raw) (inputs.Reply place kinds.Config raw)
-      (stage_reply w f st place kinds.Config raw) (stage_reply w' f' st place kinds.Config raw)
-  reply_config place raw Reading at = keeps_config p w w' agree f f' s place raw at
-  reply_config place raw Listing at = ignored_reply place kinds.Config raw raw
-  reply_config place raw Mismatch at = ignored_reply place kinds.Config raw raw
-  reply_config place raw Window at = ignored_reply place kinds.Config raw raw
-  reply_config place raw Choosing at = ignored_reply place kinds.Config raw raw
-  reply_config place raw Prompting at = ignored_reply place kinds.Config raw raw
-  reply_config place raw Asserting at = ignored_reply place kinds.Config raw raw
-  reply_config place raw Ended at = keeps_ignored p w w' f f' s _ _ CallEnded CallEnded
+      i' : Input
+      i' = inputs.Reply place kind raw'
 
-  pub reply_accounts : (place : ℕ) (raw : List ℕ) (st : Stage) → f.stage ≡ st
-      → IsQuiet (stage_reply w f st place kinds.Accounts raw) → IsQuiet (stage_reply w' f' st place kinds.Accounts raw)
-      → Keeps p w w' f f' (inputs.Reply place kinds.Accounts raw) (inputs.Reply place kinds.Accounts raw)
-      (stage_reply w f st place kinds.Accounts raw) (stage_reply w' f' st place kinds.Accounts raw)
-  reply_accounts place raw Reading at quiet quiet' = ignored_reply place kinds.Accounts raw raw
-  reply_accounts place raw Listing at quiet quiet' =
-      let known = past_reading Listing at (λ r. cc) in
-      let none = offers_only w f place (provider_at place f.options) raw known quiet in
-      let none' = offers_only w' f' place (provider_at place f'.options) raw (ap is_some (sym s.said.config) ∙ known) quiet' in
-      keeps_accounts place raw at
-      (same_listing p w w' f f' s.said raw place (provider_at place f.options) (provider_at place f'.options)
-      (both p w w' agree f f' s place) none none')
-      (provider_at place f.options) (provider_at place f'.options) (both p w w' agree f f' s place) none none'
-  reply_accounts place raw Mismatch at quiet quiet' = ignored_reply place kinds.Accounts raw raw
-  reply_accounts place raw Window at quiet quiet' = ignored_reply place kinds.Accounts raw raw
-  reply_accounts place raw Choosing at quiet quiet' = ignored_reply place kinds.Accounts raw raw
-  reply_accounts place raw Prompting at quiet quiet' = ignored_reply place kinds.Accounts raw raw
-  reply_accounts place raw Asserting at quiet quiet' = ignored_reply place kinds.Accounts raw raw
-  reply_accounts place raw Ended at quiet quiet' = keeps_ignored p w w' f f' s _ _ CallEnded CallEnded
-
-  -- no token is awaited
   pub reply_assertion : (place : ℕ) (raw raw' : List ℕ) (st : Stage) → f.stage ≡ st
       → Keeps p w w' f f' (inputs.Reply place kinds.Assertion raw) (inputs.Reply place kinds.Assertion raw')
       (stage_reply w f st place kinds.Assertion raw) (stage_reply w' f' st place kinds.Assertion raw')
-  reply_assertion place raw raw' Reading at = ignored_reply place kinds.Assertion raw raw'
-  reply_assertion place raw raw' Listing at = ignored_reply place kinds.Assertion raw raw'
+  reply_assertion place raw raw' Reading at = later_by place kinds.Assertion raw raw' (λ v g r. no_assertion v g place r)
+  reply_assertion place raw raw' Listing at = later_by place kinds.Assertion raw raw' (λ v g r. no_assertion v g place r)
+  reply_assertion place raw raw' Gathering at = later_by place kinds.Assertion raw raw' (λ v g r. no_assertion v g place r)
   reply_assertion place raw raw' Mismatch at = ignored_reply place kinds.Assertion raw raw'
   reply_assertion place raw raw' Window at = ignored_reply place kinds.Assertion raw raw'
   reply_assertion place raw raw' Choosing at = ignored_reply place kinds.Assertion raw raw'
@@ -374,8 +525,9 @@ module _ (p : Providers) (w w' : World) (agree : AgreeWorlds p w w') (f f' : Fac
   pub reply_disconnect : (place : ℕ) (raw raw' : List ℕ) (st : Stage)
       → Keeps p w w' f f' (inputs.Reply place kinds.Disconnect raw) (inputs.Reply place kinds.Disconnect raw')
       (stage_reply w f st place kinds.Disconnect raw) (stage_reply w' f' st place kinds.Disconnect raw')
-  reply_disconnect place raw raw' Reading = ignored_reply place kinds.Disconnect raw raw'
-  reply_disconnect place raw raw' Listing = ignored_reply place kinds.Disconnect raw raw'
+  reply_disconnect place raw raw' Reading = later_by place kinds.Disconnect raw raw' (λ v g r. no_disconnect v g place r)
+  reply_disconnect place raw raw' Listing = later_by place kinds.Disconnect raw raw' (λ v g r. no_disconnect v g place r)
+  reply_disconnect place raw raw' Gathering = later_by place kinds.Disconnect raw raw' (λ v g r. no_disconnect v g place r)
   reply_disconnect place raw raw' Mismatch = ignored_reply place kinds.Disconnect raw raw'
   reply_disconnect place raw raw' Window = ignored_reply place kinds.Disconnect raw raw'
   reply_disconnect place raw raw' Choosing = ignored_reply place kinds.Disconnect raw raw'
@@ -385,58 +537,69 @@ module _ (p : Providers) (w w' : World) (agree : AgreeWorlds p w w') (f f' : Fac
 
   -- ---- the user's words
 
-  choice_by : (place : ℕ) (id : List ℕ)
+  found_both : (place : ℕ) (id : List ℕ) (us vs : List Offered) → AllZip (SameOffered p) us vs
+      → IfBoth (SameOffered p) (find (is_named place id) us) (find (is_named place id) vs)
+  found_both place id [] [] h = tt
+  found_both place id [] (v ∷ vs) h = absurd h
+  found_both place id (u ∷ us) [] h = absurd h
+  found_both place id (u ∷ us) (v ∷ vs) h = go (is_named place id u) (is_named place id v) same (found_both place id us vs h.1)
+    where
+      same : is_named place id u ≡ is_named place id v
+      same =
+          ap (λ n. nat_eq place n && bytes_eq u.candidate.account.id id) h.0.place
+          ∙ ap (λ a. nat_eq place v.place && bytes_eq a.id id) h.0.account
+
+      go : (b b' : Bool) → b ≡ b' → IfBoth (SameOffered p) (find (is_named place id) us) (find (is_named place id) vs)
+          → IfBoth (SameOffered p) (cond b (Some u) (find (is_named place id) us)) (cond b' (Some v) (find (is_named place id) vs))
+      go true true e rest = h.0
+      go false false e rest = rest
+      go true false e rest = absurd (cc)
+      go false true e rest = absurd (cc)
+
+  choice_data : (o o' : Option Offered) → IfBoth (SameOffered p) o o' → SameData p (with_choice o f) (with_choice o' f')
+  choice_data None None h = s.said
+  choice_data (Some o) (Some o') h = same_picked p f f' s.said o o'
+  choice_data None (Some o') h = absurd h
+  choice_data (Some o) None h = absurd h
+
+  chosen_by : (place : ℕ) (id : List ℕ)
       → SameData p (with_input w false (inputs.Choose place id) f) (with_input w' false (inputs.Choose place id) f')
-  choice_by place id =
-      same_choice p f f' s.said (option_and_then (chosen id) f.listed) (option_and_then (chosen id) f'.listed)
-      (chosen_both id f.listed f'.listed s.said.listed)
+      → (o o' : Offered) (b b' : Bool) → IsQuiet (by_connection w f o b) → IsQuiet (by_connection w' f' o' b')
+      → Keeps p w w' f f' (inputs.Choose place id) (inputs.Choose place id) (by_connection w f o b) (by_connection w' f' o' b')
+  chosen_by place id said o o' true b' quiet quiet' = absurd (cc)
+  chosen_by place id said o o' false true quiet quiet' = absurd (cc)
+  chosen_by place id said o o' false false quiet quiet' =
+      keeps_does p w w' f f' s _ _ _ _
+      (record {
+        stage = refl;
+        told =
+            ap (λ e. cons_option e []) (prompt_untold w f o o.candidate.connected o.config.metadata)
+            ∙ sym (ap (λ e. cons_option e []) (prompt_untold w' f' o' o'.candidate.connected o'.config.metadata));
+        own = (prompt_own p w f o o.candidate.connected o.config.metadata, tt);
+      })
+      (ap (λ b. b || false) (prompt_taken w f o o.candidate.connected o.config.metadata))
+      (ap (λ b. b || false) (prompt_taken w' f' o' o'.candidate.connected o'.config.metadata)) said (inr refl)
 
-  settles_by : (place : ℕ) (id : List ℕ) → f.stage ≡ Choosing → (q q' : ProviderOptions) (c c' : Candidate) (b b' : Bool)
-      → IsQuiet (settles w f place q c b) → IsQuiet (settles w' f' place q' c' b')
-      → Keeps p w w' f f' (inputs.Choose place id) (inputs.Choose place id) (settles w f place q c b) (settles w' f' place q' c' b')
-  settles_by place id at q q' c c' true b' quiet quiet' =
-      asserts_loud f place q f.config (agreed_to f place c Chosen false)
-      (configured p f f' s (λ r. let no : Choosing ≡ Reading = sym at ∙ r in cc)) quiet
-  settles_by place id at q q' c c' false true quiet quiet' =
-      asserts_loud f' place q' f'.config (agreed_to f' place c' Chosen false)
-      (ap is_some (sym s.said.config) ∙ configured p f f' s (λ r. let no : Choosing ≡ Reading = sym at ∙ r in cc)) quiet'
-  settles_by place id at q q' c c' false false quiet quiet' =
-      keeps_moves p w w' f f' s _ _ Prompting _ _
-      (prompt_untold w f place q c c.connected (metadata_endpoint f.config))
-      (prompt_untold w' f' place q' c' c'.connected (metadata_endpoint f'.config))
-      (prompt_taken w f place q c c.connected (metadata_endpoint f.config))
-      (prompt_taken w' f' place q' c' c'.connected (metadata_endpoint f'.config))
-      (prompt_own p w f place q c c.connected (metadata_endpoint f.config)) (choice_by place id)
-      (inr (
-        refl,
-        inr
-            (ap is_some
-            (choice_config (option_and_then (chosen id) f.listed) f)
-            ∙ configured p f f' s (λ r. let no : Choosing ≡ Reading = sym at ∙ r in cc)),
-      ))
-
-  choice_of : (place : ℕ) (id : List ℕ) → f.stage ≡ Choosing → (q q' : Option ProviderOptions) → IfBoth (SameProvider p) q q'
-      → (c c' : Option Candidate) → IfBoth IsSameAccount c c'
-      → IsQuiet (choice w f place q c) → IsQuiet (choice w' f' place q' c')
-      → Keeps p w w' f f' (inputs.Choose place id) (inputs.Choose place id) (choice w f place q c) (choice w' f' place q' c')
-  choice_of place id at None None h c c' k quiet quiet' = keeps_ignored p w w' f f' s _ _ NoAccount NoAccount
-  choice_of place id at None (Some q') h c c' k quiet quiet' = absurd h
-  choice_of place id at (Some q) None h c c' k quiet quiet' = absurd h
-  choice_of place id at (Some q) (Some q') h None None k quiet quiet' = keeps_ignored p w w' f f' s _ _ NoAccount NoAccount
-  choice_of place id at (Some q) (Some q') h None (Some c') k quiet quiet' = absurd k
-  choice_of place id at (Some q) (Some q') h (Some c) None k quiet quiet' = absurd k
-  choice_of place id at (Some q) (Some q') h (Some c) (Some c') k quiet quiet' =
-      settles_by place id at q q' c c' c.connected c'.connected quiet quiet'
+  choice_of : (place : ℕ) (id : List ℕ) (o o' : Option Offered) → IfBoth (SameOffered p) o o'
+      → SameData p (with_input w false (inputs.Choose place id) f) (with_input w' false (inputs.Choose place id) f')
+      → IsQuiet (choice w f o) → IsQuiet (choice w' f' o')
+      → Keeps p w w' f f' (inputs.Choose place id) (inputs.Choose place id) (choice w f o) (choice w' f' o')
+  choice_of place id None None h said quiet quiet' = keeps_ignored p w w' f f' s _ _ NoAccount NoAccount
+  choice_of place id (Some o) (Some o') h said quiet quiet' =
+      chosen_by place id said o o' o.candidate.connected o'.candidate.connected quiet quiet'
+  choice_of place id None (Some o') h said quiet quiet' = absurd h
+  choice_of place id (Some o) None h said quiet quiet' = absurd h
 
   pub chose_by : (place : ℕ) (id : List ℕ) (st : Stage) → f.stage ≡ st → IsQuiet (chose w f st place id)
       → IsQuiet (chose w' f' st place id)
       → Keeps p w w' f f' (inputs.Choose place id) (inputs.Choose place id) (chose w f st place id) (chose w' f' st place id)
   chose_by place id Choosing at quiet quiet' =
-      choice_of place id at (provider_at place f.options) (provider_at place f'.options) (both p w w' agree f f' s place)
-      (option_and_then (chosen id) f.listed) (option_and_then (chosen id) f'.listed)
-      (chosen_both id f.listed f'.listed s.said.listed) quiet quiet'
+      let both = found_both place id f.offered f'.offered s.said.offered in
+      choice_of place id (found_offered place id f) (found_offered place id f') both
+      (choice_data (found_offered place id f) (found_offered place id f') both) quiet quiet'
   chose_by place id Reading at quiet quiet' = keeps_ignored p w w' f f' s _ _ NotOffered NotOffered
   chose_by place id Listing at quiet quiet' = keeps_ignored p w w' f f' s _ _ NotOffered NotOffered
+  chose_by place id Gathering at quiet quiet' = keeps_ignored p w w' f f' s _ _ NotOffered NotOffered
   chose_by place id Mismatch at quiet quiet' = keeps_ignored p w w' f f' s _ _ NotOffered NotOffered
   chose_by place id Window at quiet quiet' = keeps_ignored p w w' f f' s _ _ NotOffered NotOffered
   chose_by place id Prompting at quiet quiet' = keeps_ignored p w w' f f' s _ _ NotOffered NotOffered
@@ -446,6 +609,7 @@ module _ (p : Providers) (w w' : World) (agree : AgreeWorlds p w w') (f f' : Fac
   pub cancelled_by : (st : Stage) → Keeps p w w' f f' inputs.Cancel inputs.Cancel (cancelled st) (cancelled st)
   cancelled_by Reading = keeps_ignored p w w' f f' s _ _ NotOffered NotOffered
   cancelled_by Listing = keeps_ignored p w w' f f' s _ _ NotOffered NotOffered
+  cancelled_by Gathering = keeps_ignored p w w' f f' s _ _ NotOffered NotOffered
   cancelled_by Mismatch = keeps_fails p w w' f f' s _ _ (plain steps.UserCancelled) (plain steps.UserCancelled)
   cancelled_by Window = keeps_ignored p w w' f f' s _ _ NotOffered NotOffered
   cancelled_by Choosing = keeps_fails p w w' f f' s _ _ (plain steps.UserCancelled) (plain steps.UserCancelled)
@@ -455,33 +619,37 @@ module _ (p : Providers) (w w' : World) (agree : AgreeWorlds p w w') (f f' : Fac
 
   -- ---- signing in at the provider
 
-  sign_in_says : (ign : Bool) → SameData p (with_input w ign inputs.SignIn f) (with_input w' ign inputs.SignIn f')
-  sign_in_says true = s.said
-  sign_in_says false = s.said
+  configs_same : (place : ℕ) → config_at place f ≡ config_at place f'
+  configs_same place = ap (λ g. config_of (slice_get g place)) s.said.progress
 
   -- the configuration is the same, so is the login window
-  opens_by : (c c' : Option Configuration) → f.config ≡ c → c ≡ c'
+  opens_by : (c c' : Option Configuration) → c ≡ c'
       → Keeps p w w' f f' inputs.SignIn inputs.SignIn (opens_window only_place c) (opens_window only_place c')
-  opens_by None None is e = keeps_row p w w' f f' s _ _ stays tt sign_in_says (stands p f f' s)
-  opens_by (Some c) (Some c') is e =
-      keeps_moves p w w' f f' s _ _ Window _ _ refl refl refl refl tt s.said (inr (refl, inr (ap is_some is)))
-  opens_by None (Some c') is e = absurd (cc)
-  opens_by (Some c) None is e = absurd (cc)
+  opens_by None None e =
+      keeps_does p w w' f f' s _ _ _ _ (record { stage = refl; told = refl; own = tt }) refl refl s.said (stands p f f' s)
+  opens_by (Some c) (Some c') e =
+      keeps_does p w w' f f' s _ _ _ _ (record { stage = refl; told = refl; own = (tt, tt) }) refl refl s.said (inr refl)
+  opens_by None (Some c') e = absurd (cc)
+  opens_by (Some c) None e = absurd (cc)
 
-  pub sign_in_by : (st : Stage) → Keeps p w w' f f' inputs.SignIn inputs.SignIn (asked_to_sign_in f st) (asked_to_sign_in f' st)
-  sign_in_by Mismatch = opens_by f.config f'.config refl s.said.config
-  sign_in_by Reading = keeps_ignored p w w' f f' s _ _ NotOffered NotOffered
-  sign_in_by Listing = keeps_ignored p w w' f f' s _ _ NotOffered NotOffered
-  sign_in_by Window = keeps_ignored p w w' f f' s _ _ NotOffered NotOffered
-  sign_in_by Choosing = keeps_ignored p w w' f f' s _ _ NotOffered NotOffered
-  sign_in_by Prompting = keeps_ignored p w w' f f' s _ _ NotOffered NotOffered
-  sign_in_by Asserting = keeps_ignored p w w' f f' s _ _ NotOffered NotOffered
-  sign_in_by Ended = keeps_ignored p w w' f f' s _ _ NotOffered NotOffered
+  pub sign_in_by : (st : Stage) → f.stage ≡ st
+      → Keeps p w w' f f' inputs.SignIn inputs.SignIn (asked_to_sign_in f st) (asked_to_sign_in f' st)
+  sign_in_by Mismatch at =
+      opens_by (config_at only_place f) (config_at only_place f') (configs_same only_place)
+  sign_in_by Reading at = keeps_ignored p w w' f f' s _ _ NotOffered NotOffered
+  sign_in_by Listing at = keeps_ignored p w w' f f' s _ _ NotOffered NotOffered
+  sign_in_by Gathering at = keeps_ignored p w w' f f' s _ _ NotOffered NotOffered
+  sign_in_by Window at = keeps_ignored p w w' f f' s _ _ NotOffered NotOffered
+  sign_in_by Choosing at = keeps_ignored p w w' f f' s _ _ NotOffered NotOffered
+  sign_in_by Prompting at = keeps_ignored p w w' f f' s _ _ NotOffered NotOffered
+  sign_in_by Asserting at = keeps_ignored p w w' f f' s _ _ NotOffered NotOffered
+  sign_in_by Ended at = keeps_ignored p w w' f f' s _ _ NotOffered NotOffered
 
   pub shut_by : (st : Stage) → Keeps p w w' f f' inputs.Shut inputs.Shut (window_shut st) (window_shut st)
   shut_by Window = keeps_fails p w w' f f' s _ _ (plain steps.WindowShut) (plain steps.WindowShut)
   shut_by Reading = keeps_ignored p w w' f f' s _ _ NotOffered NotOffered
   shut_by Listing = keeps_ignored p w w' f f' s _ _ NotOffered NotOffered
+  shut_by Gathering = keeps_ignored p w w' f f' s _ _ NotOffered NotOffered
   shut_by Mismatch = keeps_ignored p w w' f f' s _ _ NotOffered NotOffered
   shut_by Choosing = keeps_ignored p w w' f f' s _ _ NotOffered NotOffered
   shut_by Prompting = keeps_ignored p w w' f f' s _ _ NotOffered NotOffered
@@ -496,28 +664,22 @@ pub record Still (p : Providers) (o : Outcome) : Type 0 where
   pub told : filter_map told_effect o.effects ≡ []
   pub own : AllOwn p o.effects
 
-still_goes : (p : Providers) (f : Facts) (waits : Bool) (picked : Option Candidate) → is_some f.config ≡ true
-    → (q : Option ProviderOptions)
-    → provider_at only_place f.options ≡ q → IsQuiet (goes_on f waits picked) → Still p (goes_on f waits picked)
-still_goes p f true picked known q is quiet = record { stage = refl; told = refl; own = (tt, tt) }
-still_goes p f false None known q is quiet = record { stage = refl; told = refl; own = tt }
-still_goes p f false (Some c) known None is quiet =
-    subst (λ q. Still p (asserts f only_place q f.config (agreed_to f only_place c Prompted (not c.connected)))) (sym is)
-    (record { stage = refl; told = refl; own = tt })
-still_goes p f false (Some c) known (Some q) is quiet =
-    asserts_loud f only_place q f.config (agreed_to f only_place c Prompted (not c.connected)) known
-    (subst (λ q. IsQuiet (asserts f only_place q f.config (agreed_to f only_place c Prompted (not c.connected)))) is quiet)
+still_goes : (p : Providers) (f : Facts) (waits : Bool) (picked : Option Offered) → IsQuiet (goes_on f waits picked)
+    → Still p (goes_on f waits picked)
+still_goes p f true picked quiet = record { stage = refl; told = refl; own = (tt, tt) }
+still_goes p f false None quiet = record { stage = refl; told = refl; own = tt }
+still_goes p f false (Some o) quiet = absurd (cc)
 
-pub still_went : (p : Providers) (f : Facts) (st : Stage) → (st ≡ Prompting → is_some f.config ≡ true) → IsQuiet (went_on f st)
-    → Still p (went_on f st)
-still_went p f Prompting known quiet = still_goes p f f.waits f.picked (known refl) (provider_at only_place f.options) refl quiet
-still_went p f Reading known quiet = record { stage = refl; told = refl; own = (tt, tt) }
-still_went p f Listing known quiet = record { stage = refl; told = refl; own = (tt, tt) }
-still_went p f Mismatch known quiet = record { stage = refl; told = refl; own = (tt, tt) }
-still_went p f Window known quiet = record { stage = refl; told = refl; own = (tt, tt) }
-still_went p f Choosing known quiet = record { stage = refl; told = refl; own = (tt, tt) }
-still_went p f Asserting known quiet = record { stage = refl; told = refl; own = (tt, tt) }
-still_went p f Ended known quiet = record { stage = refl; told = refl; own = (tt, tt) }
+pub still_went : (p : Providers) (f : Facts) (st : Stage) → IsQuiet (went_on f st) → Still p (went_on f st)
+still_went p f Prompting quiet = still_goes p f f.waits f.picked quiet
+still_went p f Reading quiet = record { stage = refl; told = refl; own = (tt, tt) }
+still_went p f Listing quiet = record { stage = refl; told = refl; own = (tt, tt) }
+still_went p f Gathering quiet = record { stage = refl; told = refl; own = (tt, tt) }
+still_went p f Mismatch quiet = record { stage = refl; told = refl; own = (tt, tt) }
+still_went p f Window quiet = record { stage = refl; told = refl; own = (tt, tt) }
+still_went p f Choosing quiet = record { stage = refl; told = refl; own = (tt, tt) }
+still_went p f Asserting quiet = record { stage = refl; told = refl; own = (tt, tt) }
+still_went p f Ended quiet = record { stage = refl; told = refl; own = (tt, tt) }
 
 said_nothing : (w : World) (ign : Bool) (f : Facts) → with_input w ign inputs.GoOn f ≡ f
 said_nothing w true f = refl
@@ -558,17 +720,14 @@ waits_over p f g s =
     record {
       stage = s.stage;
       goes_on = s.goes_on;
-      past = s.past;
-      said =
-          record { options = s.said.options; heard = s.said.heard; config = s.said.config; known = s.said.known; listed = s.said.listed };
+      said = record { options = s.said.options; progress = s.said.progress; known = s.said.known; offered = s.said.offered };
     }
 
-unseen_metadata : (p : Providers) (w : World) (f g : Facts) → SameFacts p f g → f.stage ≡ Prompting
-    → (place : ℕ) (raw : List ℕ) (waits : Bool) (q : Option ProviderOptions)
-    → Unseen p w f (inputs.Reply place kinds.Metadata raw) (metadata_reply w f waits place q raw) g
-unseen_metadata p w f g s at place raw false q = unseen_ignored p w f g s (inputs.Reply place kinds.Metadata raw) NotWaited
-unseen_metadata p w f g s at place raw true None = unseen_ignored p w f g s (inputs.Reply place kinds.Metadata raw) NotWaited
-unseen_metadata p w f g s at place raw true (Some q) = shown f.picked
+unseen_metadata : (p : Providers) (w : World) (f g : Facts) → SameFacts p f g → (place : ℕ) (raw : List ℕ) (waits : Bool)
+    (picked : Option Offered) → Unseen p w f (inputs.Reply place kinds.Metadata raw) (metadata_reply w f waits picked raw) g
+unseen_metadata p w f g s place raw false picked = unseen_ignored p w f g s (inputs.Reply place kinds.Metadata raw) NotWaited
+unseen_metadata p w f g s place raw true None = unseen_ignored p w f g s (inputs.Reply place kinds.Metadata raw) NotWaited
+unseen_metadata p w f g s place raw true (Some o) = record { told = refl; stays = refl; after = stays_so }
   where
     over : Facts
     over = record f { waits = false }
@@ -576,17 +735,20 @@ unseen_metadata p w f g s at place raw true (Some q) = shown f.picked
     stays_so : SameCall p (at_stage f.stage over) (Some g)
     stays_so = subst (λ x. SameCall p x (Some g)) (sym (open_facts over s.goes_on)) (waits_over p f g s)
 
-    shown : (picked : Option Candidate) → Unseen p w f (inputs.Reply place kinds.Metadata raw) (links_shown w f place picked
-        (MetadataOf raw)) g
-    shown None = record { told = refl; stays = refl; after = stays_so }
-    shown (Some c) = record { told = refl; stays = refl; after = stays_so }
+unseen_first : (p : Providers) (w : World) (f g : Facts) → SameFacts p f g → (place : ℕ) (raw : List ℕ)
+    → Unseen p w f (inputs.Reply place kinds.Metadata raw) (awaited_reply w f place kinds.Metadata raw) g
+unseen_first p w f g s place raw =
+    subst (λ o. Unseen p w f (inputs.Reply place kinds.Metadata raw) o g)
+    (sym (unawaited_row w f place (provider_at place f.options) _ (no_metadata w f place raw)))
+    (unseen_ignored p w f g s (inputs.Reply place kinds.Metadata raw) NotWaited)
 
 pub unseen_reply : (p : Providers) (w : World) (f g : Facts) → SameFacts p f g → (place : ℕ) (raw : List ℕ) (st : Stage)
     → f.stage ≡ st
     → Unseen p w f (inputs.Reply place kinds.Metadata raw) (stage_reply w f st place kinds.Metadata raw) g
-unseen_reply p w f g s place raw Prompting at = unseen_metadata p w f g s at place raw f.waits (provider_at place f.options)
-unseen_reply p w f g s place raw Reading at = unseen_ignored p w f g s (inputs.Reply place kinds.Metadata raw) NotWaited
-unseen_reply p w f g s place raw Listing at = unseen_ignored p w f g s (inputs.Reply place kinds.Metadata raw) NotWaited
+unseen_reply p w f g s place raw Prompting at = unseen_metadata p w f g s place raw f.waits (picked_at place f.picked)
+unseen_reply p w f g s place raw Reading at = unseen_first p w f g s place raw
+unseen_reply p w f g s place raw Listing at = unseen_first p w f g s place raw
+unseen_reply p w f g s place raw Gathering at = unseen_first p w f g s place raw
 unseen_reply p w f g s place raw Mismatch at = unseen_ignored p w f g s (inputs.Reply place kinds.Metadata raw) NotWaited
 unseen_reply p w f g s place raw Window at = unseen_ignored p w f g s (inputs.Reply place kinds.Metadata raw) NotWaited
 unseen_reply p w f g s place raw Choosing at = unseen_ignored p w f g s (inputs.Reply place kinds.Metadata raw) NotWaited

@@ -17,7 +17,7 @@ use Rattle.fed_script.specs.declared.event.Event.{Event}
 use Rattle.fed_script.specs.declared.event.Event.TheVariants as events
 use Rattle.fed_script.specs.declared.event.Numbered.{Numbered}
 use Rattle.fed_script.specs.Script.{Script, IsRead, AreRead}
-use Rattle.fed_script.specs.Used.{UsedState, unused, used_after, IsUnused, HasOneProvider, HasKnownStatus}
+use Rattle.fed_script.specs.Used.{UsedState, unused, used_after, IsUnused, HasProviders, HasKnownStatus}
 use Rattle.fed_trace.specs.declared.out.Out.{Out}
 use Rattle.fed_trace.specs.declared.out.Out.TheVariants.{Request}
 use Rattle.fed_trace.specs.Effect.{Effect, Sent}
@@ -320,7 +320,7 @@ pub record GoesOn (s : Script) (most : ℕ) (session : State) (rest : List Numbe
   pub read : AreRead used rest
   pub few : kept ≤ most
   pub all : total ≡ requests_of trace
-  pub bound : total ≤ 1000003 * length trace.rows
+  pub bound : total ≤ 1000020 * length trace.rows
   pub waiting : length (open_windows trace) ≤ length trace.rows
   pub same : run trace rest most kept sent ≡ run (start s.header) s.events most 0 0
 
@@ -386,7 +386,7 @@ fresh session T used (events.SetStatus page status) stands untaken unused = tt
 pub record MayStep (session : State) (event : Event) : Type 0 where
   pub few : session.steps < 1000000
   pub fresh : IsFresh session event
-  pub provider : HasOneProvider event
+  pub provider : HasProviders event
   pub status : HasKnownStatus event
 
 pub may_step : {s : Script} {most kept sent total : ℕ} {session : State} {n : Numbered} {ns : List Numbered}
@@ -431,7 +431,7 @@ pub fits_more : {s : Script} {most kept sent total : ℕ} {session session' : St
     → total + requests < 2 ^ 64
 fits_more {n = n} requests takes is h =
     let row = row_found {n = n} h.trace requests h.stands takes is in
-    omega (arith, h.bound, row.1, few_requests h.trace n.event, h.waiting, h.count, h.read.0.few)
+    omega (arith, h.bound, row.1, few_requests h.trace n.event h.read.0.provider, h.waiting, h.count, h.read.0.few)
 
 -- over a quiet event, by whether it is kept
 goes_on : {s : Script} {most kept sent total : ℕ} {session session' : State} {n : Numbered} {ns : List Numbered} {found : Option ℕ}
@@ -461,7 +461,7 @@ goes_on {s = s} {most = most} {kept = kept} {sent = sent} {total = total} {sessi
       read = h.read.1;
       few = few_by more;
       all = all;
-      bound = omega (arith, h.bound, row.1, few_requests h.trace n.event, h.waiting, count, h.read.0.few);
+      bound = omega (arith, h.bound, row.1, few_requests h.trace n.event h.read.0.provider, h.waiting, count, h.read.0.few);
       waiting = let le = few_windows h.trace n.line n.event in omega (arith, le, h.waiting);
       same = by more kind all ∙ sym (run-quiet h.trace n ns most kept sent apart row.0) ∙ h.same;
     }

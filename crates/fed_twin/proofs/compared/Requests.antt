@@ -23,11 +23,13 @@ use Rattle.fed_consent.specs.Outcomes.{Outcome}
 use Rattle.fed_call.specs.Row.{input_row}
 use Rattle.fed_script.specs.declared.event.Event.{Event}
 use Rattle.fed_script.specs.declared.event.Event.TheVariants as events
+use Rattle.fed_script.specs.Used.{HasProviders}
 use Rattle.fed_disconnect.specs.Rows as disconnect_rows
 use Rattle.fed_trace.specs.Begun.{CallKind, GetCall, DisconnectCall, CallOptions, ToGet, ToDisconnect, kind_asked}
 use Rattle.fed_trace.specs.Call.{Known, OfGet, OfDisconnect, kind_of, page_of, get_outcome, first_row}
 use Rattle.fed_trace.specs.Call.{input_row as any_row}
-use Rattle.fed_trace.specs.Effect.{Effect, Time, Page, Closed, Cookie, Login, Begin, Move, Sent, Shown, Window, Kept, Flag, Result, Ignored}
+use Rattle.fed_trace.specs.Effect.{Effect, Time, Page, Closed, Cookie, Login, Begin, Move, Sent, Dropped, Shown, Window, Kept, Flag}
+use Rattle.fed_trace.specs.Effect.{Result, Ignored}
 use Rattle.fed_trace.specs.Effect.{is_window, key_change, window_change}
 use Rattle.fed_trace.specs.Keyed.{changed, entries_after}
 use Rattle.fed_trace.specs.Known.{world_at, is_begun, known_at}
@@ -72,6 +74,7 @@ few_sent world cookies call page effects = all effects
     all (does.Finish finish ∷ es) = more _ (does.Finish finish) es (all es)
     all (does.Ignored why ∷ es) = more _ (does.Ignored why) es (all es)
     all (does.Dialog dialog ∷ es) = more _ (does.Dialog dialog) es (all es)
+    all (does.Dropped place failure ∷ es) = more _ (does.Dropped place failure) es (all es)
     all (does.Window place url ∷ es) = more _ (does.Window place url) es (all es)
     all (does.SetLogin origin status ∷ es) = more _ (does.SetLogin origin status) es (all es)
     all (does.Keep triple ∷ es) = more _ (does.Keep triple) es (all es)
@@ -90,6 +93,7 @@ disconnect_sends_none world cookies call page (does.Send provider ask ∷ es) = 
 disconnect_sends_none world cookies call page (does.Finish finish ∷ es) = disconnect_sends_none world cookies call page es
 disconnect_sends_none world cookies call page (does.Ignored why ∷ es) = disconnect_sends_none world cookies call page es
 disconnect_sends_none world cookies call page (does.Dialog dialog ∷ es) = disconnect_sends_none world cookies call page es
+disconnect_sends_none world cookies call page (does.Dropped place failure ∷ es) = disconnect_sends_none world cookies call page es
 disconnect_sends_none world cookies call page (does.Window place url ∷ es) = disconnect_sends_none world cookies call page es
 disconnect_sends_none world cookies call page (does.SetLogin origin status ∷ es) = disconnect_sends_none world cookies call page es
 disconnect_sends_none world cookies call page (does.Keep triple ∷ es) = disconnect_sends_none world cookies call page es
@@ -115,42 +119,50 @@ pub disconnect_sent : (world : World) (cookies : Ask → List ℕ) (call page : 
 disconnect_sent world cookies call page outcome =
     sent_done world cookies DisconnectCall call page outcome ∙ disconnect_sends_none world cookies call page outcome.effects
 
-few_of_get : (world : World) (cookies : Ask → List ℕ) (call page : ℕ) (outcome : Outcome) → length outcome.effects ≤ 3
-    → length (filter_map first_sent (outcome_effects world cookies GetCall call page outcome)) ≤ 3
+few_of_get : (world : World) (cookies : Ask → List ℕ) (call page : ℕ) (outcome : Outcome) → length outcome.effects ≤ 20
+    → length (filter_map first_sent (outcome_effects world cookies GetCall call page outcome)) ≤ 20
 few_of_get world cookies call page outcome short =
     let few = few_sent world cookies call page outcome.effects in
     rw (sent_done world cookies GetCall call page outcome) (omega (arith, few, short))
 
 few_of_disconnect : (world : World) (cookies : Ask → List ℕ) (call page : ℕ) (outcome : Outcome)
-    → length (filter_map first_sent (outcome_effects world cookies DisconnectCall call page outcome)) ≤ 3
+    → length (filter_map first_sent (outcome_effects world cookies DisconnectCall call page outcome)) ≤ 20
 few_of_disconnect world cookies call page outcome =
     rw (disconnect_sent world cookies call page outcome) (lit≤ tt)
 
-few_of_silent : (effects : List Effect) → AllSilent first_sent effects → length (filter_map first_sent effects) ≤ 3
+few_of_silent : (effects : List Effect) → AllSilent first_sent effects → length (filter_map first_sent effects) ≤ 20
 few_of_silent effects silent = rw (said_silent first_sent effects silent) (lit≤ tt)
+
+-- a get has one to ten providers
+abbrev IsFew : CallOptions → Type 0
+IsFew (ToGet options) = (1 ≤ length options.providers) × (length options.providers ≤ 10)
+IsFew (ToDisconnect options) = ⊤
 
 few_of_standing : (world : World) (cookies : Ask
     → List ℕ) (trusted busy : Bool) (call page : ℕ) (origin : Origin) (options : CallOptions)
-    → length (filter_map first_sent (standing_call world cookies trusted busy
-    (record { call = call; page = page; origin = origin; options = options }))) ≤ 3
-few_of_standing world cookies false busy call page origin options = lit≤ tt
-few_of_standing world cookies true busy call page origin (ToGet options) =
-    few_of_get world cookies call page (get_outcome world busy origin options) (small_get world busy origin options).few
-few_of_standing world cookies true busy call page origin (ToDisconnect options) =
+    → IsFew options → length (filter_map first_sent (standing_call world cookies trusted busy
+    (record { call = call; page = page; origin = origin; options = options }))) ≤ 20
+few_of_standing world cookies false busy call page origin options few = lit≤ tt
+few_of_standing world cookies true busy call page origin (ToGet options) few =
+    let most = few.1 in
+    let does = (small_get world busy origin options few.0).few in
+    few_of_get world cookies call page (get_outcome world busy origin options) (omega (arith, does, most))
+few_of_standing world cookies true busy call page origin (ToDisconnect options) few =
     few_of_disconnect world cookies call page (first_row world busy origin (ToDisconnect options))
 
 few_of_begin : (world : World) (cookies : Ask → List ℕ) (origin : Option Origin) (busy : Bool) (page call : ℕ) (options : CallOptions)
-    → length (filter_map first_sent (begin_effects world cookies origin busy page call options)) ≤ 3
-few_of_begin world cookies None busy page call options = lit≤ tt
-few_of_begin world cookies (Some origin) busy page call options =
-    few_of_standing world cookies (is_trustworthy origin) busy call page origin options
+    → IsFew options → length (filter_map first_sent (begin_effects world cookies origin busy page call options)) ≤ 20
+few_of_begin world cookies None busy page call options few = lit≤ tt
+few_of_begin world cookies (Some origin) busy page call options few =
+    few_of_standing world cookies (is_trustworthy origin) busy call page origin options few
 
 few_of_input : (world : World) (cookies : Ask → List ℕ) (taken : Bool) (call : ℕ) (known : Option Known) (input : Input)
-    → length (filter_map first_sent (input_effects world cookies taken call known input)) ≤ 3
+    → length (filter_map first_sent (input_effects world cookies taken call known input)) ≤ 20
 few_of_input world cookies false call known input = lit≤ tt
 few_of_input world cookies true call None input = lit≤ tt
 few_of_input world cookies true call (Some (OfGet facts)) input =
-    few_of_get world cookies call facts.page (input_row world facts input) (few_input world facts input)
+    let few = few_input world facts input in
+    few_of_get world cookies call facts.page (input_row world facts input) (omega (arith, few))
 few_of_input world cookies true call (Some (OfDisconnect facts)) input =
     few_of_disconnect world cookies call facts.page (disconnect_rows.input_row world facts input)
 
@@ -213,6 +225,7 @@ none_more (Login origin status ∷ does) h ws = none_more does h.1 ws
 none_more (Begin b ∷ does) h ws = none_more does h.1 ws
 none_more (Sent kind call provider ask cookies ∷ does) h ws = none_more does h.1 ws
 none_more (Shown call dialog ∷ does) h ws = none_more does h.1 ws
+none_more (Dropped call provider failure ∷ does) h ws = none_more does h.1 ws
 none_more (Window call provider url ∷ does) h ws = none_more does h.1 ws
 none_more (Kept triple stays ∷ does) h ws = none_more does h.1 ws
 none_more (Flag origin stays ∷ does) h ws = none_more does h.1 ws
@@ -237,7 +250,7 @@ few_outcome world cookies kind call page outcome ws =
     subst (λ es. length es ≤ 1 + length ws)
     (sym (entries_after-append nat_eq window_change does (moves kind call outcome.stage) ws
     ∙ ap (entries_after nat_eq window_change (moves kind call outcome.stage)) (entries_silent nat_eq window_change does ws
-    (silent_call window_change (λ n c p a k. refl) (λ c d. refl) (λ c p u. refl) (λ o s. refl) (λ t k. refl) (λ o k. refl)
+    (silent_call window_change (λ n c p a k. refl) (λ c d. refl) (λ c p f. refl) (λ c p u. refl) (λ o s. refl) (λ t k. refl) (λ o k. refl)
     (λ c p f. refl) (λ w. refl) world cookies kind call page outcome.effects))))
     (few_moved kind call outcome.stage ws)
 
@@ -348,12 +361,12 @@ all_ask world cookies known (call ∷ calls) =
 
 few_resumed : (T : Trace) (o : Option Origin)
     → length (filter_map first_sent (idpclose_effects (world_at T) (cookies_with T) (known_at T) (windows_of T) o))
-    ≤ 3 + length (open_windows T)
+    ≤ 20 + length (open_windows T)
 few_resumed T None = omega arith
 few_resumed T (Some origin) = go (is_trustworthy origin)
   where
     waiting : (calls : List ℕ) → windows_of T origin ≡ calls
-        → length (filter_map first_sent (waiting_effects (world_at T) (cookies_with T) (known_at T) calls)) ≤ 3 + length (open_windows T)
+        → length (filter_map first_sent (waiting_effects (world_at T) (cookies_with T) (known_at T) calls)) ≤ 20 + length (open_windows T)
     waiting [] is = omega arith
     waiting (call ∷ calls) is =
         let some = all_ask (world_at T) (cookies_with T) (known_at T) (call ∷ calls) in
@@ -363,7 +376,7 @@ few_resumed T (Some origin) = go (is_trustworthy origin)
 
     go : (trusted : Bool)
         → length (filter_map first_sent (standing_resumes (world_at T) (cookies_with T) (known_at T) (windows_of T origin) trusted))
-        ≤ 3 + length (open_windows T)
+        ≤ 20 + length (open_windows T)
     go true = waiting (windows_of T origin) refl
     go false = omega arith
 
@@ -374,44 +387,45 @@ abbrev is_idpclose : Event → Bool
 is_idpclose (events.IdpClose page) = true
 is_idpclose _ = false
 
-few_sent_by : (T : Trace) (event : Event) → is_idpclose event ≡ false → length (filter_map first_sent (effects_of T event)) ≤ 3
-few_sent_by T (events.Have have) other =
+few_sent_by : (T : Trace) (event : Event) → HasProviders event → is_idpclose event ≡ false → length (filter_map first_sent (effects_of T event)) ≤ 20
+few_sent_by T (events.Have have) few other =
     few_of_silent _ (have_silent first_sent (record { cookie = λ c. refl; login = λ o s. refl; kept = λ t k. refl; flag = λ o k. refl })
     (have_cookies T.header.rules (now_at T) have) have)
-few_sent_by T (events.At time) other = lit≤ tt
-few_sent_by T (events.Load page url raw) other =
+few_sent_by T (events.At time) few other = lit≤ tt
+few_sent_by T (events.Load page url raw) few other =
     few_of_silent _
     (load_silent first_sent (λ n c. refl) (λ p o. refl) (λ c. refl) (λ o s. refl) (pending_of T page) page url
     (cookies_from T.header.rules url (now_at T) (set_cookies raw)) (set_logins raw))
-few_sent_by T (events.ClosePage page) other = few_of_silent _ (silent_close (pending_of T page) page (page_at T page))
-few_sent_by T (events.Get page call options) other =
-    few_of_begin (world_at T) (cookies_with T) (page_at T page) (is_busy page (gets T)) page call (ToGet options)
-few_sent_by T (events.Abort call) other = few_of_input (world_at T) (cookies_with T) (is_begun T call) call (known_at T call) inputs.Abort
-few_sent_by T (events.GoOn call) other = few_of_input (world_at T) (cookies_with T) (is_begun T call) call (known_at T call) inputs.GoOn
-few_sent_by T (events.Cancel call) other =
+few_sent_by T (events.ClosePage page) few other = few_of_silent _ (silent_close (pending_of T page) page (page_at T page))
+few_sent_by T (events.Get page call options) few other =
+    few_of_begin (world_at T) (cookies_with T) (page_at T page) (is_busy page (gets T)) page call (ToGet options) few
+few_sent_by T (events.Abort call) few other = few_of_input (world_at T) (cookies_with T) (is_begun T call) call (known_at T call) inputs.Abort
+few_sent_by T (events.GoOn call) few other = few_of_input (world_at T) (cookies_with T) (is_begun T call) call (known_at T call) inputs.GoOn
+few_sent_by T (events.Cancel call) few other =
     few_of_input (world_at T) (cookies_with T) (is_begun T call) call (known_at T call) inputs.Cancel
-few_sent_by T (events.SignIn call) other =
+few_sent_by T (events.SignIn call) few other =
     few_of_input (world_at T) (cookies_with T) (is_begun T call) call (known_at T call) inputs.SignIn
-few_sent_by T (events.ShutWindow call) other =
+few_sent_by T (events.ShutWindow call) few other =
     few_of_input (world_at T) (cookies_with T) (is_begun T call) call (known_at T call) inputs.Shut
-few_sent_by T (events.IdpClose page) other = absurd (cc)
-few_sent_by T (events.Reply call place kind raw) other =
+few_sent_by T (events.IdpClose page) few other = absurd (cc)
+few_sent_by T (events.Reply call place kind raw) few other =
     few_of_input (world_at T) (cookies_with T) (is_begun T call) call (known_at T call) (inputs.Reply place kind raw)
-few_sent_by T (events.Choose call place id) other =
+few_sent_by T (events.Choose call place id) few other =
     few_of_input (world_at T) (cookies_with T) (is_begun T call) call (known_at T call) (inputs.Choose place id)
-few_sent_by T (events.Prevent page) other =
+few_sent_by T (events.Prevent page) few other =
     few_of_silent _ (says_silent first_sent (λ origin. Flag origin true) (λ o. refl) (λ w. refl) (page_at T page))
-few_sent_by T (events.SetStatus page status) other =
+few_sent_by T (events.SetStatus page status) few other =
     few_of_silent _ (says_silent first_sent (λ origin. Login origin status) (λ o. refl) (λ w. refl) (page_at T page))
-few_sent_by T (events.Disconnect page call config client hint) other =
+few_sent_by T (events.Disconnect page call config client hint) few other =
     few_of_begin (world_at T) (cookies_with T) (page_at T page) (is_busy page (gets T)) page call
-    (ToDisconnect (record { config = config; client = client; hint = hint }))
+    (ToDisconnect (record { config = config; client = client; hint = hint })) tt
 
-pub few_requests : (T : Trace) (event : Event)
-    → length (filter_map first_sent (effects_of T event)) ≤ 3 + length (open_windows T)
-few_requests T event = go event (is_idpclose event) refl
+pub few_requests : (T : Trace) (event : Event) → HasProviders event
+    → length (filter_map first_sent (effects_of T event)) ≤ 20 + length (open_windows T)
+few_requests T event few = go event few (is_idpclose event) refl
   where
-    go : (e : Event) (b : Bool) → is_idpclose e ≡ b → length (filter_map first_sent (effects_of T e)) ≤ 3 + length (open_windows T)
-    go (events.IdpClose page) b is = few_resumed T (page_at T page)
-    go e false is = let le = few_sent_by T e is in omega (arith, le)
-    go e true is = absurd (cc)
+    go : (e : Event) → HasProviders e → (b : Bool) → is_idpclose e ≡ b
+        → length (filter_map first_sent (effects_of T e)) ≤ 20 + length (open_windows T)
+    go (events.IdpClose page) few b is = few_resumed T (page_at T page)
+    go e few false is = let le = few_sent_by T e few is in omega (arith, le)
+    go e few true is = absurd (cc)

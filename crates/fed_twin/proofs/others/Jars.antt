@@ -64,6 +64,7 @@ blind said h (effects.Login origin status) = refl
 blind said h (effects.Begin b) = refl
 blind said h (effects.Move kind call stage) = refl
 blind said h (effects.Shown call dialog) = refl
+blind said h (effects.Dropped call provider failure) = refl
 blind said h (effects.Window call provider url) = refl
 blind said h (effects.Kept triple stays) = refl
 blind said h (effects.Flag origin stays) = refl
@@ -111,6 +112,8 @@ any_same test c s (effects.Login origin status ∷ es) = ap (λ b. test (effects
 any_same test c s (effects.Begin begun ∷ es) = ap (λ b. test (effects.Begin begun) || b) (any_same test c s es)
 any_same test c s (effects.Move kind call stage ∷ es) = ap (λ b. test (effects.Move kind call stage) || b) (any_same test c s es)
 any_same test c s (effects.Shown call dialog ∷ es) = ap (λ b. test (effects.Shown call dialog) || b) (any_same test c s es)
+any_same test c s (effects.Dropped call provider failure ∷ es) =
+    ap (λ b. test (effects.Dropped call provider failure) || b) (any_same test c s es)
 any_same test c s (effects.Window call provider url ∷ es) = ap (λ b. test (effects.Window call provider url) || b) (any_same test c s es)
 any_same test c s (effects.Kept triple stays ∷ es) = ap (λ b. test (effects.Kept triple stays) || b) (any_same test c s es)
 any_same test c s (effects.Flag origin stays ∷ es) = ap (λ b. test (effects.Flag origin stays) || b) (any_same test c s es)
@@ -234,6 +237,8 @@ but_call w ck ck' kind call page (does.Finish finish ∷ es) =
 but_call w ck ck' kind call page (does.Ignored why ∷ es) = ap (λ xs. effects.Ignored why ∷ xs) (but_call w ck ck' kind call page es)
 but_call w ck ck' kind call page (does.Dialog dialog ∷ es) =
     ap (λ xs. effects.Shown call dialog ∷ xs) (but_call w ck ck' kind call page es)
+but_call w ck ck' kind call page (does.Dropped place failure ∷ es) =
+    ap (λ xs. effects.Dropped call place failure ∷ xs) (but_call w ck ck' kind call page es)
 but_call w ck ck' kind call page (does.Window place url ∷ es) =
     ap (λ xs. effects.Window call place url ∷ xs) (but_call w ck ck' kind call page es)
 but_call w ck ck' kind call page (does.Keep triple ∷ es) =
@@ -410,7 +415,7 @@ jar_step T U h line line' {e} {e'} alike =
       header = h.header;
       does = ap₂ (λ xs ys. xs ++ ys) h.does effects_same;
       known = λ q.
-          ap₂ (λ b k. option_or (option_map known_first b) k) (begins_same q)
+          ap₂ option_or (ap₂ (λ w b. option_map (known_first w) b) (same_world T U h) (begins_same q))
           (ap₂ (λ g k. option_map g k)
           (ap (λ w. with_said w (list_any is_ignored (effects_of T e)) (input_to q e)) (same_world T U h)
           ∙ ap₂ (λ b i. with_said (world_at U) b i) ignored_same (same_inputs q alike))

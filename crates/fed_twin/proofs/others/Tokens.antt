@@ -6,10 +6,10 @@ use Rattle.std.specs.Prelude.{◌==◌, option_map, option_and_then, unwrap_or, 
 use Rattle.std.specs.Option.{option_or}
 use Rattle.std.specs.List.{filter_map, cons_option, list_any}
 use Rattle.url.specs.Parts.{Parts}
-use Rattle.fed_origin.specs.declared.options.ProviderOptions.{ProviderOptions}
 use Rattle.fed_origin.specs.declared.stage.ReplyKind.TheVariants as kinds
 use Rattle.fed_origin.specs.declared.stage.Stage.{Stage}
-use Rattle.fed_origin.specs.declared.stage.Stage.TheVariants.{Reading, Listing, Mismatch, Window, Choosing, Prompting, Asserting, Ended}
+use Rattle.fed_origin.specs.declared.stage.Stage.TheVariants.{Reading, Listing, Gathering, Mismatch, Window, Choosing, Prompting}
+use Rattle.fed_origin.specs.declared.stage.Stage.TheVariants.{Asserting, Ended}
 use Rattle.fed_origin.specs.Origin.{same_origin, origin_text}
 use Rattle.fed_origin.specs.WebUrl.{origin_of}
 use Rattle.fed_jar.specs.Writes as jar
@@ -22,12 +22,12 @@ use Rattle.fed_consent.specs.declared.table.ask.Ask.{Ask}
 use Rattle.fed_consent.specs.declared.table.ask.Ask.TheVariants as asks
 use Rattle.fed_consent.specs.declared.table.input.Input.{Input}
 use Rattle.fed_consent.specs.declared.table.input.Input.TheVariants as inputs
-use Rattle.fed_call.specs.AssertingRows.{clears, keeps, by_token, assertion_reply}
+use Rattle.fed_call.specs.Accounts.{Offered, provider_at}
+use Rattle.fed_call.specs.AssertingRows.{clears, keeps, by_token, assertion_reply, picked_at}
 use Rattle.fed_consent.specs.declared.table.finish.Finish.TheVariants.{Token}
-use Rattle.fed_consent.specs.Consent.{Candidate}
 use Rattle.fed_consent.specs.Outcomes.{finishes, only_place}
-use Rattle.fed_call.specs.Facts.{Facts, provider_at}
-use Rattle.fed_call.specs.Row.{stage_reply}
+use Rattle.fed_call.specs.Facts.{Facts}
+use Rattle.fed_call.specs.Row.{awaited_reply, provider_row, stage_reply}
 use Rattle.fed_script.specs.declared.event.Event.{Event}
 use Rattle.fed_script.specs.declared.event.Event.TheVariants as events
 use Rattle.fed_script.specs.declared.event.Have.TheVariants as haves
@@ -50,6 +50,7 @@ use Rattle.fed_trace.specs.Trace.{Row, Trace, page_at, logins, kept, flags, stan
 use Rattle.fed_trace.specs.Trace.{last_in}
 use Rattle.fed_trace.specs.Trace as trace
 use Rattle.fed_trace.specs.OfScript.{start, with_events}
+use Rattle.fed_twin.proofs.calls.Row.{no_assertion}
 use Rattle.fed_twin.specs.Tokens.{AreTokens, reply_at, ButToken, Equal, Tokens, OneToken}
 use Rattle.std.specs.Map.{keys_of}
 use Rattle.fed_origin.specs.Status.{same_triple}
@@ -198,7 +199,7 @@ grow_all T U h line line' e e' reads said =
       taken = ap₂ (λ xs ys. xs ++ ys) h.taken reads.taken;
       written = ap₂ (λ xs ys. xs ++ ys) h.written reads.written;
       known = λ q.
-          ap₂ (λ b k. option_or (option_map known_first b) k) (reads.begins_it q)
+          ap₂ option_or (ap₂ (λ w b. option_map (known_first w) b) (world_same T U h) (reads.begins_it q))
           (same_map (known_in T.header T.rows q) (said q (list_any is_ignored (effects_of T e)))
           ∙ ap₂ (λ w b. option_map (with_said w b (input_to q e')) (known_in T.header T.rows q)) (world_same T U h) reads.ignored
           ∙ ap (option_map (with_said (world_at U) (list_any is_ignored (effects_of U e')) (input_to q e'))) (h.known q));
@@ -291,48 +292,55 @@ effects_same T U h (events.Choose call provider account) = input_same T U h call
 
 -- ---- the row that may differ
 
--- a token, by the account that it is for and by whether that was reselected
-tokens_same : (w : World) (ck : Ask → List ℕ) (call page : ℕ) (o u : Origin) (place : ℕ) (t t' : List ℕ)
-    → (picked : Option Candidate) (auto : Bool)
-    → ButToken call (outcome_effects w ck GetCall call page (keeps o u picked (clears auto o (finishes (Token auto place t)))))
-    (outcome_effects w ck GetCall call page (keeps o u picked (clears auto o (finishes (Token auto place t')))))
-tokens_same w ck call page o u place t t' None true = Tokens [] page place true t t'
-tokens_same w ck call page o u place t t' None false = Tokens (Flag o false ∷ []) page place false t t'
-tokens_same w ck call page o u place t t' (Some c) true = Tokens (Kept (triple_of o u c.account.id) true ∷ []) page place true t t'
-tokens_same w ck call page o u place t t' (Some c) false =
-    Tokens (Kept (triple_of o u c.account.id) true ∷ Flag o false ∷ []) page place false t t'
+-- a token, by whether its account was reselected
+tokens_same : (w : World) (ck : Ask → List ℕ) (call page : ℕ) (origin : Origin) (o : Offered) (t t' : List ℕ) (auto : Bool)
+    → ButToken call (outcome_effects w ck GetCall call page (keeps origin o (clears auto origin (finishes (Token auto o.place t)))))
+    (outcome_effects w ck GetCall call page (keeps origin o (clears auto origin (finishes (Token auto o.place t')))))
+tokens_same w ck call page origin o t t' true =
+    Tokens (Kept (triple_of origin (origin_of o.options.config) o.candidate.account.id) true ∷ []) page o.place true t t'
+tokens_same w ck call page origin o t t' false =
+    Tokens (Kept (triple_of origin
+    (origin_of o.options.config) o.candidate.account.id) true ∷ Flag origin false ∷ []) page o.place false t t'
 
-given_same : (w : World) (ck : Ask → List ℕ) (call page : ℕ) (f : Facts) (place : ℕ) (q : ProviderOptions)
+given_same : (w : World) (ck : Ask → List ℕ) (call page : ℕ) (f : Facts) (o : Offered)
     → (a b : Answer (List ℕ) TokenStep) → AreTokens a b
-    → ButToken call (outcome_effects w ck GetCall call page (by_token f place q a))
-    (outcome_effects w ck GetCall call page (by_token f place q b))
-given_same w ck call page f place q (Ok t) (Ok t') h =
-    tokens_same w ck call page f.origin (origin_of q.config) place t t' f.picked f.auto
-given_same w ck call page f place q (Err s) (Err s') h =
-    subst (λ x. ButToken call (outcome_effects w ck GetCall call page (by_token f place q (Err s)))
-    (outcome_effects w ck GetCall call page (by_token f place q (Err x)))) h (Equal _)
-given_same w ck call page f place q (Ok t) (Err s) h = absurd h
-given_same w ck call page f place q (Err s) (Ok t) h = absurd h
+    → ButToken call (outcome_effects w ck GetCall call page (by_token f o a)) (outcome_effects w ck GetCall call page (by_token f o b))
+given_same w ck call page f o (Ok t) (Ok t') h = tokens_same w ck call page f.origin o t t' f.auto
+given_same w ck call page f o (Err s) (Err s') h =
+    subst (λ x. ButToken call (outcome_effects w ck GetCall call page (by_token f o (Err s)))
+    (outcome_effects w ck GetCall call page (by_token f o (Err x)))) h (Equal _)
+given_same w ck call page f o (Ok t) (Err s) h = absurd h
+given_same w ck call page f o (Err s) (Ok t) h = absurd h
+
+-- the first stages await no assertion reply
+first_same : (w : World) (ck : Ask → List ℕ) (call page : ℕ) (f : Facts) (place : ℕ) (raw raw' : List ℕ)
+    → ButToken call (outcome_effects w ck GetCall call page (awaited_reply w f place kinds.Assertion raw))
+    (outcome_effects w ck GetCall call page (awaited_reply w f place kinds.Assertion raw'))
+first_same w ck call page f place raw raw' =
+    subst (λ c. ButToken call (outcome_effects w ck GetCall call page (awaited_reply w f place kinds.Assertion raw))
+    (outcome_effects w ck GetCall call page (provider_row w f place (provider_at place f.options) c)))
+    (no_assertion w f place raw ∙ sym (no_assertion w f place raw')) (Equal _)
 
 reply_same : (w : World) (ck : Ask → List ℕ) (call page : ℕ) (f : Facts) (stage : Stage) (place : ℕ) (raw raw' : List ℕ)
     → ((o : List ℕ) → AreTokens (AssertionOf raw o) (AssertionOf raw' o))
     → ButToken call (outcome_effects w ck GetCall call page (stage_reply w f stage place kinds.Assertion raw))
     (outcome_effects w ck GetCall call page (stage_reply w f stage place kinds.Assertion raw'))
-reply_same w ck call page f Reading place raw raw' h = Equal _
-reply_same w ck call page f Listing place raw raw' h = Equal _
+reply_same w ck call page f Reading place raw raw' h = first_same w ck call page f place raw raw'
+reply_same w ck call page f Listing place raw raw' h = first_same w ck call page f place raw raw'
+reply_same w ck call page f Gathering place raw raw' h = first_same w ck call page f place raw raw'
 reply_same w ck call page f Mismatch place raw raw' h = Equal _
 reply_same w ck call page f Window place raw raw' h = Equal _
 reply_same w ck call page f Choosing place raw raw' h = Equal _
 reply_same w ck call page f Prompting place raw raw' h = Equal _
 reply_same w ck call page f Ended place raw raw' h = Equal _
-reply_same w ck call page f Asserting place raw raw' h = go (provider_at place f.options)
+reply_same w ck call page f Asserting place raw raw' h = go (picked_at place f.picked)
   where
-    go : (q : Option ProviderOptions)
-        → ButToken call (outcome_effects w ck GetCall call page (assertion_reply f place q raw))
-        (outcome_effects w ck GetCall call page (assertion_reply f place q raw'))
+    go : (o : Option Offered)
+        → ButToken call (outcome_effects w ck GetCall call page (assertion_reply f o raw))
+        (outcome_effects w ck GetCall call page (assertion_reply f o raw'))
     go None = Equal _
-    go (Some q) =
-        given_same w ck call page f place q (AssertionOf raw (origin_text f.origin)) (AssertionOf raw' (origin_text f.origin))
+    go (Some o) =
+        given_same w ck call page f o (AssertionOf raw (origin_text f.origin)) (AssertionOf raw' (origin_text f.origin))
         (h (origin_text f.origin))
 
 -- a disconnect waits for no assertion reply
@@ -346,6 +354,7 @@ disconnect_reply_same w ck call f true Reading raw raw' = Equal _
 disconnect_reply_same w ck call f true Asserting raw raw' = Equal _
 disconnect_reply_same w ck call f true Listing raw raw' = Equal _
 disconnect_reply_same w ck call f true Mismatch raw raw' = Equal _
+disconnect_reply_same w ck call f true Gathering raw raw' = Equal _
 disconnect_reply_same w ck call f true Window raw raw' = Equal _
 disconnect_reply_same w ck call f true Choosing raw raw' = Equal _
 disconnect_reply_same w ck call f true Prompting raw raw' = Equal _

@@ -81,6 +81,7 @@ time_is p (does.Move kind call stage) = no_get time_seen kind (Some (Move call s
 time_is p (does.Sent kind call provider ask cookies) =
     no_get time_seen kind (seen_sent call provider ask cookies) (no_sent time_seen (λ c q a k. refl) call provider ask cookies)
 time_is p (does.Shown call dialog) = refl
+time_is p (does.Dropped call provider failure) = refl
 time_is p (does.Window call provider url) = refl
 time_is p (does.Kept triple stays) = refl
 time_is p (does.Flag origin stays) = refl
@@ -121,6 +122,7 @@ page_is p q (does.Move kind call stage) = no_get (page_seen q) kind (Some (Move 
 page_is p q (does.Sent kind call provider ask cookies) =
     no_get (page_seen q) kind (seen_sent call provider ask cookies) (no_sent (page_seen q) (λ c r a k. refl) call provider ask cookies)
 page_is p q (does.Shown call dialog) = refl
+page_is p q (does.Dropped call provider failure) = refl
 page_is p q (does.Window call provider url) = refl
 page_is p q (does.Kept triple stays) = refl
 page_is p q (does.Flag origin stays) = refl
@@ -146,6 +148,7 @@ unfolding call_seen
 call_moves call stages.Reading = refl
 call_moves call stages.Listing = refl
 call_moves call stages.Mismatch = refl
+call_moves call stages.Gathering = refl
 call_moves call stages.Window = refl
 call_moves call stages.Choosing = refl
 call_moves call stages.Prompting = refl
@@ -165,6 +168,7 @@ call_is p (does.Move kind call stage) =
 call_is p (does.Sent kind call provider ask cookies) =
     no_get call_seen kind (seen_sent call provider ask cookies) (no_sent call_seen (λ c r a k. refl) call provider ask cookies)
 call_is p (does.Shown call dialog) = refl
+call_is p (does.Dropped call provider failure) = refl
 call_is p (does.Window call provider url) = refl
 call_is p (does.Kept triple stays) = refl
 call_is p (does.Flag origin stays) = refl
@@ -194,6 +198,7 @@ begun_is p (does.Move kind call stage) = no_get begun_seen kind (Some (Move call
 begun_is p (does.Sent kind call provider ask cookies) =
     no_get begun_seen kind (seen_sent call provider ask cookies) (no_sent begun_seen (λ c r a k. refl) call provider ask cookies)
 begun_is p (does.Shown call dialog) = refl
+begun_is p (does.Dropped call provider failure) = refl
 begun_is p (does.Window call provider url) = refl
 begun_is p (does.Kept triple stays) = refl
 begun_is p (does.Flag origin stays) = refl
@@ -224,6 +229,7 @@ window_is p (does.Move kind call stage) =
 window_is p (does.Sent kind call provider ask cookies) =
     no_get window_seen kind (seen_sent call provider ask cookies) (no_sent window_seen (λ c r a k. refl) call provider ask cookies)
 window_is p (does.Shown call dialog) = refl
+window_is p (does.Dropped call provider failure) = refl
 window_is p (does.Window call provider url) = refl
 window_is p (does.Kept triple stays) = refl
 window_is p (does.Flag origin stays) = refl
@@ -265,6 +271,7 @@ first_is p (does.Move kind call stage) = no_get first_seen kind (Some (Move call
 first_is p (does.Sent kind call provider ask cookies) =
     of_gets first_seen kind (first_bytes ask cookies) (seen_sent call provider ask cookies) (first_asks call provider ask cookies)
 first_is p (does.Shown call dialog) = refl
+first_is p (does.Dropped call provider failure) = refl
 first_is p (does.Window call provider url) = refl
 first_is p (does.Kept triple stays) = refl
 first_is p (does.Flag origin stays) = refl
@@ -307,6 +314,7 @@ cookie_is p (does.Move kind call stage) = no_get cookie_seen kind (Some (Move ca
 cookie_is p (does.Sent kind call provider ask cookies) =
     no_get cookie_seen kind (seen_sent call provider ask cookies) (no_sent cookie_seen (λ c r a k. refl) call provider ask cookies)
 cookie_is p (does.Shown call dialog) = refl
+cookie_is p (does.Dropped call provider failure) = refl
 cookie_is p (does.Window call provider url) = refl
 cookie_is p (does.Kept triple stays) = refl
 cookie_is p (does.Flag origin stays) = refl
@@ -331,6 +339,7 @@ their_writes p (does.Begin b ∷ es) = their_writes p es
 their_writes p (does.Move kind call stage ∷ es) = their_writes p es
 their_writes p (does.Sent kind call provider ask cookies ∷ es) = their_writes p es
 their_writes p (does.Shown call dialog ∷ es) = their_writes p es
+their_writes p (does.Dropped call provider failure ∷ es) = their_writes p es
 their_writes p (does.Window call provider url ∷ es) = their_writes p es
 their_writes p (does.Kept triple stays ∷ es) = their_writes p es
 their_writes p (does.Flag origin stays ∷ es) = their_writes p es
@@ -423,6 +432,7 @@ login_is p (does.Move kind call stage) = no_get login_seen kind (Some (Move call
 login_is p (does.Sent kind call provider ask cookies) =
     no_get login_seen kind (seen_sent call provider ask cookies) (no_sent login_seen (λ c r a k. refl) call provider ask cookies)
 login_is p (does.Shown call dialog) = refl
+login_is p (does.Dropped call provider failure) = refl
 login_is p (does.Window call provider url) = refl
 login_is p (does.Kept triple stays) = refl
 login_is p (does.Flag origin stays) = refl
@@ -492,6 +502,7 @@ their_entries p (does.Begin b ∷ effects) es = their_entries p effects es
 their_entries p (does.Move kind call stage ∷ effects) es = their_entries p effects es
 their_entries p (does.Sent kind call provider ask cookies ∷ effects) es = their_entries p effects es
 their_entries p (does.Shown call dialog ∷ effects) es = their_entries p effects es
+their_entries p (does.Dropped call provider failure ∷ effects) es = their_entries p effects es
 their_entries p (does.Window call provider url ∷ effects) es = their_entries p effects es
 their_entries p (does.Kept triple stays ∷ effects) es = their_entries p effects es
 their_entries p (does.Flag origin stays ∷ effects) es = their_entries p effects es

@@ -7,8 +7,9 @@ use Rattle.std.specs.List.{filter_map, flat_map}
 use Rattle.url.specs.Parts.{Parts}
 use Rattle.fed_origin.specs.declared.origin.Origin.{Origin}
 use Rattle.fed_origin.specs.declared.stage.Stage.{Stage}
-use Rattle.fed_origin.specs.declared.stage.Stage.TheVariants.{Reading, Ended}
+use Rattle.fed_origin.specs.declared.stage.Stage.TheVariants.{Reading, Gathering, Ended}
 use Rattle.fed_origin.specs.Origin.{is_trustworthy}
+use Rattle.fed_status.specs.Shared.{World}
 use Rattle.fed_consent.specs.Outcomes.{Outcome}
 use Rattle.fed_call.specs.Facts.{Facts}
 use Rattle.fed_disconnect.specs.Facts.{DisconnectOptions}
@@ -23,7 +24,7 @@ use Rattle.fed_trace.specs.Row.{with_event, cookies_with, call_effects, moves, b
 use Rattle.fed_trace.specs.Row.{is_busy}
 use Rattle.fed_trace.specs.Trace.{Trace, page_at, gets}
 use Rattle.fed_trace.proofs.happens.Ends.{Starts, Happens, Left, Ends, Started, Took, Resumed, beginning}
-use Rattle.fed_trace.proofs.happens.First.{FirstTurn, FailsFirst, ReadsFirst, HasOne, first_turn, known_begun}
+use Rattle.fed_trace.proofs.happens.First.{FirstTurn, FailsFirst, ReadsFirst, GathersFirst, HasSome, first_turn, known_begun}
 use Rattle.fed_trace.proofs.happens.Gets.{facts_same, no_get}
 use Rattle.fed_trace.proofs.happens.Happens.{happens}
 use Rattle.fed_twin.specs.Providers.{Providers}
@@ -58,10 +59,10 @@ begin_unseen p T page call options (Some origin) busy = go (is_trustworthy origi
 -- ---- what it leaves of gets: all
 
 -- what is known of a disconnect is nothing of a get
-none_of_get : (b : Begun) (options : DisconnectOptions) → b.options ≡ ToDisconnect options → (stage : Stage)
-    → option_and_then get_facts (at_stage stage (known_first b)) ≡ None
-none_of_get b options is stage =
-    subst (λ o. option_and_then get_facts (at_stage stage (known_first (record b { options = o }))) ≡ None) (sym is)
+none_of_get : (world : World) (b : Begun) (options : DisconnectOptions) → b.options ≡ ToDisconnect options → (stage : Stage)
+    → option_and_then get_facts (at_stage stage (known_first world b)) ≡ None
+none_of_get world b options is stage =
+    subst (λ o. option_and_then get_facts (at_stage stage (known_first world (record b { options = o }))) ≡ None) (sym is)
     (no_get (disconnect.at_stage stage (disconnect.fresh b.call b.page b.origin options)))
 
 -- a call that never began is none
@@ -101,7 +102,7 @@ disconnect_left T line page call config client hint unbegun q = go (happens T ev
         let is = begins b s.is_event in
         let after : facts_at (with_event T line event) b.call ≡ None =
         ap (option_and_then get_facts) (known_begun T line event b (first_row (world_at T) s.busy b.origin b.options) stage s.effects at)
-        ∙ none_of_get b (record { config = config; client = client; hint = hint }) is.1 stage in
+        ∙ none_of_get (world_at T) b (record { config = config; client = client; hint = hint }) is.1 stage in
         let before : facts_at T b.call ≡ None = unbegun_none T b.call (subst (λ c. is_begun T c ≡ false) is.0 unbegun) in
         subst (λ c. facts_at (with_event T line event) c ≡ facts_at T c) s.is_call (after ∙ sym before)
 
@@ -109,6 +110,7 @@ disconnect_left T line page call config client hint unbegun q = go (happens T ev
         → facts_at (with_event T line event) q ≡ facts_at T q
     started s (FailsFirst failure ended asks gives) = over s Ended ended
     started s (ReadsFirst reading asks gives) = over s Reading reading
+    started s (GathersFirst gathering asks gives) = over s Gathering gathering
 
     go : Happens T event q → facts_at (with_event T line event) q ≡ facts_at T q
     go (Left l) = facts_same T line event q l.quiet.stage l.quiet.begins_none l.same
@@ -116,7 +118,7 @@ disconnect_left T line page call config client hint unbegun q = go (happens T ev
     go (Took t) = absurd (let no : None ≡ Some t.input = t.input_is in cc)
     go (Resumed r) = absurd (let no : events.Disconnect page call config client hint ≡ events.IdpClose r.page = r.is_event in cc)
     go (Started s) =
-        started s (first_turn (world_at T) s.busy s.begun.origin s.begun.options (subst HasOne (sym (begins s.begun s.is_event).1) tt))
+        started s (first_turn (world_at T) s.busy s.begun.origin s.begun.options (subst HasSome (sym (begins s.begun s.is_event).1) tt))
 
 -- ---- in both worlds
 

@@ -51,7 +51,7 @@ use Rattle.fed_twin.specs.Seen.{told}
 use Rattle.fed_twin.specs.Same.{SameCall, SameWorlds, SameFlags, is_open}
 use Rattle.fed_twin.specs.Twin.{AreOneToOne, origin_named, both_named}
 use Rattle.fed_twin.proofs.calls.Disconnect.{disconnect_begun, disconnect_later}
-use Rattle.fed_twin.proofs.calls.Few.{clears_flag, small_get, small_input}
+use Rattle.fed_twin.proofs.calls.Few.{clears_flag, get_clears_none, small_input}
 use Rattle.fed_twin.proofs.seen.Look.{page_same}
 use Rattle.fed_twin.proofs.twins.Named.{AlikeIn, PagesIn}
 use Rattle.fed_twin.proofs.twins.Origins.{Pair, Member, all_at, each, both_all}
@@ -67,6 +67,7 @@ silent_done w ck kind call page (does.Send place ask ∷ es) none = (refl, silen
 silent_done w ck kind call page (does.Finish finish ∷ es) none = (refl, silent_done w ck kind call page es none)
 silent_done w ck kind call page (does.Ignored why ∷ es) none = (refl, silent_done w ck kind call page es none)
 silent_done w ck kind call page (does.Dialog dialog ∷ es) none = (refl, silent_done w ck kind call page es none)
+silent_done w ck kind call page (does.Dropped place failure ∷ es) none = (refl, silent_done w ck kind call page es none)
 silent_done w ck kind call page (does.Window place url ∷ es) none = (refl, silent_done w ck kind call page es none)
 silent_done w ck kind call page (does.SetLogin origin status ∷ es) none = (refl, silent_done w ck kind call page es none)
 silent_done w ck kind call page (does.Keep triple ∷ es) none = (refl, silent_done w ck kind call page es none)
@@ -96,7 +97,7 @@ silent_begin T (Some origin) busy page call options = go (is_trustworthy origin)
     go true (ToGet options) = (
       refl,
       silent_outcome (world_at T) (cookies_with T) GetCall call page (get_outcome (world_at T) busy origin options)
-          (small_get (world_at T) busy origin options).flags,
+          (get_clears_none (world_at T) busy origin options),
     )
     go true (ToDisconnect options) = (
       refl,

@@ -1,15 +1,14 @@
 -- Two worlds are the same either way round.
-use Rattle.std.proofs.Common.{◌≡◌, true, ◌⊎◌, inl, inr, List, [], ◌∷◌, Option, Some, None, is_some, IfSome, sym, ap, subst, ◌∙◌}
-use Rattle.std.specs.List.{AllZip}
+use Rattle.std.proofs.Common.{List, [], ◌∷◌, Option, Some, None, sym, ap, subst, ◌∙◌}
+use Rattle.std.specs.List.{AllByRecursion, AllZip}
 use Rattle.fed_origin.specs.declared.options.ProviderOptions.{ProviderOptions}
-use Rattle.fed_origin.specs.declared.stage.Stage.TheVariants as stages
 use Rattle.fed_origin.specs.WebUrl.{host_of}
-use Rattle.fed_consent.specs.Consent.{Listed}
+use Rattle.fed_call.specs.Accounts.{Offered}
 use Rattle.fed_call.specs.Facts.{Facts}
 use Rattle.fed_trace.specs.Known.{facts_at}
 use Rattle.fed_trace.specs.Trace.{Trace}
 use Rattle.fed_twin.specs.Providers.{Providers, is_provider}
-use Rattle.fed_twin.specs.Same.{IfBoth, SameProvider, SameListed, is_open, SameFacts, SameCall, SameWorlds}
+use Rattle.fed_twin.specs.Same.{SameProvider, SameOffered, HasOwn, is_open, SameFacts, SameCall, SameWorlds}
 
 flip_provider : (p : Providers) (a b : ProviderOptions) → SameProvider p a b → SameProvider p b a
 flip_provider p a b h =
@@ -24,18 +23,25 @@ flip_all p [] (y ∷ ys) h = absurd h
 flip_all p (x ∷ xs) [] h = absurd h
 flip_all p (x ∷ xs) (y ∷ ys) h = (flip_provider p x y h.0, flip_all p xs ys h.1)
 
-flip_listed : (a b : Option Listed) → IfBoth SameListed a b → IfBoth SameListed b a
-flip_listed None None h = tt
-flip_listed (Some a) (Some b) h = record { accounts = sym h.accounts; connected = sym h.connected }
-flip_listed None (Some b) h = absurd h
-flip_listed (Some a) None h = absurd h
+flip_offered : (p : Providers) (us vs : List Offered) → AllZip (SameOffered p) us vs → AllZip (SameOffered p) vs us
+flip_offered p [] [] h = tt
+flip_offered p [] (v ∷ vs) h = absurd h
+flip_offered p (u ∷ us) [] h = absurd h
+flip_offered p (u ∷ us) (v ∷ vs) h = (
+  record {
+    place = sym h.0.place;
+    options = flip_provider p u.options v.options h.0.options;
+    config = sym h.0.config;
+    account = sym h.0.account;
+  },
+  flip_offered p us vs h.1,
+)
 
 pub flip_facts : (p : Providers) (f f' : Facts) → SameFacts p f f' → SameFacts p f' f
 flip_facts p f f' s =
     record {
       stage = sym s.stage;
       goes_on = ap is_open (sym s.stage) ∙ s.goes_on;
-      past = go s.past;
       said = record {
         options = record {
           mediation = sym s.said.options.mediation;
@@ -43,16 +49,11 @@ flip_facts p f f' s =
           activation = sym s.said.options.activation;
           providers = flip_all p f.options.providers f'.options.providers s.said.options.providers;
         };
-        heard = sym s.said.heard;
-        config = sym s.said.config;
-        known = subst (λ c. IfSome c (λ config. is_provider p (host_of config.accounts) ≡ true)) s.said.config s.said.known;
-        listed = flip_listed f.listed f'.listed s.said.listed;
+        progress = sym s.said.progress;
+        known = subst (AllByRecursion (HasOwn p)) s.said.progress s.said.known;
+        offered = flip_offered p f.offered f'.offered s.said.offered;
       };
     }
-  where
-    go : (f.stage ≡ stages.Reading) ⊎ (is_some f.config ≡ true) → (f'.stage ≡ stages.Reading) ⊎ (is_some f'.config ≡ true)
-    go (inl e) = inl (sym s.stage ∙ e)
-    go (inr e) = inr (ap is_some (sym s.said.config) ∙ e)
 
 pub flip_call : (p : Providers) (f f' : Option Facts) → SameCall p f f' → SameCall p f' f
 flip_call p None None h = tt

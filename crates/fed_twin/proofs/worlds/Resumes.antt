@@ -2,19 +2,22 @@
 use Rattle.std.proofs.Common.{◌≡◌, ℕ, Bool, true, false, ◌||◌, nat_eq, inr, List, [], ◌∷◌, ◌++◌, Option, Some, None, refl, sym}
 use Rattle.std.proofs.Common.{ap, ap₂, subst, ◌∙◌, cond}
 use Rattle.std.proofs.lemmas.List.Elements.{filter_map-append}
-use Rattle.std.specs.Prelude.{option_and_then, option_map, unwrap_or, is_some, IfSome, if◌then◌else◌}
-use Rattle.std.specs.List.{filter_map, flat_map, list_any}
+use Rattle.std.specs.Prelude.{slice_get, option_and_then, option_map, unwrap_or, IfSome, if◌then◌else◌}
+use Rattle.std.specs.List.{filter_map, flat_map, list_any, AllByRecursion}
 use Rattle.fed_origin.specs.declared.options.ProviderOptions.{ProviderOptions}
 use Rattle.fed_origin.specs.declared.origin.Origin.{Origin}
-use Rattle.fed_origin.specs.declared.stage.Stage.TheVariants.{Reading, Listing, Window}
+use Rattle.fed_origin.specs.declared.stage.Stage.TheVariants.{Listing, Window}
 use Rattle.fed_origin.specs.Origin.{is_trustworthy}
-use Rattle.fed_origin.specs.WebUrl.{host_of, origin_of}
+use Rattle.fed_origin.specs.WebUrl.{origin_of}
 use Rattle.fed_provider.specs.declared.config.Config.{Config}
 use Rattle.fed_status.proofs.lists.Same.{same_origin_is}
 use Rattle.fed_consent.specs.declared.table.input.Input.TheVariants.{Resume}
 use Rattle.fed_consent.specs.declared.table.why.Why.TheVariants.{PageInsecure, NobodyWaits}
 use Rattle.fed_consent.specs.Outcomes.{only_place}
-use Rattle.fed_call.specs.Facts.{Facts, at_stage, provider_at}
+use Rattle.fed_call.specs.declared.progress.Progress.{Progress}
+use Rattle.fed_call.specs.declared.progress.Progress.TheVariants as progress_is
+use Rattle.fed_call.specs.Facts.{Facts, at_stage, provider_at, config_at}
+use Rattle.fed_call.specs.Progress.{config_of}
 use Rattle.fed_call.specs.WindowRows.{asks_again, resumed}
 use Rattle.fed_script.specs.declared.event.Event.TheVariants.{IdpClose}
 use Rattle.fed_trace.specs.Begun.{GetCall, CallOptions, ToGet, ToDisconnect}
@@ -36,8 +39,8 @@ use Rattle.fed_trace.proofs.happens.Resumed.{waits_known}
 use Rattle.fed_trace.proofs.happens.Says.{own}
 use Rattle.fed_twin.specs.Providers.{Providers, is_provider}
 use Rattle.fed_twin.specs.Seen.{seen, told, told_origin}
-use Rattle.fed_twin.specs.Same.{IfBoth, SameProvider, SameFacts, SameCall, SameWorlds}
-use Rattle.fed_twin.proofs.calls.Call.{SameOutcome, after_at, configured, providers_both, told_effect}
+use Rattle.fed_twin.specs.Same.{IfBoth, SameProvider, IsOwn, HasOwn, SameFacts, SameCall, SameWorlds}
+use Rattle.fed_twin.proofs.calls.Call.{SameOutcome, after_at, providers_both, told_effect}
 use Rattle.fed_twin.proofs.calls.Facts.{facts_ignored}
 use Rattle.fed_twin.proofs.calls.Outcome.{cookies_agree, seen_outcome}
 use Rattle.fed_twin.proofs.seen.Look.{page_same}
@@ -55,12 +58,6 @@ record BothWait (p : Providers) (T U : Trace) (q : ℕ) : Type 0 where
   found' : known_at U q ≡ Some (OfGet facts')
   at_window : facts.stage ≡ Window
   same : SameFacts p facts facts'
-  config : Config
-  configured_so : facts.config ≡ Some config
-
-some_config : (o : Option Config) → is_some o ≡ true → (c : Config) × (o ≡ Some c)
-some_config None h = absurd (cc)
-some_config (Some c) h = (c, refl)
 
 both_wait : (p : Providers) (T U : Trace) → SameWorlds p T U → (o u : Origin) (q : ℕ)
     → list_any (nat_eq q) (windows_of T o) ≡ true → list_any (nat_eq q) (windows_of U u) ≡ true → BothWait p T U q
@@ -70,9 +67,6 @@ both_wait p T U h o u q among among' =
     let same : SameCall p (Some w.facts) (Some w'.facts) =
     subst (λ x. SameCall p x (Some w'.facts)) (ap (option_and_then get_facts) w.found)
     (subst (SameCall p (facts_at T q)) (ap (option_and_then get_facts) w'.found) (h.calls q)) in
-    let known =
-    some_config w.facts.config
-    (configured p w.facts w'.facts same (λ reading. let no : Window ≡ Reading = sym w.at_window ∙ reading in cc)) in
     record {
       facts = w.facts;
       facts' = w'.facts;
@@ -80,13 +74,11 @@ both_wait p T U h o u q among among' =
       found' = w'.found;
       at_window = w.at_window;
       same = same;
-      config = known.0;
-      configured_so = known.1;
     }
 
 -- ---- what is seen of the calls that go on
 
-again_same : (p : Providers) (c c' : Option Config) → c ≡ c' → IfSome c (λ config. is_provider p (host_of config.accounts) ≡ true)
+again_same : (p : Providers) (c c' : Option Config) → c ≡ c' → IfSome c (IsOwn p)
     → SameOutcome p (asks_again only_place c) (asks_again only_place c')
 again_same p None None e known = record { stage = refl; told = refl; own = tt }
 again_same p (Some c) (Some c') e known =
@@ -94,12 +86,24 @@ again_same p (Some c) (Some c') e known =
 again_same p None (Some c') e known = absurd (cc)
 again_same p (Some c) None e known = absurd (cc)
 
+own_config : (p : Providers) (progress : List Progress) → AllByRecursion (HasOwn p) progress
+    → IfSome (config_of (slice_get progress only_place)) (IsOwn p)
+own_config p [] all = tt
+own_config p (progress_is.Reading replies ∷ progress) all = tt
+own_config p (progress_is.Listing config ∷ progress) all = all.0
+own_config p (progress_is.Listed config accounts ∷ progress) all = tt
+own_config p (progress_is.Dropped failure ∷ progress) all = tt
+
+configs_same : (p : Providers) (f f' : Facts) → SameFacts p f f' → config_at only_place f ≡ config_at only_place f'
+configs_same p f f' s = ap (λ g. config_of (slice_get g only_place)) s.said.progress
+
 outcome_same : (p : Providers) (f f' : Facts) → SameFacts p f f' → f.stage ≡ Window
     → SameOutcome p (resumed f f.stage) (resumed f' f'.stage)
 outcome_same p f f' s at =
     subst (λ st. SameOutcome p (resumed f st) (resumed f' f'.stage)) (sym at)
     (subst (λ st. SameOutcome p (resumed f Window) (resumed f' st)) (sym (sym s.stage ∙ at))
-    (again_same p f.config f'.config s.said.config s.said.known))
+    (again_same p (config_at only_place f) (config_at only_place f') (ap (λ g. config_of (slice_get g only_place)) s.said.progress)
+    (own_config p f.progress s.said.known)))
 
 or_later : (a b : Bool) → b ≡ true → a || b ≡ true
 or_later true b h = refl
@@ -156,7 +160,7 @@ module _ (T : Trace) (line page : ℕ) (origin : Origin) (stands : page_at T pag
   -- a call that waits asks for its accounts
   after_resumed : (calls : List ℕ) → effects_of T (IdpClose page) ≡ all_resumed T calls → (q : ℕ)
       → list_any (nat_eq q) calls ≡ true → (f : Facts) → known_at T q ≡ Some (OfGet f) → f.stage ≡ Window
-      → (config : Config) → f.config ≡ Some config
+      → (config : Config) → config_at only_place f ≡ Some config
       → facts_at (with_event T line (IdpClose page)) q ≡ at_stage Listing f
   after_resumed calls does q among f found at config has = go (happens T (IdpClose page) q)
     where
@@ -181,6 +185,30 @@ module _ (T : Trace) (line page : ℕ) (origin : Origin) (stands : page_at T pag
           facts_resumed T line (IdpClose page) q r
           ∙ ap (λ g. at_stage (unwrap_or (resumed g Window).stage Window) g) same
           ∙ ap (λ c. at_stage (unwrap_or (asks_again only_place c).stage Window) f) has
+
+  -- or, without a configuration, does nothing
+  after_rested : (calls : List ℕ) → effects_of T (IdpClose page) ≡ all_resumed T calls → (q : ℕ)
+      → list_any (nat_eq q) calls ≡ true → (f : Facts) → known_at T q ≡ Some (OfGet f) → f.stage ≡ Window
+      → config_at only_place f ≡ None
+      → facts_at (with_event T line (IdpClose page)) q ≡ facts_at T q
+  after_rested calls does q among f found at has = go (happens T (IdpClose page) q)
+    where
+      said : last_said nat_eq stage_change q (effects_of T (IdpClose page)) ≡ None
+      said =
+          ap (last_said nat_eq stage_change q) does
+          ∙ stages_resumed (world_at T) (cookies_with T) (known_at T) q calls
+          ∙ ap (λ b. cond b (last_said nat_eq stage_change q (resume_effects (world_at T) (cookies_with T) (known_at T) q)) None) among
+          ∙ ap (λ k. last_said nat_eq stage_change q (input_effects (world_at T) (cookies_with T) true q k Resume)) found
+          ∙ moves_call (world_at T) (cookies_with T) GetCall q f.page (resumed f f.stage) q (own q)
+          ∙ ap (λ s. option_map Some (resumed f s).stage) at
+          ∙ ap (λ c. option_map Some (asks_again only_place c).stage) has
+
+      go : Happens T (IdpClose page) q → facts_at (with_event T line (IdpClose page)) q ≡ facts_at T q
+      go (Left l) = facts_same T line (IdpClose page) q l.quiet.stage l.quiet.begins_none l.same
+      go (Ends e) = absurd (let no : false ≡ true = e.replaced in cc)
+      go (Started s) = begins_no page s.begun.page s.begun.call s.begun.options s.is_event
+      go (Took t) = absurd (let no : None ≡ Some t.input = t.input_is in cc)
+      go (Resumed r) = facts_same T line (IdpClose page) q said r.begins_none (λ k. refl)
 
   -- another is left
   after_left : (q : ℕ) → list_any (nat_eq q) (windows_of T origin) ≡ false
@@ -272,22 +300,29 @@ module _ (p : Providers) (T U : Trace) (h : SameWorlds p T U) (line line' page :
       wait q among =
           both_wait p T U h o u q (ap (list_any (nat_eq q)) waiting ∙ among) (ap (list_any (nat_eq q)) waiting' ∙ among)
 
-      goes : (q : ℕ) → list_any (nat_eq q) (call ∷ calls) ≡ true → BothWait p T U q
+      goes : (q : ℕ) → list_any (nat_eq q) (call ∷ calls) ≡ true → (b : BothWait p T U q) → (config : Option Config)
+          → config_at only_place b.facts ≡ config
           → SameCall p (facts_at (with_event T line (IdpClose page)) q) (facts_at (with_event U line' (IdpClose page)) q)
-      goes q among b =
+      goes q among b (Some config) is =
           let s = b.same in
           let left =
-          after_resumed T line page o stands trust (call ∷ calls) does q among b.facts b.found b.at_window b.config b.configured_so in
+          after_resumed T line page o stands trust (call ∷ calls) does q among b.facts b.found b.at_window config is in
           let right =
           after_resumed U line' page u stands' trust' (call ∷ calls) does' q among b.facts' b.found' (sym s.stage ∙ b.at_window)
-          b.config (sym s.said.config ∙ b.configured_so) in
+          config (sym (configs_same p b.facts b.facts' s) ∙ is) in
           subst (λ x. SameCall p x (facts_at (with_event U line' (IdpClose page)) q)) (sym left)
           (subst (SameCall p (at_stage Listing b.facts)) (sym right)
-          (after_at p b.facts b.facts' Listing s.said (inr (refl, inr (ap is_some b.configured_so)))))
+          (after_at p b.facts b.facts' Listing s.said (inr refl)))
+      goes q among b None is =
+          let s = b.same in
+          call_left p T U h q _ _
+          (after_rested T line page o stands trust (call ∷ calls) does q among b.facts b.found b.at_window is)
+          (after_rested U line' page u stands' trust' (call ∷ calls) does' q among b.facts' b.found' (sym s.stage ∙ b.at_window)
+          (sym (configs_same p b.facts b.facts' s) ∙ is))
 
       each : (q : ℕ) (b : Bool) → list_any (nat_eq q) (call ∷ calls) ≡ b
           → SameCall p (facts_at (with_event T line (IdpClose page)) q) (facts_at (with_event U line' (IdpClose page)) q)
-      each q true among = goes q among (wait q among)
+      each q true among = let b = wait q among in goes q among b (config_at only_place b.facts) refl
       each q false apart =
           call_left p T U h q _ _ (after_left T line page o stands trust q (ap (list_any (nat_eq q)) waiting ∙ apart))
           (after_left U line' page u stands' trust' q (ap (list_any (nat_eq q)) waiting' ∙ apart))

@@ -1,9 +1,9 @@
 -- Events of calls keep the worlds the same.
-use Rattle.std.proofs.Common.{◌≡◌, ℕ, Bool, true, false, nat_eq, cond, ◌⊎◌, inl, inr, List, [], ◌∷◌, Option, Some, None}
+use Rattle.std.proofs.Common.{◌≡◌, ◌≤◌, ℕ, Bool, true, false, nat_eq, cond, inl, inr, List, [], ◌∷◌, Option, Some, None}
 use Rattle.std.proofs.Common.{length, refl, sym}
 use Rattle.std.proofs.Common.{ap, subst, ◌∙◌, arith}
 use Rattle.std.proofs.lemmas.Bool.Decides.{nat_tests}
-use Rattle.std.specs.Prelude.{option_map, option_and_then, is_some}
+use Rattle.std.specs.Prelude.{option_map, option_and_then}
 use Rattle.std.specs.Option.{option_or}
 use Rattle.std.specs.List.{filter_map, list_any}
 use Rattle.fed_origin.specs.declared.options.GetOptions.{GetOptions}
@@ -11,11 +11,12 @@ use Rattle.fed_origin.specs.declared.origin.Origin.{Origin}
 use Rattle.fed_origin.specs.declared.stage.ReplyKind.{ReplyKind}
 use Rattle.fed_origin.specs.declared.stage.ReplyKind.TheVariants as kinds
 use Rattle.fed_origin.specs.declared.stage.Stage.{Stage}
-use Rattle.fed_origin.specs.declared.stage.Stage.TheVariants.{Reading, Prompting, Ended}
+use Rattle.fed_origin.specs.declared.stage.Stage.TheVariants.{Reading, Gathering, Ended}
 use Rattle.fed_origin.specs.Origin.{is_trustworthy}
 use Rattle.fed_status.specs.Flags.{has_flag}
 use Rattle.fed_consent.specs.declared.table.input.Input.{Input}
 use Rattle.fed_consent.specs.declared.table.input.Input.TheVariants as inputs
+use Rattle.fed_status.specs.Shared.{World}
 use Rattle.fed_call.specs.Facts.{Facts, at_stage, fresh, facts_after}
 use Rattle.fed_consent.specs.Outcomes.{Outcome}
 use Rattle.fed_call.specs.Row.{input_row, stage_reply}
@@ -34,7 +35,7 @@ use Rattle.fed_trace.specs.Keyed.{last_said}
 use Rattle.fed_trace.specs.Known.{world_at, is_begun, input_to, with_said, known_at, facts_at}
 use Rattle.fed_trace.specs.Row.{effects_of, with_event, cookies_with, outcome_effects, begin_effects, standing_call, input_effects, is_busy}
 use Rattle.fed_trace.specs.Trace.{Trace, page_at, flags, gets}
-use Rattle.fed_trace.proofs.happens.First.{FirstTurn, FailsFirst, ReadsFirst, first_turn, known_begun}
+use Rattle.fed_trace.proofs.happens.First.{FirstTurn, FailsFirst, ReadsFirst, GathersFirst, first_turn, known_begun}
 use Rattle.fed_trace.proofs.happens.Ends.{Takes, event_for}
 use Rattle.fed_trace.proofs.effects.Outcome.{moves_no_other}
 use Rattle.fed_trace.proofs.happens.Says.{own, outcome_begins}
@@ -46,14 +47,14 @@ use Rattle.fed_twin.specs.Providers.{Providers}
 use Rattle.fed_twin.specs.Seen.{seen, told}
 use Rattle.fed_twin.specs.Seen as views
 use Rattle.fed_twin.specs.Same.{SameOptions, SameFacts, SameCall, SameWorlds}
-use Rattle.fed_twin.proofs.calls.Call.{AgreeWorlds, Keeps, after_at, keeps_fails, told_effect, configured}
+use Rattle.fed_twin.proofs.calls.Call.{AgreeWorlds, IsQuiet, Keeps, Lands, after_at, keeps_fails, told_effect}
 use Rattle.fed_twin.proofs.calls.Facts.{begins_or_resumes, facts_left, facts_ignored, others_unseen, get_is_begun}
-use Rattle.fed_twin.proofs.calls.Get.{get_same, own_get}
+use Rattle.fed_twin.proofs.calls.Get.{get_same, own_get, firsts_same, first_own}
 use Rattle.fed_twin.proofs.worlds.Grow.{grow, grow_alone}
 use Rattle.fed_twin.proofs.seen.Look.{page_same, gets_same}
 use Rattle.fed_twin.proofs.calls.Outcome.{seen_outcome, unseen_outcome, quiet_outcome, cookies_agree, worlds_agree}
 use Rattle.fed_twin.proofs.worlds.Pages.{call_left, call_over}
-use Rattle.fed_twin.proofs.calls.Row.{IsQuiet, Unseen, reply_wellknown, reply_config, reply_accounts, reply_assertion, reply_disconnect}
+use Rattle.fed_twin.proofs.calls.Row.{Unseen, reply_first, reply_assertion, reply_disconnect}
 use Rattle.fed_twin.proofs.calls.Row.{chose_by, cancelled_by, sign_in_by, shut_by, still_went, keeps_still, unseen_reply}
 
 -- ---- a get
@@ -96,34 +97,36 @@ module _ (T : Trace) (line page call : ℕ) (origin : Origin) (options : GetOpti
 
   -- and begins as a fresh one
   get_facts_begun : (o : Outcome) (stage : Stage) → Does o → o.stage ≡ Some stage
-      → facts_at (with_event T line the_get) call ≡ at_stage stage (fresh call page origin options)
+      → facts_at (with_event T line the_get) call ≡ at_stage stage (fresh (world_at T) call page origin options)
   unfolding get_begun
   get_facts_begun o stage is at =
       ap (option_and_then get_facts) (known_begun T line the_get (get_begun page call origin options) o stage is at)
-      ∙ facts_of_get (at_stage stage (fresh call page origin options))
+      ∙ facts_of_get (at_stage stage (fresh (world_at T) call page origin options))
 
 -- what is known of a get that begins is the same
-first_facts : (p : Providers) (call page page' : ℕ) (origin origin' : Origin) (options options' : GetOptions)
-    → SameOptions p options options' → (stage : Stage)
-    → (stage ≡ Ended) ⊎ (stage ≡ Reading)
-    → SameCall p (at_stage stage (fresh call page origin options)) (at_stage stage (fresh call page' origin' options'))
-first_facts p call page page' origin origin' options options' h stage (inl e) =
-    subst (λ st. SameCall p (at_stage st (fresh call page origin options)) (at_stage st (fresh call page' origin' options'))) (sym e) tt
-first_facts p call page page' origin origin' options options' h stage (inr e) =
-    subst (λ st. SameCall p (at_stage st (fresh call page origin options)) (at_stage st (fresh call page' origin' options'))) (sym e)
-    (after_at p (fresh call page origin options) (fresh call page' origin' options') Reading
-    (record { options = h; heard = refl; config = refl; known = tt; listed = tt })
-    (inr (refl, inl refl)))
+first_facts : (p : Providers) (w w' : World) → AgreeWorlds p w w'
+    → (call page page' : ℕ) (origin origin' : Origin) (options options' : GetOptions)
+    → SameOptions p options options' → (stage : Stage) → Lands stage
+    → SameCall p (at_stage stage (fresh w call page origin options)) (at_stage stage (fresh w' call page' origin' options'))
+first_facts p w w' agree call page page' origin origin' options options' h stage lands =
+    after_at p (fresh w call page origin options) (fresh w' call page' origin' options') stage
+    (record {
+      options = h;
+      progress = firsts_same p w w' agree options.mode options'.mode h.mode options.providers options'.providers h.providers;
+      known = first_own p w options.mode options.providers;
+      offered = tt;
+    }) lands
 
-first_stage : (o : Outcome) → FirstTurn o → (stage : Stage) × (o.stage ≡ Some stage) × ((stage ≡ Ended) ⊎ (stage ≡ Reading))
+first_stage : (o : Outcome) → FirstTurn o → (stage : Stage) × (o.stage ≡ Some stage) × Lands stage
 first_stage o (FailsFirst failure ended asks gives) = (Ended, ended, inl refl)
 first_stage o (ReadsFirst reading asks gives) = (Reading, reading, inr refl)
+first_stage o (GathersFirst gathering asks gives) = (Gathering, gathering, inr refl)
 
 -- both gets are taken
 taken_get : (p : Providers) (T U : Trace) → SameWorlds p T U
     → (line line' page call : ℕ) (o u : Origin) (options options' : GetOptions)
     → has_flag (flags T) o ≡ has_flag (flags U) u
-    → SameOptions p options options' → length options.providers ≡ 1 → (busy : Bool)
+    → SameOptions p options options' → 1 ≤ length options.providers → (busy : Bool)
     → Does T line page call o options (get_outcome (world_at T) busy o options)
     → Does U line' page call u options' (get_outcome (world_at U) busy u options')
     → SameWorlds p (with_event T line (events.Get page call options)) (with_event U line' (events.Get page call options'))
@@ -140,7 +143,7 @@ taken_get p T U h line line' page call o u options options' flag same one busy i
     first' = get_outcome (world_at U) busy u options'
 
     one_outcome : first ≡ first'
-    one_outcome = get_same p (world_at T) (world_at U) (worlds_agree p T U h) busy o u flag options options' same
+    one_outcome = get_same p (world_at T) (world_at U) (worlds_agree p T U h) o u flag options options' same busy
 
     seen_same : filter_map (seen p) (Begin (get_begun page call o options)
         ∷ outcome_effects (world_at T) (cookies_with T) GetCall call page first)
@@ -153,7 +156,7 @@ taken_get p T U h line line' page call o u options options' flag same one busy i
           stage = ap (λ x. x.stage) one_outcome;
           told = ap (λ x. filter_map told_effect x.effects) one_outcome;
           own =
-              own_get p (world_at T) busy o options;
+              own_get p (world_at T) o options busy;
         }))
 
     calls : (q : ℕ) (own : Bool) → nat_eq q call ≡ own
@@ -164,14 +167,15 @@ taken_get p T U h line line' page call o u options options' flag same one busy i
         (get_other U line' page call u options' first' q is' ne)
     calls q true key =
         let key_is : call ≡ q = grind (arith, nat_tests, key) in
-        let stage = first_stage first (first_turn (world_at T) busy o (ToGet options) one) in
+        let stage =
+        first_stage first (first_turn (world_at T) busy o (ToGet options) one) in
         let left = get_facts_begun T line page call o options first stage.0 is stage.1 in
         let right = get_facts_begun U line' page call u options' first' stage.0 is' (ap (λ x. x.stage) (sym one_outcome) ∙ stage.1) in
         subst (λ c. SameCall p (facts_at (with_event T line (events.Get page call options)) c)
         (facts_at (with_event U line' (events.Get page call options')) c)) key_is
         (subst (λ x. SameCall p x (facts_at (with_event U line' (events.Get page call options')) call)) (sym left)
-        (subst (λ x. SameCall p (at_stage stage.0 (fresh call page o options)) x) (sym right)
-        (first_facts p call page page o u options options' same stage.0 stage.2)))
+        (subst (λ x. SameCall p (at_stage stage.0 (fresh (world_at T) call page o options)) x) (sym right)
+        (first_facts p (world_at T) (world_at U) (worlds_agree p T U h) call page page o u options options' same stage.0 stage.2)))
 
 -- where the page stands in both worlds, the flags of its origins are the same
 abbrev pub FlagsOf : Trace → Trace → ℕ → Type 0
@@ -179,7 +183,7 @@ FlagsOf T U page =
     (o u : Origin) → page_at T page ≡ Some o → page_at U page ≡ Some u → has_flag (flags T) o ≡ has_flag (flags U) u
 
 pub step_get : (p : Providers) (T U : Trace) → SameWorlds p T U → (line line' page call : ℕ) (options options' : GetOptions)
-    → FlagsOf T U page → SameOptions p options options' → length options.providers ≡ 1
+    → FlagsOf T U page → SameOptions p options options' → 1 ≤ length options.providers
     → SameWorlds p (with_event T line (events.Get page call options)) (with_event U line' (events.Get page call options'))
 unfolding get_begun
 step_get p T U h line line' page call options options' flag same one =
@@ -378,21 +382,23 @@ module _ (p : Providers) (T U : Trace) (h : SameWorlds p T U) where
   row_wellknown place raw f f' s q q' =
       subst (λ st. Keeps p (world_at T) (world_at U) f f' (inputs.Reply place kinds.WellKnown raw) (inputs.Reply place kinds.WellKnown raw)
       (stage_reply (world_at T) f f.stage place kinds.WellKnown raw) (stage_reply (world_at U) f' st place kinds.WellKnown raw)) s.stage
-      (reply_wellknown p (world_at T) (world_at U) agree f f' s place raw f.stage refl)
+      (reply_first p (world_at T) (world_at U) agree f f' s place kinds.WellKnown raw (λ v g. refl) f.stage refl (λ v g. refl) q
+      (subst (λ st. IsQuiet (stage_reply (world_at U) f' st place kinds.WellKnown raw)) (sym s.stage) q'))
 
   pub row_config : (place : ℕ) (raw : List ℕ)
       → OwesRow p T U (inputs.Reply place kinds.Config raw) (inputs.Reply place kinds.Config raw)
   row_config place raw f f' s q q' =
       subst (λ st. Keeps p (world_at T) (world_at U) f f' (inputs.Reply place kinds.Config raw) (inputs.Reply place kinds.Config raw)
       (stage_reply (world_at T) f f.stage place kinds.Config raw) (stage_reply (world_at U) f' st place kinds.Config raw)) s.stage
-      (reply_config p (world_at T) (world_at U) agree f f' s place raw f.stage refl)
+      (reply_first p (world_at T) (world_at U) agree f f' s place kinds.Config raw (λ v g. refl) f.stage refl (λ v g. refl) q
+      (subst (λ st. IsQuiet (stage_reply (world_at U) f' st place kinds.Config raw)) (sym s.stage) q'))
 
   pub row_accounts : (place : ℕ) (raw : List ℕ)
       → OwesRow p T U (inputs.Reply place kinds.Accounts raw) (inputs.Reply place kinds.Accounts raw)
   row_accounts place raw f f' s q q' =
       subst (λ st. Keeps p (world_at T) (world_at U) f f' (inputs.Reply place kinds.Accounts raw) (inputs.Reply place kinds.Accounts raw)
       (stage_reply (world_at T) f f.stage place kinds.Accounts raw) (stage_reply (world_at U) f' st place kinds.Accounts raw)) s.stage
-      (reply_accounts p (world_at T) (world_at U) agree f f' s place raw f.stage refl q
+      (reply_first p (world_at T) (world_at U) agree f f' s place kinds.Accounts raw (λ v g. refl) f.stage refl (λ v g. refl) q
       (subst (λ st. IsQuiet (stage_reply (world_at U) f' st place kinds.Accounts raw)) (sym s.stage) q'))
 
   pub row_assertion : (place : ℕ) (raw raw' : List ℕ)
@@ -420,10 +426,8 @@ module _ (p : Providers) (T U : Trace) (h : SameWorlds p T U) where
 
   pub row_go_on : OwesRow p T U inputs.GoOn inputs.GoOn
   row_go_on f f' s q q' =
-      let known : f.stage ≡ Prompting → is_some f.config
-      ≡ true = λ at. configured p f f' s (λ r. let no : Prompting ≡ Reading = sym at ∙ r in cc) in
-      keeps_still p (world_at T) (world_at U) f f' s (went_on f f.stage) (went_on f' f'.stage) (still_went p f f.stage known q)
-      (still_went p f' f'.stage (λ at. ap is_some (sym s.said.config) ∙ known (s.stage ∙ at)) q')
+      keeps_still p (world_at T) (world_at U) f f' s (went_on f f.stage) (went_on f' f'.stage) (still_went p f f.stage q)
+      (still_went p f' f'.stage q')
 
   pub row_cancel : OwesRow p T U inputs.Cancel inputs.Cancel
   row_cancel f f' s q q' =
@@ -434,7 +438,7 @@ module _ (p : Providers) (T U : Trace) (h : SameWorlds p T U) where
   row_sign_in f f' s q q' =
       subst (λ st. Keeps p (world_at T) (world_at U) f f' inputs.SignIn inputs.SignIn (asked_to_sign_in f f.stage)
       (asked_to_sign_in f' st)) s.stage
-      (sign_in_by p (world_at T) (world_at U) agree f f' s f.stage)
+      (sign_in_by p (world_at T) (world_at U) agree f f' s f.stage refl)
 
   pub row_shut : OwesRow p T U inputs.Shut inputs.Shut
   row_shut f f' s q q' =

@@ -11,7 +11,8 @@ use Rattle.indexmap.specs.IndexMap.{shift_remove_entry}
 use Rattle.fed_origin.specs.declared.options.GetOptions.{GetOptions}
 use Rattle.fed_origin.specs.declared.origin.Origin.{Origin}
 use Rattle.fed_origin.specs.declared.stage.Stage.{Stage}
-use Rattle.fed_origin.specs.declared.stage.Stage.TheVariants.{Reading, Listing, Window, Ended}
+use Rattle.fed_origin.specs.declared.stage.Stage.TheVariants.{Reading, Gathering, Listing, Window, Ended}
+use Rattle.fed_origin.specs.declared.options.ProviderOptions.{ProviderOptions}
 use Rattle.fed_origin.specs.Origin.{is_trustworthy}
 use Rattle.fed_origin.specs.WebUrl.{origin_of}
 use Rattle.fed_provider.specs.declared.config.Config.{Config}
@@ -21,7 +22,7 @@ use Rattle.fed_consent.specs.declared.table.input.Input.{Input}
 use Rattle.fed_consent.specs.declared.table.input.Input.TheVariants as inputs
 use Rattle.fed_consent.specs.Outcomes as outcomes
 use Rattle.fed_consent.specs.Outcomes.{Outcome, only_place}
-use Rattle.fed_call.specs.Facts.{Facts, provider_at}
+use Rattle.fed_call.specs.Facts.{Facts, config_at, provider_at}
 use Rattle.fed_call.specs.Facts as get
 use Rattle.fed_call.specs.WindowRows.{asks_again, origin_at, resumed}
 use Rattle.fed_disconnect.specs.Facts.{DisconnectFacts, DisconnectOptions, disconnect_options}
@@ -31,7 +32,8 @@ use Rattle.fed_script.specs.declared.event.Event.TheVariants as events
 use Rattle.fed_script.specs.declared.event.Header.{Header}
 use Rattle.fed_trace.specs.Begun.{Begun, CallKind, GetCall, DisconnectCall, ToGet, ToDisconnect, kind_asked}
 use Rattle.fed_trace.specs.Call.{Known, OfGet, OfDisconnect, kind_of, page_of, stage_of, get_facts, get_outcome, first_row, input_row}
-use Rattle.fed_trace.specs.Effect.{Effect, PendingCall, Time, Page, Closed, Cookie, Login, Begin, Move, Sent, Shown, Kept, Flag, Result}
+use Rattle.fed_trace.specs.Effect.{Effect, PendingCall, Time, Page, Closed, Cookie, Login, Begin, Move, Sent, Dropped, Shown, Kept, Flag}
+use Rattle.fed_trace.specs.Effect.{Result}
 use Rattle.fed_trace.specs.Effect.{Ignored, call_change, is_window, key_change, stage_change, window_change}
 use Rattle.fed_trace.specs.Effect as effects
 use Rattle.fed_trace.specs.Keyed.{entries_after, last_said}
@@ -48,7 +50,7 @@ use Rattle.fed_trace.proofs.effects.Outcome.{moves_call}
 use Rattle.fed_trace.proofs.effects.Silent.{AllSilent, entries_silent, silent_append, silent_call}
 use Rattle.fed_trace.proofs.events.Aside.{have_silent, says_silent}
 use Rattle.fed_trace.proofs.happens.Ends.{Happens, Left, Ends, Started, Took, Resumed, Resumes, Starts}
-use Rattle.fed_trace.proofs.happens.First.{FirstTurn, FailsFirst, ReadsFirst, first_turn, is_first}
+use Rattle.fed_trace.proofs.happens.First.{FirstTurn, FailsFirst, ReadsFirst, GathersFirst, first_turn, is_first}
 use Rattle.fed_trace.proofs.happens.Gets.{Taking, ByGet, ByDisconnect, ByNone, taking}
 use Rattle.fed_trace.proofs.happens.Happens.{happens}
 use Rattle.fed_trace.proofs.happens.Over.{over_quiet}
@@ -62,8 +64,8 @@ use Rattle.fed_trace.proofs.known.Known.{found_by, known_same}
 use Rattle.fed_trace.proofs.runs.Gets.{known_kind, unbegun_unknown}
 use Rattle.fed_twin.specs.Looks.{get_window_change}
 use Rattle.fed_twin.specs.Providers.{Providers}
-use Rattle.fed_twin.specs.Same.{SameCall, SameWorlds}
-use Rattle.fed_twin.proofs.calls.Call.{by_config, providers_both}
+use Rattle.fed_twin.specs.Same.{IfBoth, SameProvider, SameCall, SameWorlds}
+use Rattle.fed_twin.proofs.calls.Call.{providers_both}
 use Rattle.fed_twin.proofs.calls.Disconnect.{disconnect_begun, disconnect_later}
 use Rattle.fed_twin.proofs.seen.Look.{gets_in_window_same}
 use Rattle.fed_twin.proofs.worlds.Pages.{AreRuns}
@@ -122,6 +124,8 @@ gets_on T line event new earlier q at = go (happens T event q)
             absurd (let no : Some Ended ≡ Some Window = moved (Some (Some Ended)) (said Ended ended) in cc)
         by (ReadsFirst reading asks gives) =
             absurd (let no : Some Reading ≡ Some Window = moved (Some (Some Reading)) (said Reading reading) in cc)
+        by (GathersFirst gathering asks gives) =
+            absurd (let no : Some Gathering ≡ Some Window = moved (Some (Some Gathering)) (said Gathering gathering) in cc)
 
     by_get : (f : Facts) → Meets T event q f → Is
     by_get f m =
@@ -164,7 +168,7 @@ gets_on T line event new earlier q at = go (happens T event q)
         let no : None ≡ Some (OfGet g.0) = sym none ∙ g.1 in
         absurd (cc)
 
-    resumes : (r : Resumes T event q) → (config : Option Config) → r.facts.config ≡ config → Is
+    resumes : (r : Resumes T event q) → (config : Option Config) → config_at only_place r.facts ≡ config → Is
     resumes r None is = (
       record r.facts { stage = Window },
       known_resumed T line event q r
@@ -181,9 +185,9 @@ gets_on T line event new earlier q at = go (happens T event q)
     go (Ends e) = absurd (let no : Some Ended ≡ Some Window = moved (Some (Some Ended)) e.stage in cc)
     go (Started s) =
         started s (first_turn (world_at T) s.busy s.begun.origin s.begun.options
-        (is_first T event s.begun.page s.begun.call s.begun.options new s.is_event).one)
+        (is_first T event s.begun.page s.begun.call s.begun.options new s.is_event).some)
     go (Took t) = taken (taking T event q t)
-    go (Resumed r) = resumes r r.facts.config refl
+    go (Resumed r) = resumes r (config_at only_place r.facts) refl
 
 -- a row of a run is that of its event
 row_is : (T : Trace) (row : Row) → row.effects ≡ effects_of T row.event → row ≡ row_of T row.line row.event
@@ -231,6 +235,7 @@ agrees_silent (Login origin status ∷ does) h ws = agrees_silent does h.1 ws
 agrees_silent (Begin b ∷ does) h ws = agrees_silent does h.1 ws
 agrees_silent (Sent kind call provider ask cookies ∷ does) h ws = agrees_silent does h.1 ws
 agrees_silent (Shown call dialog ∷ does) h ws = agrees_silent does h.1 ws
+agrees_silent (Dropped call provider failure ∷ does) h ws = agrees_silent does h.1 ws
 agrees_silent (effects.Window call provider url ∷ does) h ws = agrees_silent does h.1 ws
 agrees_silent (Kept triple stays ∷ does) h ws = agrees_silent does h.1 ws
 agrees_silent (Flag origin stays ∷ does) h ws = agrees_silent does h.1 ws
@@ -242,7 +247,8 @@ silent_get : (w : World) (ck : Ask → List ℕ) (call page : ℕ) (o : Outcome)
     → AllSilent moves_disconnect (outcome_effects w ck GetCall call page o)
 silent_get w ck call page o =
     silent_append moves_disconnect (flat_map (call_effects w ck GetCall call page) o.effects) (moves GetCall call o.stage)
-    (silent_call moves_disconnect (λ n c p a k. refl) (λ c d. refl) (λ c p u. refl) (λ i s. refl) (λ t k. refl) (λ i k. refl)
+    (silent_call moves_disconnect (λ n c p a k. refl) (λ c d. refl) (λ c p f. refl) (λ c p u. refl) (λ i s. refl) (λ t k. refl)
+    (λ i k. refl)
     (λ c p f. refl) (λ why. refl) w ck GetCall call page o.effects) (moved o.stage)
   where
     moved : (stage : Option Stage) → AllSilent moves_disconnect (moves GetCall call stage)
@@ -256,12 +262,13 @@ agrees_disconnect w ck call page o ws absent shut =
     let does = flat_map (call_effects w ck DisconnectCall call page) o.effects in
     entries_after-append nat_eq window_change does (moves DisconnectCall call o.stage) ws
     ∙ ap (entries_after nat_eq window_change (moves DisconnectCall call o.stage)) (entries_silent nat_eq window_change does ws
-    (silent_call window_change (λ n c p a k. refl) (λ c d. refl) (λ c p u. refl) (λ i s. refl) (λ t k. refl) (λ i k. refl)
+    (silent_call window_change (λ n c p a k. refl) (λ c d. refl) (λ c p f. refl) (λ c p u. refl) (λ i s. refl) (λ t k. refl) (λ i k. refl)
     (λ c p f. refl) (λ why. refl) w ck DisconnectCall call page o.effects))
     ∙ by o.stage shut
     ∙ sym (entries_after-append nat_eq get_window_change does (moves DisconnectCall call o.stage) ws
     ∙ ap (entries_after nat_eq get_window_change (moves DisconnectCall call o.stage)) (entries_silent nat_eq get_window_change does ws
-    (silent_call get_window_change (λ n c p a k. refl) (λ c d. refl) (λ c p u. refl) (λ i s. refl) (λ t k. refl) (λ i k. refl)
+    (silent_call get_window_change (λ n c p a k. refl) (λ c d. refl) (λ c p f. refl) (λ c p u. refl) (λ i s. refl) (λ t k. refl)
+    (λ i k. refl)
     (λ c p f. refl) (λ why. refl) w ck DisconnectCall call page o.effects)))
   where
     by : (stage : Option Stage) → unwrap_or (option_map is_window stage) false ≡ false → Agrees ws (moves DisconnectCall call stage)
@@ -499,8 +506,15 @@ provider_same p None None h = refl
 provider_same p None (Some f') h = absurd h
 provider_same p (Some f) None h = absurd h
 provider_same p (Some f) (Some f') h =
-    by_config p origin_of (provider_at only_place f.options) (provider_at only_place f'.options)
+    go (provider_at only_place f.options) (provider_at only_place f'.options)
     (providers_both p f.options f'.options h.said.options only_place)
+  where
+    go : (q q' : Option ProviderOptions) → IfBoth (SameProvider p) q q'
+        → option_map (λ x. origin_of x.config) q ≡ option_map (λ x. origin_of x.config) q'
+    go None None k = refl
+    go (Some q) (Some q') k = ap (λ c. Some (origin_of c)) k.shares.config
+    go None (Some q') k = absurd k
+    go (Some q) None k = absurd k
 
 -- ---- in both worlds
 

@@ -19,7 +19,7 @@ use Rattle.fed_script.specs.declared.event.Have.{Have}
 use Rattle.fed_script.specs.declared.event.Have.TheVariants as haves
 use Rattle.fed_script.specs.declared.event.Numbered.{Numbered}
 use Rattle.fed_script.specs.Script.{Script, AreRead, IsRead}
-use Rattle.fed_script.specs.Used.{UsedState, unused, used_after, HasOneProvider}
+use Rattle.fed_script.specs.Used.{UsedState, unused, used_after, HasProviders}
 use Rattle.fed_trace.specs.Row.{IsRun, IsNew, effects_of, with_event}
 use Rattle.fed_trace.specs.Trace.{Trace}
 use Rattle.fed_trace.specs.Trace as trace
@@ -75,7 +75,7 @@ step_alike p ps T U h flags pages runs line line' (Statuses page status) new new
 step_alike p ps T U h flags pages runs line line' (Gets page call options options' same one) new new' q q' =
     step_get p T U h line line' page call options options'
     (λ o u is is'. all_at (λ x. has_flag (trace.flags T) x.0 ≡ has_flag (trace.flags U) x.1) (o, u) flags
-    (pages page o u is is')) same one
+    (pages page o u is is')) same one.0
 step_alike p ps T U h flags pages runs line line' (Aborts call) new new' q q' =
     step_input p T U h line line' _ _ call inputs.Abort inputs.Abort (is_abort call) (is_abort call) (row_abort p T U h) q q'
 step_alike p ps T U h flags pages runs line line' (Goings call) new new' q q' =
@@ -256,10 +256,10 @@ each_event P (n ∷ ns) h =
 -- what the events of the first script have
 record IsGood (p : Providers) (event : Event) : Type 0 where
   kept : is_kept event ≡ true
-  one : HasOneProvider event
+  one : HasProviders event
   known : AllByRecursion (λ url. is_provider p (host_of url) ≡ true) (configs_in event)
 
-good_kept : (p : Providers) (ns : List Numbered) → AllByRecursion (λ n. HasOneProvider n.event) ns
+good_kept : (p : Providers) (ns : List Numbered) → AllByRecursion (λ n. HasProviders n.event) ns
     → AllByRecursion (λ n. AllByRecursion (λ url. is_provider p (host_of url) ≡ true) (configs_in n.event)) ns
     → AllByRecursion (IsGood p) (kept_events ns)
 good_kept p [] one known = tt
@@ -399,7 +399,7 @@ configs_known a b =
     (all_in a (configs a.events ++ configs b.events))
 
 -- each get of a readable script has one provider
-one_each : (used : UsedState) (ns : List Numbered) → AreRead used ns → AllByRecursion (λ n. HasOneProvider n.event) ns
+one_each : (used : UsedState) (ns : List Numbered) → AreRead used ns → AllByRecursion (λ n. HasProviders n.event) ns
 one_each used [] read = tt
 one_each used (n ∷ ns) read = (read.0.provider, one_each (used_after n.event used) ns read.1)
 

@@ -145,6 +145,7 @@ same_sent line (does.Begin begun ∷ es) = same_sent line es
 same_sent line (does.Move kind call stage ∷ es) = same_sent line es
 same_sent line (does.Sent kind call provider ask cookies ∷ es) = ap₂ cons_option (same_bytes ask cookies) (same_sent line es)
 same_sent line (does.Shown call dialog ∷ es) = same_sent line es
+same_sent line (does.Dropped call provider failure ∷ es) = same_sent line es
 same_sent line (does.Window call provider url ∷ es) = same_sent line es
 same_sent line (does.Kept triple stays ∷ es) = same_sent line es
 same_sent line (does.Flag origin stays ∷ es) = same_sent line es

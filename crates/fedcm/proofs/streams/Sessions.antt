@@ -10,7 +10,7 @@ use Rattle.fed_script.specs.declared.event.Event.TheVariants as events
 use Rattle.fed_script.specs.declared.event.Header.{Header}
 use Rattle.fed_script.specs.declared.event.Line.TheVariants as found
 use Rattle.fed_script.specs.Reader.{LineMayFollow, used_by}
-use Rattle.fed_script.specs.Used.{UsedState, unused, used_after, IsUnused, HasOneProvider, HasKnownStatus}
+use Rattle.fed_script.specs.Used.{UsedState, unused, used_after, IsUnused, HasProviders, HasKnownStatus}
 use Rattle.fed_session.specs.Session.{State, Stands, IsFresh}
 use Rattle.fed_trace.proofs.runs.Untaken.{untaken_after}
 use Rattle.fed_trace.specs.OfScript.{start}
@@ -44,7 +44,7 @@ fresh_by s used (events.SetStatus page status) untaken unused = tt
 pub record MayTake (s : State) (event : Event) : Type 0 where
   pub few : s.steps < 1000000
   pub fresh : IsFresh s event
-  pub providers : HasOneProvider event
+  pub providers : HasProviders event
   pub status : HasKnownStatus event
 
 pub may_take : (used : Option UsedState) (s : State) (trace : Option Trace) (n : ℕ) (event : Event) → At used (Some s) trace

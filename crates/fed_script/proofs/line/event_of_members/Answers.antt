@@ -13,6 +13,6 @@ returns-in-Ok c =
     subst (Answers c.event_of_kind.result) (event_read c.args.line.now c.read_said.new.said c.in-Ok.kind.now c.in_ok-read_said.ensures
     (rw c.in-Ok.is at c.kind_of.ensures) c.in-Ok.not-get) c.event_of_kind.ensures
 
-pub returns-in-Err : goal.returns-in-Err
-returns-in-Err c =
+pub returns : goal.returns
+returns c =
     no_kind_read c.args.line.now c.read_said.new.said c.in-Err.cause c.in_ok-read_said.ensures (rw c.in-Err.is at c.kind_of.ensures)

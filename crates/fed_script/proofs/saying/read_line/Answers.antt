@@ -1,20 +1,22 @@
-use Rattle.std.proofs.Common.{◌≡◌, ◌<◌, Some, None, refl, ap, ◌∙◌, length, arith}
+use Rattle.std.proofs.Common.{◌≡◌, ◌<◌, Some, None, refl, ◌∙◌, length, arith}
 use Rattle.json.specs.Json.{read_key}
 use Rattle.serde_json.specs.Data.{no_members, put}
-use Rattle.fed_json.proofs.values.Steps.{members_end, members_more, members_stop, members_unnamed}
-use Rattle.fed_script.specs.Said.{provider_shown}
+use Rattle.fed_json.proofs.values.Steps.{members_end, members_more, members_stop, members_unnamed, value_shorter}
+use Rattle.fed_json.specs.Values.{members_in}
+use Rattle.fed_script.specs.Entries.{all_said, entries_seen}
 use Rattle.fed_script.proofs.says.Steps.{says-nothing}
-use Rattle.fed_script.proofs.says.Reading.{value_shorter, provider_put}
+use Rattle.fed_script.proofs.says.Stops.{stops, stops_as}
+use Rattle.fed_script.proofs.says.Reading.{providers_put}
 use Rattle.fed_script.proofs.saying.read_line.Goals as goal
 
 pub loop-name-init : goal.loop-name-init
-loop-name-init c = (no_members, refl, says-nothing _ c.requires.members, ap provider_shown c.requires.provider)
+loop-name-init c = (no_members, refl, says-nothing _ c.requires.members, c.requires.providers)
 
 pub returns-in_err-name : goal.returns-in_err-name
 returns-in_err-name c =
     let l = c.loop-name in
-    let none = l.invariant.1 ∙ members_unnamed c.args.depth l.invariant.0 l.values c.in_err-name.ensures.value in
-    grind (arith, none)
+    stops _ _ _ _ _ c.from_residual.ensures.1
+    (l.invariant.1 ∙ members_unnamed c.args.depth l.invariant.0 l.values c.in_err-name.ensures.value)
 
 pub returns-in_err-first : goal.returns-in_err-first
 returns-in_err-first c =
@@ -22,8 +24,8 @@ returns-in_err-first c =
     let k = c.in-Some.name.now in
     let s = c.next_name.new.self in
     let key : read_key l.values ≡ Some (Some k, s) = grind arith in
-    let none = l.invariant.1 ∙ members_stop c.args.depth l.invariant.0 l.values s k key c.in_err-first.ensures.value in
-    grind (arith, none)
+    stops _ _ _ _ _ c.from_residual-in_err-first.ensures.1
+    (l.invariant.1 ∙ members_stop c.args.depth l.invariant.0 l.values s k key c.in_err-first.ensures.value)
 
 pub returns-in_err-read_value : goal.returns-in_err-read_value
 returns-in_err-read_value c =
@@ -31,9 +33,9 @@ returns-in_err-read_value c =
     let k = c.in-Some.name.now in
     let s = c.next_name.new.self in
     let key : read_key l.values ≡ Some (Some k, s) = grind arith in
-    let none = l.invariant.1 ∙ members_stop c.args.depth l.invariant.0 l.values s k key
-    (c.in_ok-first.ensures.value ∙ c.in_err-read_value.ensures) in
-    grind (arith, none)
+    stops_as _ (members_in c.args.depth no_members c.args.values.now) _ _ _ c.from_residual-in_err-read_value.ensures.1
+    c.in_err-read_value.ensures
+    (λ none. l.invariant.1 ∙ members_stop c.args.depth l.invariant.0 l.values s k key (c.in_ok-first.ensures.value ∙ none))
 
 pub loop-name-smaller : goal.loop-name-smaller
 loop-name-smaller c =
@@ -53,7 +55,7 @@ loop-name-preserved c =
       l.invariant.1 ∙ members_more c.args.depth l.invariant.0 l.values s c.read_value.new.values k took.0 key
           (c.in_ok-first.ensures.value ∙ took.1),
       c.note.ensures l.invariant.0 took.0 took.2.0 l.invariant.2,
-      provider_put k took.0 l.invariant.0 (provider_shown l.said.provider) (provider_shown c.read_value.new.provider)
+      providers_put k took.0 l.invariant.0 (all_said (entries_seen l.said.providers)) (all_said (entries_seen c.read_value.new.providers))
           took.2.1 l.invariant.3,
     )
 
@@ -63,5 +65,5 @@ returns c =
     let over : read_key l.values ≡ Some (None, c.next_name.new.self) = grind arith in (
       l.invariant.0,
       l.invariant.1 ∙ members_end c.args.depth l.invariant.0 l.values c.next_name.new.self over,
-      record { members = l.invariant.2; provider = l.invariant.3 },
+      record { members = l.invariant.2; providers = l.invariant.3 },
     )

@@ -24,4 +24,4 @@ pub begin-requires-2-clause-idle : goal.begin-requires-2-clause-idle
 begin-requires-2-clause-idle g c =
     ap awaited_in c.in_ok-kept.ensures.kept
     ∙ begun_idle (world_in c.args.sight.now) c.is_busy.result
-    (record { call = c.args.call; page = c.args.page; origin = c.in-Some.origin.now; options = ToGet c.args.options.now }) c.requires.one
+    (record { call = c.args.call; page = c.args.page; origin = c.in-Some.origin.now; options = ToGet c.args.options.now }) c.requires.some

@@ -27,7 +27,7 @@ returns-clause-row g c = λ T h.
             sight = sight;
             tabs = c.get.new.tabs;
           }))) (with_event T c.args.line event)) (sym c.in_ok-outs.ensures.sight)
-          (stands_after _ _ T c.args.line event before (is_new _ T c.args.call before fresh, c.requires.one) refl refl
-          (owes_begin _ _ T c.args.line event c.args.page c.args.call (ToGet c.args.options.now) before begins fresh c.requires.one refl
+          (stands_after _ _ T c.args.line event before (is_new _ T c.args.call before fresh, c.requires.some) refl refl
+          (owes_begin _ _ T c.args.line event c.args.page c.args.call (ToGet c.args.options.now) before begins fresh c.requires.some refl
           c.in_ok-outs.ensures.tabs)),
     )

@@ -1,7 +1,0 @@
-use Rattle.std.proofs.Common.{◌≡◌, take}
-use Rattle.std.specs.Prelude.{map}
-use Rattle.fed_call.specs.Accounts.{is_connected}
-use Rattle.fed_call.proofs.accounts.connections_at.Given as goal
-
-abbrev pub invariant-loop-account : goal.invariant-loop-account
-invariant-loop-account l = l.all ≡ map (is_connected l.kept l.page l.provider l.client) (take l.account-index l.accounts)

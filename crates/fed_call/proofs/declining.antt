@@ -1,0 +1,2 @@
+-- Inputs that a call does not take.
+pub mod Quiet

@@ -1,2 +1,0 @@
--- Accounts with their connections.
-pub mod List

@@ -1,0 +1,2 @@
+-- Choices among several accounts.
+pub mod Several
