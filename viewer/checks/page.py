@@ -17,8 +17,14 @@ def read(path):
         return file.read()
 
 
+# The examples that are drawn: what `check` writes is no transcript.
 def names():
-    return sorted(os.path.basename(path)[:-len(".out.jsonl")] for path in glob.glob("examples/*.out.jsonl"))
+    found = (os.path.basename(path)[:-len(".out.jsonl")] for path in glob.glob("examples/*.out.jsonl"))
+    return sorted(name for name in found if not is_check("examples/%s.words" % name))
+
+
+def is_check(words):
+    return os.path.exists(words) and read(words).split() == ["check"]
 
 
 # The paths of an example's script and transcript.

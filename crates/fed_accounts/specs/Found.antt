@@ -80,23 +80,43 @@ abbrev pub or_empty : Option (List (List ℕ)) → List (List ℕ)
 or_empty None = []
 or_empty (Some texts) = texts
 
--- the account of what was found
-abbrev pub account_found : FoundParts → Result Account AccountsStep
-account_found f = do
+-- the texts of an account
+pub record NamesFound : Type 0 where
+  pub id : List ℕ
+  pub name : List ℕ
+  pub email : List ℕ
+  pub given_name : Option (List ℕ)
+  pub picture : Option (List ℕ)
+
+-- the texts of what was found
+abbrev pub names_found : FoundParts → Result NamesFound AccountsStep
+names_found f = do
   id ← required Shape f.id
   name ← required Shape f.name
   email ← required Shape f.email
   given_name ← optional Shape f.given_name
   picture ← optional Shape f.picture
-  approved ← f.approved
-  login_hints ← with_ok or_empty f.login_hints
-  domain_hints ← with_ok or_empty f.domain_hints
   Ok (record {
     id = id;
     name = name;
     email = email;
     given_name = given_name;
     picture = picture;
+  })
+
+-- the account of what was found
+abbrev pub account_found : FoundParts → Result Account AccountsStep
+account_found f = do
+  names ← names_found f
+  approved ← f.approved
+  login_hints ← with_ok or_empty f.login_hints
+  domain_hints ← with_ok or_empty f.domain_hints
+  Ok (record {
+    id = names.id;
+    name = names.name;
+    email = names.email;
+    given_name = names.given_name;
+    picture = names.picture;
     approved = approved;
     login_hints = login_hints;
     domain_hints = domain_hints;

@@ -9,21 +9,21 @@ use Rattle.fed_reply.specs.Steps.{◌>>=◌}
 use Rattle.fed_accounts.specs.Connection.{has_text}
 use Rattle.fed_accounts.specs.Read.{AccountsOf}
 
--- the login hint, where it is given, is one of the account's
-abbrev pub has_login : Option (List ℕ) → Account → Bool
-has_login None account = true
-has_login (Some hint) account = has_text hint account.login_hints
+-- the login hint, where it is given, is one of an account's login hints
+abbrev pub has_login : Option (List ℕ) → List (List ℕ) → Bool
+has_login None hints = true
+has_login (Some hint) hints = has_text hint hints
 
--- the domain hint, where it is given, is one of the account's; `any` is each
-abbrev pub has_domain : Option (List ℕ) → Account → Bool
-has_domain None account = true
-has_domain (Some hint) account =
-    if bytes_eq hint (codes "any") then not (length account.domain_hints == 0)
-    else has_text hint account.domain_hints
+-- the domain hint, where it is given, is one of an account's domain hints; `any` is each
+abbrev pub has_domain : Option (List ℕ) → List (List ℕ) → Bool
+has_domain None hints = true
+has_domain (Some hint) hints =
+    if bytes_eq hint (codes "any") then not (length hints == 0)
+    else has_text hint hints
 
 -- both hints ask for the account
 abbrev pub is_hinted : Option (List ℕ) → Option (List ℕ) → Account → Bool
-is_hinted login domain account = has_login login account && has_domain domain account
+is_hinted login domain account = has_login login account.login_hints && has_domain domain account.domain_hints
 
 -- accounts of which some are left
 abbrev pub some_left : List Account → Result (List Account) AccountsStep

@@ -4,6 +4,7 @@ pub mod Entry
 pub mod Found
 pub mod Hints
 pub mod Kept
+pub mod Names
 pub mod Offers
 pub mod Read
 pub mod Search

@@ -4,8 +4,9 @@ ghost use Rattle.fed_accounts.specs.Connection as spec;
 ghost use Rattle.fed_accounts.specs.Offers.{AreWhole};
 ghost use Rattle.fed_accounts.specs.Search.{hits_of};
 
+use crate::lent::has_text;
 use crate::{Account, Accounts, Offer};
-use fed_io::{Items, Text};
+use fed_io::Text;
 use fed_origin::Mediation;
 
 /// Whether the account is connected to the client (FedCM, "compute the connection status"): by its
@@ -15,7 +16,7 @@ pub fn connected(account: &Account, client: &Text, kept: bool) -> bool
     ensures { result ≡ spec.Connected account.now client.now kept }
 {
     match &account.approved {
-        Some(clients) => has_text(clients, client),
+        Some(clients) => has_text(clients.as_slice(), client.as_str()),
         None => kept,
     }
 }
@@ -118,11 +119,4 @@ fn eligible_in(accounts: &[Account], client: &Text, kept: &[bool]) -> Hits
         Some(place) => Hits::One(place),
         None => Hits::Nothing,
     }
-}
-
-/// Whether the text is among the texts.
-pub fn has_text(texts: &Items<Text>, text: &Text) -> bool
-    ensures { result ≡ spec.has_text text.now texts.now }
-{
-    texts.as_slice().contains(text)
 }

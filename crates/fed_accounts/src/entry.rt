@@ -3,24 +3,21 @@ ghost use Rattle.std.specs.Prelude.{◌≡◌, IfOk, option_map};
 ghost use Rattle.std.specs.Option.{option_copied};
 ghost use Rattle.std.specs.Result.{result_map_both};
 ghost use Rattle.fed_json.specs.Values.{value_in, Takes};
-ghost use Rattle.fed_reply.specs.Members.{member_map};
-ghost use Rattle.fed_reply.specs.Shape.{required, optional};
 ghost use Rattle.fed_reply.specs.Steps.{with_ok};
-ghost use Rattle.fed_accounts.specs.Connection as connection;
 ghost use Rattle.fed_accounts.specs.Entry as seen;
-ghost use Rattle.fed_accounts.specs.Found.{account_found, or_empty, parts};
+ghost use Rattle.fed_accounts.specs.Found.{account_found, names_found, or_empty, parts};
 ghost use Rattle.fed_accounts.specs.Hints as hints;
+ghost use Rattle.fed_accounts.specs.Names.{names};
 ghost use Rattle.fed_accounts.specs.Read as spec;
 
+use crate::hints::are_asked_for;
 use crate::members::{Found, Listed, read_members};
 use crate::{Account, AccountsStep};
 use fed_io::{Fault, Items, NoRoom, Text, placed_text, text_of};
 use fed_json::{Begun, Invalid, Values};
-use fed_reply::Member;
 use std::alloc::Global;
 
 /// An account as its entry has it. Nothing is copied, so that what no call is about costs no copy.
-#[derive(Drop)]
 pub(crate) struct Entry<'a> {
     pub(crate) id: &'a str,
     name: &'a str,
@@ -30,6 +27,22 @@ pub(crate) struct Entry<'a> {
     approved: Option<Items<&'a str>>,
     login_hints: Items<&'a str>,
     domain_hints: Items<&'a str>,
+}
+
+// Written out, so that one function lets it go wherever it ends.
+impl Drop for Entry<'_> {
+    fn drop(self) {
+        let Entry {
+            id: _,
+            name: _,
+            email: _,
+            given_name: _,
+            picture: _,
+            approved: _,
+            login_hints: _,
+            domain_hints: _,
+        } = self;
+    }
 }
 
 /// The account of the entry that a value is, or the step where it is none.
@@ -58,46 +71,48 @@ pub(crate) fn read_entry<'a>(
 fn entry_of<'a>(alloc: Global, found: Found<'a>) -> Result<Entry<'a>, AccountsStep>
     ensures { result_map_both seen.account (λ e. e) result ≡ account_found (parts found.entry) }
 {
-    let id = required_text(found.id)?;
-    let name = required_text(found.name)?;
-    let email = required_text(found.email)?;
-    let given_name = optional_text(found.given_name)?;
-    let picture = optional_text(found.picture)?;
+    let named = named(&found)?;
     let approved = found.approved?;
     let login_hints = list_or_empty(alloc, found.login_hints)?;
     let domain_hints = list_or_empty(alloc, found.domain_hints)?;
     Ok(Entry {
-        id,
-        name,
-        email,
-        given_name,
-        picture,
+        id: named.id,
+        name: named.name,
+        email: named.email,
+        given_name: named.given_name,
+        picture: named.picture,
         approved,
         login_hints,
         domain_hints,
     })
 }
 
-// A text that has to be there.
-fn required_text(found: Member<&str>) -> Result<&str, AccountsStep>
-    ensures { result_map_both (λ text. text.now) (λ e. e) result
-        ≡ required AccountsStep.Shape (member_map (λ s. s.now) found.entry) }
-{
-    match found {
-        Member::Is(text) => Ok(text),
-        Member::Absent | Member::Wrong => Err(AccountsStep::Shape),
-    }
+// The texts of an account.
+#[derive(Clone, Copy)]
+struct EntryTexts<'a> {
+    id: &'a str,
+    name: &'a str,
+    email: &'a str,
+    given_name: Option<&'a str>,
+    picture: Option<&'a str>,
 }
 
-// A text that may be left out.
-fn optional_text(found: Member<&str>) -> Result<Option<&str>, AccountsStep>
-    ensures { result_map_both option_copied (λ e. e) result ≡ optional AccountsStep.Shape (member_map (λ s. s.now) found.entry) }
+// The texts of what was found. It takes no memory.
+fn named<'a>(found: &Found<'a>) -> Result<EntryTexts<'a>, AccountsStep>
+    ensures { result_map_both names (λ e. e) result ≡ names_found (parts found.now) }
 {
-    match found {
-        Member::Is(text) => Ok(Some(text)),
-        Member::Absent => Ok(None),
-        Member::Wrong => Err(AccountsStep::Shape),
-    }
+    let id = found.id.required(AccountsStep::Shape)?;
+    let name = found.name.required(AccountsStep::Shape)?;
+    let email = found.email.required(AccountsStep::Shape)?;
+    let given_name = found.given_name.optional(AccountsStep::Shape)?;
+    let picture = found.picture.optional(AccountsStep::Shape)?;
+    Ok(EntryTexts {
+        id,
+        name,
+        email,
+        given_name,
+        picture,
+    })
 }
 
 // A list of texts, which is empty where it is left out.
@@ -116,33 +131,12 @@ impl<'a> Entry<'a> {
     pub(crate) fn is_hinted(&self, login: Option<&Text>, domain: Option<&Text>) -> bool
         ensures { result ≡ hints.is_hinted (option_copied login.entry) (option_copied domain.entry) (seen.account self.now) }
     {
-        self.has_login(login) && self.has_domain(domain)
-    }
-
-    // Whether the login hint, where it is given, asks for the account.
-    fn has_login(&self, login: Option<&Text>) -> bool
-        ensures { result ≡ hints.has_login (option_copied login.entry) (seen.account self.now) }
-    {
-        match login {
-            Some(hint) => has_text(&self.login_hints, hint.as_str()),
-            None => true,
-        }
-    }
-
-    // Whether the domain hint, where it is given, asks for the account.
-    fn has_domain(&self, domain: Option<&Text>) -> bool
-        ensures { result ≡ hints.has_domain (option_copied domain.entry) (seen.account self.now) }
-    {
-        match domain {
-            Some(hint) => {
-                if hint.as_str() == "any" {
-                    self.domain_hints.len() != 0
-                } else {
-                    has_text(&self.domain_hints, hint.as_str())
-                }
-            }
-            None => true,
-        }
+        are_asked_for(
+            login,
+            domain,
+            self.login_hints.as_slice(),
+            self.domain_hints.as_slice(),
+        )
     }
 
     /// A copy of the account.
@@ -160,13 +154,6 @@ impl<'a> Entry<'a> {
             domain_hints: copy_list(alloc, &self.domain_hints)?,
         })
     }
-}
-
-// Whether the text is among the texts.
-fn has_text(texts: &Items<&str>, text: &str) -> bool
-    ensures { result ≡ connection.has_text text.now (seen.texts texts.now) }
-{
-    texts.as_slice().contains(&text)
 }
 
 // A copy of the texts of a list, where there is one.

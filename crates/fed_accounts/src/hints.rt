@@ -1,11 +1,10 @@
 //! The accounts that the hints of a call ask for.
-ghost use Rattle.std.specs.Prelude.{◌≡◌, IfOk, filter};
+ghost use Rattle.std.specs.Prelude.{◌≡◌, ◌&&◌, IfOk, filter, map};
 ghost use Rattle.std.specs.Option.{option_copied};
 ghost use Rattle.fed_io.specs.Fault.{Answers};
 ghost use Rattle.fed_accounts.specs.Hints as spec;
-ghost use Rattle.fed_accounts.specs.Connection.{has_text};
 
-use crate::connection::has_text;
+use crate::lent::{LendsText, has_text};
 use crate::{Account, Accounts, AccountsStep};
 use fed_io::{Fault, Items, NoRoom, Text};
 use std::alloc::Global;
@@ -42,33 +41,52 @@ fn hinted(
 {
     let mut kept = Items::new(alloc);
     for account in accounts.into_vec() {
-        if has_login(&account, login) && has_domain(&account, domain) {
+        let asked_for = are_asked_for(
+            login,
+            domain,
+            account.login_hints.as_slice(),
+            account.domain_hints.as_slice(),
+        );
+        if asked_for {
             kept.push(account)?;
         }
     }
     Ok(kept)
 }
 
-// Whether the login hint, where it is given, asks for the account.
-fn has_login(account: &Account, login: Option<&Text>) -> bool
-    ensures { result ≡ spec.has_login (option_copied login.entry) account.now }
+/// Whether both hints, where they are given, ask for an account with these login hints and these domain hints. It takes no memory.
+pub(crate) fn are_asked_for<T: LendsText>(
+    login: Option<&Text>,
+    domain: Option<&Text>,
+    login_hints: &[T],
+    domain_hints: &[T],
+) -> bool
+    ensures { result ≡ (spec.has_login (option_copied login.entry) (map T.text login_hints.now)
+        && spec.has_domain (option_copied domain.entry) (map T.text domain_hints.now)) }
+{
+    has_login(login, login_hints) && has_domain(domain, domain_hints)
+}
+
+// Whether the login hint, where it is given, is one of the hints.
+fn has_login<T: LendsText>(login: Option<&Text>, hints: &[T]) -> bool
+    ensures { result ≡ spec.has_login (option_copied login.entry) (map T.text hints.now) }
 {
     match login {
-        Some(hint) => has_text(&account.login_hints, hint),
+        Some(hint) => has_text(hints, hint.as_str()),
         None => true,
     }
 }
 
-// Whether the domain hint, where it is given, asks for the account.
-fn has_domain(account: &Account, domain: Option<&Text>) -> bool
-    ensures { result ≡ spec.has_domain (option_copied domain.entry) account.now }
+// Whether the domain hint, where it is given, is one of the hints; `any` is each.
+fn has_domain<T: LendsText>(domain: Option<&Text>, hints: &[T]) -> bool
+    ensures { result ≡ spec.has_domain (option_copied domain.entry) (map T.text hints.now) }
 {
     match domain {
         Some(hint) => {
             if hint.as_str() == "any" {
-                account.domain_hints.len() != 0
+                !hints.is_empty()
             } else {
-                has_text(&account.domain_hints, hint)
+                has_text(hints, hint.as_str())
             }
         }
         None => true,

@@ -6,6 +6,7 @@ mod accounts;
 mod connection;
 mod entry;
 mod hints;
+mod lent;
 mod members;
 mod offer;
 mod read;

@@ -11,7 +11,7 @@ ghost use Rattle.fed_accounts.specs.Found as spec;
 use crate::AccountsStep;
 use fed_io::{Fault, Items};
 use fed_json::{Begun, Invalid, Values};
-use fed_reply::Member;
+use fed_reply::{Member, text_of};
 use std::alloc::Global;
 
 /// A list of texts that may be left out, or the step where it is none.
@@ -36,11 +36,7 @@ fn read_text<'a>(values: &mut Values<'a>, depth: usize) -> Result<Member<&'a str
         (λ text. Took (λ d. member_map (λ s. s.now) text ≡ member_here as_str d) (value_in depth values.old) values.new)
         (λ _. value_in depth values.old ≡ None) }
 {
-    Ok(match values.pass(depth)? {
-        Begun::Null => Member::Absent,
-        Begun::Text(text) => Member::Is(text),
-        Begun::Bool(_) | Begun::Number(_) | Begun::Array(_) | Begun::Object(_) => Member::Wrong,
-    })
+    Ok(text_of(&values.pass(depth)?))
 }
 
 // The list of texts that a value is; null counts as left out.

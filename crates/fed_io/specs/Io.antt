@@ -1,5 +1,5 @@
 -- What sources and sinks do to the bytes that they tell, and when they may fail.
-use Rattle.std.specs.Prelude.{◌≡◌, ℕ, ◌+◌, ◌-◌, ◌^◌, ◌≤◌, min, List, ◌++◌, Option, Result, Ok, Err, OnErr, MatchResult}
+use Rattle.std.specs.Prelude.{◌≡◌, ℕ, ◌+◌, ◌-◌, ◌^◌, ◌≤◌, ◌<◌, min, length, List, ◌++◌, Option, Result, Ok, Err, OnErr, MatchResult}
 use Rattle.std.specs.Io.KnownBytes.{Appends}
 
 -- a count after one more, which stays at the greatest u64
@@ -27,6 +27,10 @@ IsPrefixOf xs ys = (rest : List ℕ) × (xs ++ rest ≡ ys)
 -- told bytes grow by a front of these bytes
 abbrev pub AppendsFront : Option (List ℕ) → Option (List ℕ) → List ℕ → Type 0
 AppendsFront old new bytes = (front : List ℕ) × IsPrefixOf front bytes × Appends old new front
+
+-- told bytes grow by a front of these bytes that is not all of them
+abbrev pub AppendsLess : Option (List ℕ) → Option (List ℕ) → List ℕ → Type 0
+AppendsLess old new bytes = (front : List ℕ) × IsPrefixOf front bytes × (length front < length bytes) × Appends old new front
 
 -- told bytes grow by all of these bytes at Ok, and by a front of them at Err
 abbrev pub PutsAll : {T E : Type 0} → Option (List ℕ) → Option (List ℕ) → Result T E → List ℕ → Type 0

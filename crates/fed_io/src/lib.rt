@@ -24,6 +24,3 @@ pub use shared::SharedValue;
 pub use source::{Sink, Source, put_all};
 pub use steps::Steps;
 pub use text::{Bytes, Text, copy_text, copy_texts, text_of};
-
-#[cfg(test)]
-mod tests;

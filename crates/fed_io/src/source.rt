@@ -1,8 +1,8 @@
 //! Where bytes come from, and where they go.
-ghost use Rattle.std.specs.Prelude.{◌<◌, ℕ, List, length, Option, IfOk};
+ghost use Rattle.std.specs.Prelude.{◌<◌, ℕ, List, length, Option, IfOk, OnErr};
 ghost use Rattle.std.specs.Io.{ReadsAtMost, WritesAtMost};
 ghost use Rattle.std.specs.Io.KnownBytes.{ReadConsumes, WriteAppends};
-ghost use Rattle.fed_io.specs.Io.{PutsAll, HasCause};
+ghost use Rattle.fed_io.specs.Io.{PutsAll, AppendsLess, HasCause};
 
 use crate::Failed;
 
@@ -44,6 +44,8 @@ pub trait Sink {
 /// Puts all the bytes. Where the sink fails a front of them was taken. It takes no memory.
 pub fn put_all<K: Sink>(sink: &mut K, bytes: &[u8]) -> Result<(), Failed>
     ensures bytes { PutsAll (K.taken sink.old) (K.taken sink.new) result bytes.now }
+    // A sink that failed did not take all.
+    ensures less { OnErr result (AppendsLess (K.taken sink.old) (K.taken sink.new) bytes.now) }
     ensures cause { HasCause (K.faults sink.old) (K.faults sink.new) result }
 {
     let mut at = 0;

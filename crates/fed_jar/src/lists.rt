@@ -1,5 +1,5 @@
 //! The lists of a jar, by parties.
-ghost use Rattle.std.specs.Prelude.{◌≡◌, ◌++◌, ℕ, List, IfOk, IfSome, OnOk, OnErr, None, Some, not, bytes_eq};
+ghost use Rattle.std.specs.Prelude.{◌≡◌, ◌<◌, ◌++◌, ℕ, length, List, IfOk, IfSome, OnOk, OnErr, None, Some, not, bytes_eq};
 ghost use Rattle.std.specs.List.{IsDistinct, list_any};
 ghost use Rattle.std.specs.Map.{keys_of};
 ghost use Rattle.fed_suffix.specs.Rule.{RuleSet};
@@ -101,6 +101,7 @@ pub fn keep_more(
     new: Numbered,
 ) -> Result<Kept, NoRoom>
     requires named { IsDistinct bytes_eq (keys_of (lists_of (λ key. key.items) parties.old.entries)) }
+    requires there { at < length parties.old.entries }
     ensures ok { OnOk result ((name : List ℕ) → IsPlace name (Some at) (lists_of (λ key. key.items) parties.old.entries)
         → lists_of (λ key. key.items) parties.new.entries ≡ put_under name (lists_of (λ key. key.items) parties.old.entries) new) }
     ensures fresh { IfOk result (λ kept. (name : List ℕ) → IsPlace name (Some at) (lists_of (λ key. key.items) parties.old.entries)
@@ -109,8 +110,7 @@ pub fn keep_more(
 {
     match parties.get_index_mut(at) {
         Some(cookies) => put(cookies, alloc, at, new),
-        // There is one at the place of a party.
-        None => Err(NoRoom),
+        None => unreachable!(),
     }
 }
 

@@ -89,8 +89,7 @@ impl PartyCookies {
     {
         let both = room_for_two(alloc)?;
         let PartyCookies::One(first) = mem::replace(self, PartyCookies::Empty) else {
-            // There is one.
-            return Err(NoRoom);
+            unreachable!()
         };
         *self = PartyCookies::Many(filled(both, first, new));
         Ok(())

@@ -1,6 +1,3 @@
--- Texts as serde_json reads them, read by json's tape or from left to right.
-pub mod Split
-pub mod Range
+-- Texts as serde_json reads them, read from left to right.
 pub mod Number
 pub mod Steps
-pub mod Look

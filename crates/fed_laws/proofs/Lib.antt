@@ -3,5 +3,7 @@ pub mod pending
 pub mod tokens
 pub mod causes
 pub mod followed
+pub mod disconnects
 pub mod permissions
+pub mod naming
 pub mod scripts

@@ -1,5 +1,3 @@
 -- A permission comes by a token's row, and goes by the reply to a disconnect call.
 pub mod Changes
-pub mod Disconnects
-pub mod Sending
 pub mod Explained

@@ -1,5 +1,5 @@
--- Why a token is asked for, and to whom it is given: what happened, by events alone.
-use Rattle.std.specs.Prelude.{◌≡◌, ℕ, suc, Bool, true, false, ◌&&◌, nat_eq, ◌≤◌, List, [], ◌∷◌, ◌++◌, length, Option}
+-- Why a token or a disconnect is asked for, and to whom a token is given: what happened, by events alone.
+use Rattle.std.specs.Prelude.{◌≡◌, ℕ, suc, Bool, true, false, ◌&&◌, nat_eq, ◌==◌, ◌≤◌, List, [], ◌∷◌, ◌++◌, length, Option}
 use Rattle.std.specs.Prelude.{Some, None, is_some}
 use Rattle.std.specs.Prelude.{option_and_then, option_map, not, if◌then◌else◌, Result as Answer, Ok, Err, ◌⊎◌}
 use Rattle.std.specs.Option.{option_or}
@@ -13,12 +13,14 @@ use Rattle.fed_origin.specs.declared.status.LoginStatus.TheVariants.{LoggedIn}
 use Rattle.fed_origin.specs.declared.status.Triple.{Triple}
 use Rattle.fed_origin.specs.Origin.{origin_text, same_origin}
 use Rattle.fed_origin.specs.WebUrl.{origin_of}
+use Rattle.fed_suffix.specs.Rule.{RuleSet}
 use Rattle.fed_provider.specs.declared.config.Config.{Config}
+use Rattle.fed_provider.specs.Config.{ConfigOf}
 use Rattle.fed_accounts.specs.declared.account.Account.{Account}
 use Rattle.fed_accounts.specs.declared.step.AccountsStep.{AccountsStep}
 use Rattle.fed_token.specs.declared.step.TokenStep.{TokenStep}
 use Rattle.fed_token.specs.Read.{AssertionOf, DisconnectOf}
-use Rattle.fed_status.specs.Kept.{has_triple, is_of_pair, triple_of}
+use Rattle.fed_status.specs.Kept.{has_pair, has_triple, is_of_pair, triple_of}
 use Rattle.fed_consent.specs.declared.table.finish.Finish.TheVariants.{Token}
 use Rattle.fed_consent.specs.declared.table.input.Input.{Input}
 use Rattle.fed_consent.specs.Outcomes.{only_place}
@@ -27,11 +29,12 @@ use Rattle.fed_consent.specs.Consent.{AssertionFields, Choices, Pick, chosen, pi
 use Rattle.fed_accounts.specs.declared.offer.Offer.{Offer}
 use Rattle.fed_status.specs.Flags.{has_flag}
 use Rattle.fed_call.specs.Accounts.{accounts_of, offer_of, provider_at}
-use Rattle.fed_provider.specs.FirstReplies.{config_read}
+use Rattle.fed_provider.specs.FirstReplies.{config_read, wellknown_read}
 use Rattle.fed_script.specs.declared.event.Event.{Event}
 use Rattle.fed_script.specs.declared.event.Event.TheVariants.{Have, Reply, Choose, GoOn}
 use Rattle.fed_script.specs.declared.event.Have.TheVariants as haves
 use Rattle.fed_origin.specs.declared.stage.ReplyKind.TheVariants as kinds
+use Rattle.fed_consent.specs.declared.table.ask.Ask.{Ask}
 use Rattle.fed_consent.specs.declared.table.ask.Ask.TheVariants as asks
 use Rattle.fed_consent.specs.declared.table.input.Input.TheVariants as inputs
 use Rattle.fed_trace.specs.Begun.{Begun, ToGet, ToDisconnect, GetCall, DisconnectCall}
@@ -356,3 +359,70 @@ pub record IsTaken (T : Trace) (event : Event) (triple : Triple) : Type 0 where
   pub is_reply : event ≡ Reply call only_place kinds.Disconnect raw
   pub was_kept : has_triple (kept T) triple ≡ true
   pub takes : Takes (kept T) begun.origin (provider_origin options) triple (DisconnectOf raw (origin_text begun.origin))
+
+-- ---- the cause of a request for a disconnect
+
+-- the bytes of a well-known reply of the only provider, where an input brings these
+abbrev pub wellknown_brought : Option Input → Option (List ℕ)
+wellknown_brought (Some (inputs.Reply place kinds.WellKnown raw)) = if place == only_place then Some raw else None
+wellknown_brought _ = None
+
+-- the bytes of a configuration of it
+abbrev pub config_brought : Option Input → Option (List ℕ)
+config_brought (Some (inputs.Reply place kinds.Config raw)) = if place == only_place then Some raw else None
+config_brought _ = None
+
+-- the first such bytes that the rows bring to the call
+abbrev pub first_in : (Option Input → Option (List ℕ)) → ℕ → List Row → Option (List ℕ)
+first_in brought call [] = None
+first_in brought call (row ∷ rows) = option_or (first_in brought call rows) (brought (input_to call row.event))
+
+-- the same of the rows and then an event
+abbrev pub first_by : (Option Input → Option (List ℕ)) → ℕ → List Row → Event → Option (List ℕ)
+first_by brought call rows event = option_or (first_in brought call rows) (brought (input_to call event))
+
+-- The first well-known file and the first configuration that the rows and the event bring to the call are good, and the event brings
+-- one of the two.
+pub record FilesAreGood (rules : RuleSet) (url : Parts) (call : ℕ) (since : List Row) (event : Event) : Type 0 where
+  pub wellknown : List ℕ
+  pub wellknown_came : first_by wellknown_brought call since event ≡ Some wellknown
+  pub names_it : wellknown_read rules url wellknown ≡ Ok tt
+  pub file : List ℕ
+  pub file_came : first_by config_brought call since event ≡ Some file
+  pub config : Config
+  pub holds : ConfigOf file url ≡ Ok config
+  pub not_before : (first_in wellknown_brought call since ≡ None) ⊎ (first_in config_brought call since ≡ None)
+
+-- Why a provider is asked to disconnect: the call is a disconnect of a page that stands, with the origin that it had when the call began
+-- and neither loaded nor closed since, a permission of its page's origin and its provider's origin was kept when it began, and by the
+-- event both files of its provider are good.
+pub record DisconnectCause (T : Trace) (event : Event) (call : ℕ) : Type 0 where
+  pub begun : Begun
+  pub options : DisconnectOptions
+  pub is_disconnect : begun.options ≡ ToDisconnect options
+  pub undisturbed : Undisturbed T.rows call begun
+  pub stands : page_at T begun.page ≡ Some begun.origin
+  pub was_kept : has_pair (kept (record { header = T.header; rows = undisturbed.before })) begun.origin (provider_origin options) ≡ true
+  pub files : FilesAreGood T.header.rules options.config call undisturbed.since event
+
+-- the request goes to the disconnect endpoint, and names the call's client, hint and page
+pub record SaysDisconnect (T : Trace) (event : Event) (call : ℕ) (cause : DisconnectCause T event call) (to : Parts)
+    (client hint : List ℕ) (origin : Origin) : Type 0 where
+  pub to_is : Some to ≡ cause.files.config.disconnect
+  pub client_is : client ≡ cause.options.client
+  pub hint_is : hint ≡ cause.options.hint
+  pub origin_is : origin ≡ cause.begun.origin
+
+-- ---- which requests name a page
+
+-- Why a request names its page: it is the one for the client's links, and then it carries no cookies, or it asks for a token or for a
+-- disconnect, and has the cause of that.
+pub data Naming (T : Trace) (event : Event) (call provider : ℕ) (ask : Ask) (cookies : List ℕ) : Type 0 where
+  ForLinks : (to : Parts) (client : List ℕ) (origin : Origin) → ask ≡ asks.Metadata to client origin → cookies ≡ []
+      → Naming T event call provider ask cookies
+  ForToken : (fields : AssertionFields) → ask ≡ asks.Assertion fields
+      → (cause : AssertionCause T event call provider fields.account) → SaysWhy T event call provider fields.account cause fields
+      → Naming T event call provider ask cookies
+  ForDisconnect : (to : Parts) (client hint : List ℕ) (origin : Origin) → ask ≡ asks.Disconnect to client hint origin
+      → (cause : DisconnectCause T event call) → SaysDisconnect T event call cause to client hint origin
+      → Naming T event call provider ask cookies

@@ -1,20 +1,24 @@
 -- What the traces promise.
 use Rattle.std.specs.Prelude.{◌≡◌, ℕ, Bool, true, false, ◌≤◌, List, ◌∷◌, ◌++◌, length, Some, Ok, Err}
 use Rattle.std.specs.List.{list_any}
+use Rattle.url.specs.Parts.{Parts}
 use Rattle.fed_origin.specs.declared.stage.ReplyKind.TheVariants as kinds
 use Rattle.fed_origin.specs.declared.stage.Stage.TheVariants.{Gathering}
 use Rattle.fed_origin.specs.declared.status.Triple.{Triple}
+use Rattle.fed_origin.specs.declared.origin.Origin.{Origin}
 use Rattle.fed_origin.specs.Origin.{origin_text}
 use Rattle.fed_token.specs.Read.{AssertionOf}
+use Rattle.fed_consent.specs.declared.table.ask.Ask.{Ask}
 use Rattle.fed_consent.specs.declared.table.ask.Ask.TheVariants as asks
 use Rattle.fed_consent.specs.declared.table.finish.Finish.TheVariants.{Token}
+use Rattle.fed_consent.specs.Ask.{named_origin}
 use Rattle.fed_consent.specs.Consent.{AssertionFields}
 use Rattle.fed_call.specs.Facts.{Facts}
 use Rattle.fed_call.specs.Progress.{is_awaited}
 use Rattle.fed_trace.specs.Begun.{Begun, CallKind, GetCall}
 use Rattle.fed_trace.specs.Known.{facts_at}
 use Rattle.fed_trace.specs.OfCall.{Has, assertions, call_at, disturbs}
-use Rattle.fed_laws.specs.Cause.{AssertionCause, SaysWhy, Delivers, IsKept, IsTaken}
+use Rattle.fed_laws.specs.Cause.{AssertionCause, SaysWhy, Delivers, IsKept, IsTaken, DisconnectCause, SaysDisconnect, Naming}
 use Rattle.fed_script.specs.declared.event.Event.TheVariants.{Reply}
 use Rattle.fed_trace.specs.Effect.{Sent, Kept, Result}
 use Rattle.fed_trace.specs.Row.{IsRun}
@@ -99,3 +103,19 @@ abbrev pub GoesByDisconnect : Trace → Type 0
 GoesByDisconnect T =
     (after before : List Row) (row : Row) (triple : Triple)
     → T.rows ≡ after ++ row ∷ before → Has row.effects (Kept triple false) → IsTaken (at T before) row.event triple
+
+-- where a row asks for a disconnect, its event is the cause, and the request says so
+abbrev pub DisconnectHasCause : Trace → Type 0
+DisconnectHasCause T =
+    (after before : List Row) (row : Row) (kind : CallKind) (call provider : ℕ) (to : Parts) (client hint : List ℕ) (origin : Origin)
+    (cookies : List ℕ)
+    → T.rows ≡ after ++ row ∷ before → Has row.effects (Sent kind call provider (asks.Disconnect to client hint origin) cookies)
+    → (cause : DisconnectCause (at T before) row.event call)
+    × SaysDisconnect (at T before) row.event call cause to client hint origin
+
+-- a request that names its page carries no cookies, or asks for a token or a disconnect, with the cause of that
+abbrev pub NamedWithCookies : Trace → Type 0
+NamedWithCookies T =
+    (after before : List Row) (row : Row) (kind : CallKind) (call provider : ℕ) (ask : Ask) (cookies : List ℕ) (origin : Origin)
+    → T.rows ≡ after ++ row ∷ before → Has row.effects (Sent kind call provider ask cookies) → named_origin ask ≡ Some origin
+    → Naming (at T before) row.event call provider ask cookies

@@ -1,6 +1,6 @@
 //! Laws of every run of events, of every trace that a session stands for, and of the trace of every script.
 ghost use Rattle.fed_laws.specs.Laws.{OfRuns, OfSessions, OfScripts, AsksOnce, HasCause, ReachesItsPage, IsAnswered, IsAskedFor};
-ghost use Rattle.fed_laws.specs.Laws.{ComesByToken, GatheringAwaits, GoesByDisconnect};
+ghost use Rattle.fed_laws.specs.Laws.{ComesByToken, DisconnectHasCause, GatheringAwaits, GoesByDisconnect, NamedWithCookies};
 
 /// A call that gathers what its providers say waits for one of them: it never hangs with all of them settled.
 pub fn gathering_awaits()
@@ -61,4 +61,21 @@ pub fn permission_goes_by_disconnect()
     ensures runs { OfRuns GoesByDisconnect }
     ensures sessions { OfSessions GoesByDisconnect }
     ensures scripts { OfScripts GoesByDisconnect }
+{}
+
+/// Where a call asks for a disconnect, its page stands and was neither loaded nor closed since it began, a permission of the page and the
+/// provider was kept when it began, and by the event both files of the provider are good. The request goes to the endpoint that the
+/// configuration names, with the call's own page, client and hint.
+pub fn disconnect_has_cause()
+    ensures runs { OfRuns DisconnectHasCause }
+    ensures sessions { OfSessions DisconnectHasCause }
+    ensures scripts { OfScripts DisconnectHasCause }
+{}
+
+/// A request that names its page is the one for the client's links, which carries no cookies, or asks for a token or for a disconnect, and
+/// has the cause of `assertion_has_cause` or of `disconnect_has_cause`: the site is named with the user's cookies only there.
+pub fn named_with_cookies()
+    ensures runs { OfRuns NamedWithCookies }
+    ensures sessions { OfSessions NamedWithCookies }
+    ensures scripts { OfScripts NamedWithCookies }
 {}

@@ -3,8 +3,6 @@
 
 mod links;
 mod node;
-#[cfg(test)]
-mod tests;
 mod writes;
 
 pub use links::Links;

@@ -10,7 +10,7 @@ use crate::{Host, Origin, Scheme};
 use fed_io::NoRoom;
 use std::alloc::Global;
 use std::marker::Model;
-use url::{Position, Url};
+use url::{ParseError, Position, Url};
 
 /// A URL of the web as its text, with the parts that are asked for kept beside it, so that none is looked for again. Contracts
 /// see it as the parts that `url` reads in the text.
@@ -130,7 +130,8 @@ impl Layout {
     {
         match Url::parse(alloc, self.text.as_str()) {
             Ok(url) => Ok(url),
-            Err(_) => Err(NoRoom),
+            Err(ParseError::OutOfMemory) | Err(ParseError::Overflow) => Err(NoRoom),
+            Err(_) => unreachable!(),
         }
     }
 

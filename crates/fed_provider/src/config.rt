@@ -4,9 +4,9 @@ ghost use Rattle.std.specs.Result.{result_map_both};
 ghost use Rattle.std.specs.Option.{option_copied};
 ghost use Rattle.fed_io.specs.Fault.{Answers};
 ghost use Rattle.fed_provider.specs.Config as spec;
-ghost use Rattle.fed_reply.specs.Shape.{required, optional};
 
 use crate::ProviderStep;
+use crate::metadata::copy_url;
 use fed_io::{Fault, NoRoom, SharedValue};
 use fed_origin::{Endpoint, WebUrl};
 use fed_reply::{Asked, JsonBuffer, Member, ReplyMemory, read_texts};
@@ -37,6 +37,21 @@ impl Drop for Config {
             metadata: _,
             disconnect: _,
         } = self;
+    }
+}
+
+impl Config {
+    /// The same configuration.
+    pub fn copy(&self, alloc: Global) -> Result<Config, NoRoom>
+        ensures { IfOk result (λ copy. copy ≡ self.now) }
+    {
+        Ok(Config {
+            accounts: self.accounts.copy(alloc)?,
+            assertion: self.assertion.copy(alloc)?,
+            login: self.login.copy(alloc)?,
+            metadata: copy_url(alloc, &self.metadata)?,
+            disconnect: copy_url(alloc, &self.disconnect)?,
+        })
     }
 }
 
@@ -143,11 +158,11 @@ fn read_found<'a>(
         ≡ spec.texts_by (spec.found accounts.entry) (spec.found assertion.entry) (spec.found login.entry) (spec.found metadata.entry)
         (spec.found disconnect.entry) }
 {
-    let accounts = required_text(accounts)?;
-    let assertion = required_text(assertion)?;
-    let login = required_text(login)?;
-    let metadata = optional_text(metadata)?;
-    let disconnect = optional_text(disconnect)?;
+    let accounts = accounts.required(ProviderStep::ConfigShape)?;
+    let assertion = assertion.required(ProviderStep::ConfigShape)?;
+    let login = login.required(ProviderStep::ConfigShape)?;
+    let metadata = metadata.optional(ProviderStep::ConfigShape)?;
+    let disconnect = disconnect.optional(ProviderStep::ConfigShape)?;
     Ok(Texts {
         accounts,
         assertion,
@@ -155,29 +170,6 @@ fn read_found<'a>(
         metadata,
         disconnect,
     })
-}
-
-// A text that has to be there.
-fn required_text(found: Member<&str>) -> Result<&str, ProviderStep>
-    ensures { result_map_both (λ text. text.now) (λ e. e) result
-        ≡ required ProviderStep.ConfigShape (spec.found found.entry) }
-{
-    match found {
-        Member::Is(text) => Ok(text),
-        Member::Absent | Member::Wrong => Err(ProviderStep::ConfigShape),
-    }
-}
-
-// A text that may be left out.
-fn optional_text(found: Member<&str>) -> Result<Option<&str>, ProviderStep>
-    ensures { result_map_both option_copied (λ e. e) result
-        ≡ optional ProviderStep.ConfigShape (spec.found found.entry) }
-{
-    match found {
-        Member::Is(text) => Ok(Some(text)),
-        Member::Absent => Ok(None),
-        Member::Wrong => Err(ProviderStep::ConfigShape),
-    }
 }
 
 // The endpoints by their texts.

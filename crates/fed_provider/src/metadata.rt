@@ -39,7 +39,7 @@ impl PolicyLinks {
 }
 
 // The same URL, where there is one.
-fn copy_url(alloc: Global, url: &Option<WebUrl>) -> Result<Option<WebUrl>, NoRoom>
+pub(crate) fn copy_url(alloc: Global, url: &Option<WebUrl>) -> Result<Option<WebUrl>, NoRoom>
     ensures { IfOk result (λ copy. copy ≡ url.now) }
 {
     match url {

@@ -1,5 +1,6 @@
 //! The fields of a reply.
-ghost use Rattle.std.specs.Prelude.{◌≡◌, ◌<◌, ◌∷◌, [], true, false, nat_le, ◌-◌, All, length, map, IfSome, IfNone, OnOk, Err};
+ghost use Rattle.std.specs.Prelude.{◌≡◌, ◌<◌, ◌∷◌, [], true, false, not, ◌&&◌, bytes_eq, nat_le, ◌-◌, All, length, map};
+ghost use Rattle.std.specs.Prelude.{IfSome, IfNone, OnOk, Err};
 ghost use Rattle.std.specs.List.{list_all};
 ghost use Rattle.http_header.specs.HeaderMap.{append};
 ghost use Rattle.http_header.specs.Token.{lowercase};
@@ -87,6 +88,13 @@ pub fn first_named<'a, 's>(
         rest = after;
     }
     None
+}
+
+/// Whether a value of a field is the one that is asked for, and the field has no others. The CORS check rests on it.
+pub fn is_only_value(found: &[u8], has_others: bool, value: &[u8]) -> bool
+    ensures { result ≡ (bytes_eq found.now value.now && not has_others) }
+{
+    found == value && !has_others
 }
 
 /// Whether `http_header` takes each name: none has more than 65,535 bytes.

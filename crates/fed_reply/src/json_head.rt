@@ -10,7 +10,7 @@ ghost use Rattle.fed_reply.specs.Fields.{is_only, values_in};
 ghost use Rattle.fed_reply.specs.Json as spec;
 
 use crate::ReplyStep;
-use crate::fields::{are_short, first_named};
+use crate::fields::{are_short, first_named, is_only_value};
 use crate::framing::{Framing, body_framing};
 use crate::json_value::is_json_type;
 use fed_head::{HeadSpans, read_head_spans};
@@ -106,7 +106,10 @@ fn has_only(raw: &[u8], spans: &[HeaderSpan], name: &[u8], value: &[u8]) -> bool
     ensures { result ≡ is_only value.now (values_in (lowercase name.now) (map (header_bytes raw.now) spans.now)) }
 {
     match first_named(raw, spans, name) {
-        Some((found, rest)) => found == value && first_named(raw, rest, name).is_none(),
+        Some((found, rest)) => {
+            let second = first_named(raw, rest, name);
+            is_only_value(found, second.is_some(), value)
+        }
         None => false,
     }
 }

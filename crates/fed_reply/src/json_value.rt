@@ -1,9 +1,10 @@
 //! The JSON value of a reply.
-ghost use Rattle.std.specs.Prelude.{◌≡◌};
+ghost use Rattle.std.specs.Prelude.{◌≡◌, ok_or};
 ghost use Rattle.std.specs.List.{list_all};
 ghost use Rattle.std.specs.Option.{option_copied};
 ghost use Rattle.httparse.specs.Grammar as grammar;
-ghost use Rattle.fed_json.specs.Part.{data_at};
+ghost use Rattle.serde_json.specs.View.{view};
+ghost use Rattle.fed_json.specs.Value.{value_of};
 ghost use Rattle.fed_io.specs.Fault.{AnswersBy};
 ghost use Rattle.fed_reply.specs.Json as spec;
 
@@ -12,15 +13,16 @@ use crate::json_head::read_json_head;
 use crate::read::find_body;
 use crate::{Reply, ReplyStep};
 use fed_io::{Bytes, Fault, NoRoom, place_of, trim};
-use fed_json::{Values, tape_of};
-use json::{Scratch, Tape};
+use fed_json::Values;
+use json::Scratch;
+use serde_json::Value;
 use std::alloc::Global;
 
 // The byte order mark of UTF-8.
 const MARK: [u8; 3] = [0xEF, 0xBB, 0xBF];
 
 /// What a value is read from: the body of its reply where that does not stand in the bytes, and memory for the reading. Both are lent
-/// to the values, or to a tape.
+/// to the values.
 pub struct JsonBuffer {
     body: Option<Bytes>,
     scratch: Scratch,
@@ -114,38 +116,31 @@ fn refusal(status: u16, is_json: bool) -> Option<ReplyStep>
     if is_json { None } else { Some(ReplyStep::Mime) }
 }
 
-/// The tape of the JSON value of a reply that was read, for looks into it in any order, as `text_member` and its like take them. The steps
-/// are `Status`, `Mime` and `Json`, in this order.
+/// The JSON value of a reply of the class 2xx whose first content type is JSON (WHATWG MIME Sniffing, 4.6); one byte order mark before it
+/// is dropped. The steps are `Status`, `Mime` and `Json`, in this order.
 #[tactic(auto, unfolding(crate::specs::Json::JsonOf))]
-pub fn json_of<'a>(
-    alloc: Global,
-    reply: Reply,
-    buffer: &'a mut JsonBuffer,
-) -> Result<Tape<'a>, Fault<ReplyStep>>
-    ensures { AnswersBy data_at result (spec.JsonOf reply) }
+pub fn json_of(alloc: Global, reply: &Reply) -> Result<Value, Fault<ReplyStep>>
+    ensures { AnswersBy view result (spec.JsonOf reply.now) }
 {
     match refusal(reply.status(), is_json_type(reply.field("content-type", 0))) {
         Some(step) => Err(Fault::Step(step)),
-        None => {
-            let JsonBuffer { body, scratch } = buffer;
-            let body = body.insert(reply.into_body());
-            body_tape(alloc, body.as_slice(), scratch)
-        }
+        None => read_value(alloc, after_mark(reply.body())),
     }
 }
 
-// The tape of the JSON value that a body is.
-fn body_tape<'a>(
-    alloc: Global,
-    body: &'a [u8],
-    scratch: &'a mut Scratch,
-) -> Result<Tape<'a>, Fault<ReplyStep>>
-    ensures { AnswersBy data_at result (spec.body_value body.now) }
+// The value of a JSON text.
+fn read_value(alloc: Global, bytes: &[u8]) -> Result<Value, Fault<ReplyStep>>
+    ensures { AnswersBy view result (ok_or (value_of bytes.now) ReplyStep.Json) }
 {
-    match tape_of(alloc, scratch, after_mark(body)) {
-        Ok(Some(tape)) => Ok(tape),
-        Ok(None) => Err(Fault::Step(ReplyStep::Json)),
-        Err(NoRoom) => Err(Fault::NoRoom),
+    match Value::from_slice(alloc, bytes) {
+        Ok(value) => Ok(value),
+        Err(error) => {
+            if error.is_memory() {
+                Err(Fault::NoRoom)
+            } else {
+                Err(Fault::Step(ReplyStep::Json))
+            }
+        }
     }
 }
 

@@ -15,7 +15,7 @@ mod step;
 mod texts;
 
 pub use json_value::{JsonBuffer, essence, json_of, open_json, open_json_with};
-pub use member::{Member, list_member, object_member, text_member, value_member};
+pub use member::{Member, list_member, object_member, text_member};
 pub use memory::ReplyMemory;
 pub use read::{read_head, read_reply};
 pub use reply::Reply;

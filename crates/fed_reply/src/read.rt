@@ -130,10 +130,10 @@ fn read_body(
 ) -> Result<Bytes, Fault<ReplyStep>>
     ensures { Answers result (and_then (framed rest.now) framing) }
 {
-    match part_of(framing, rest) {
-        Ok(Some(body)) => Ok(Bytes::of(alloc, body)?),
-        Ok(None) => read_chunks(alloc, rest),
-        Err(step) => Err(Fault::Step(step)),
+    let mut joined = None;
+    match find_body(alloc, framing, rest, &mut joined) {
+        Ok(body) => Ok(Bytes::of(alloc, body)?),
+        Err(fault) => Err(fault),
     }
 }
 

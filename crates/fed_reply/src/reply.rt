@@ -3,8 +3,9 @@ ghost use Rattle.std.specs.Prelude.{◌≡◌, option_map, slice_get};
 ghost use Rattle.std.specs.Option.{option_copied};
 ghost use Rattle.http_header.specs.HeaderMap.{get_all};
 ghost use Rattle.http_header.specs.Token.{lowercase};
-ghost use Rattle.fed_reply.specs.Fields.{value_at};
+ghost use Rattle.fed_reply.specs.Fields.{is_only, value_at, values};
 
+use crate::fields::is_only_value;
 use fed_io::Bytes;
 use http::StatusCode;
 use http_header::{HeaderMap, HeaderValue, ValueIter};
@@ -67,6 +68,16 @@ impl Reply {
         }
     }
 
+    /// Whether exactly one field has that name, in any case, and it has that value. It takes no memory.
+    pub fn has_only(&self, name: &str, value: &[u8]) -> bool
+        ensures { result ≡ is_only value.now (values (lowercase name.now) self.now.fields) }
+    {
+        match self.field(name, 0) {
+            Some(found) => is_only_value(found, self.field(name, 1).is_some(), value),
+            None => false,
+        }
+    }
+
     /// The values of the fields of that name, in the reply's order and without white space at their ends. The name is
     /// compared in any case. It takes no memory.
     pub fn values(&self, name: &str) -> ValueIter<'_, HeaderValue>
@@ -80,17 +91,6 @@ impl Reply {
         ensures { result.now ≡ self.now.body }
     {
         self.body.as_slice()
-    }
-
-    pub(crate) fn into_body(self) -> Bytes
-        ensures { result ≡ self.body }
-    {
-        let Reply {
-            status: _,
-            fields: _fields,
-            body,
-        } = self;
-        body
     }
 }
 

@@ -16,6 +16,7 @@ pub mod Entries
 pub mod Used
 pub mod Line
 pub mod Plain
+pub mod PlainGet
 pub mod Script
 pub mod Pieces
 pub mod Reader

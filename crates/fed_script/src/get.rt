@@ -152,8 +152,9 @@ pub(crate) fn get_by(
     ensures { Answers result (spec.get_by (spec.get_seen members.now)) }
 {
     let first = provider_by(alloc, kept, &members.provider)?;
-    let first = Vec::from_array(alloc, [first])?;
-    let providers = with_further(alloc, kept, first, members.further)?;
+    let mut providers = Vec::with_capacity(alloc, members.further.len() + 1)?;
+    providers.push_reserved(first);
+    let providers = with_further(alloc, kept, providers, members.further)?;
     Ok(Event::Get {
         page: members.page,
         call: members.call,

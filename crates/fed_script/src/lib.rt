@@ -19,6 +19,7 @@ mod names;
 mod options;
 mod pair;
 mod plain;
+mod plain_get;
 mod providers;
 mod raw;
 mod reader;

@@ -17,6 +17,7 @@ use crate::have::have_named;
 use crate::load::{load, load_by};
 use crate::member::member;
 use crate::plain::{PlainLine, load_line, plain_line, reply_line};
+use crate::plain_get::get_line;
 use crate::reply::reply;
 use crate::said::Said;
 use crate::saying::{SaidLine, read_said};
@@ -113,6 +114,7 @@ pub(crate) fn event_named(
     match line.get(7) {
         Some(b'r') => reply_named(alloc, memory, line),
         Some(b'l') => load_named(alloc, memory, line),
+        Some(b'g') => get_named(alloc, memory, line),
         _ => other_named(alloc, memory, line),
     }
 }
@@ -125,13 +127,13 @@ fn reply_named(
 ) -> Result<Event, Fault<LineCause>>
     ensures { Answers result (spec.event_named line.now) }
 {
-    let Some((call, kind, escaped)) = reply_line(line) else {
+    let Some((call, provider, kind, escaped)) = reply_line(line) else {
         return members_named(alloc, memory, line);
     };
     match memory.texts.read(alloc, kind, escaped) {
         Ok(Some(raw)) => Ok(Event::Reply {
             call,
-            provider: 0,
+            provider,
             kind,
             raw,
         }),
@@ -161,6 +163,17 @@ fn load_named(
     }
 }
 
+// The same of a line that is perhaps a get as JSON writers give it.
+fn get_named(alloc: Global, memory: &mut LineMemory, line: &[u8]) -> Result<Event, Fault<LineCause>>
+    ensures { Answers result (spec.event_named line.now) }
+{
+    match get_line(alloc, line) {
+        Ok(Some(get)) => get_by(alloc, &mut memory.config, &get.members()),
+        Ok(None) => members_named(alloc, memory, line),
+        Err(NoRoom) => Err(Fault::NoRoom),
+    }
+}
+
 // The same of a line of another kind.
 fn other_named(
     alloc: Global,
@@ -170,7 +183,6 @@ fn other_named(
     ensures { Answers result (spec.event_named line.now) }
 {
     match plain_line(line) {
-        Some(PlainLine::Get(members)) => get_by(alloc, &mut memory.config, &members),
         Some(PlainLine::Disconnect(members)) => {
             disconnect_by(alloc, &mut memory.config, &members)
         }

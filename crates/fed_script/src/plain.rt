@@ -5,7 +5,6 @@ ghost use Rattle.std.specs.Prelude.{◌≡◌, ◌<◌, ◌+◌, ◌++◌, ℕ, 
 ghost use Rattle.std.specs.List.{list_all};
 ghost use Rattle.fed_script.specs.declared.event.Event.TheVariants as events;
 ghost use Rattle.json.specs.Print.{escape};
-ghost use Rattle.fed_script.specs.Get.{get_seen};
 ghost use Rattle.fed_script.specs.Line.{event_named};
 ghost use Rattle.fed_script.specs.Load.{load_by};
 ghost use Rattle.fed_script.specs.Plain as spec;
@@ -13,24 +12,21 @@ ghost use Rattle.fed_script.specs.Plain.{is_plain_byte};
 
 use crate::disconnect::DisconnectMembers;
 use crate::escaped::is_plain;
-use crate::get::{GetMembers, ProviderMembers};
-use crate::options::OptionMembers;
 use crate::texts::last_text;
-use fed_origin::{Context, Mediation, Mode, ReplyKind};
+use fed_origin::ReplyKind;
 use memchr::memchr;
 use std::str;
 
-/// What such a line says, but for loads and replies.
+/// What such a line says, but for loads, replies and gets.
 #[derive(Clone, Copy, Drop)]
 pub(crate) enum PlainLine<'a> {
-    Get(GetMembers<'a>),
     Disconnect(DisconnectMembers<'a>),
     ClosePage(u32),
     GoOn(u32),
 }
 
-// What is left after a word.
-fn after<'a>(rest: &'a [u8], word: &[u8]) -> Option<&'a [u8]>
+/// What is left after a word.
+pub(crate) fn after<'a>(rest: &'a [u8], word: &[u8]) -> Option<&'a [u8]>
     ensures { IfSome result (λ left. rest.now ≡ word.now ++ left.now) }
 {
     if rest.len() < word.len() {
@@ -75,8 +71,8 @@ fn longer(front: u32, rest: &[u8]) -> Option<(u32, &[u8])>
     Some((number, &rest[at..]))
 }
 
-// A number as it is written, and what is left after it.
-fn number(rest: &[u8]) -> Option<(u32, &[u8])>
+/// A number as it is written, and what is left after it.
+pub(crate) fn number(rest: &[u8]) -> Option<(u32, &[u8])>
     ensures { IfSome result (λ found. rest.now ≡ decimal found.0 ++ found.1.now) }
 {
     let (first, left) = rest.split_first()?;
@@ -107,8 +103,8 @@ fn are_plain(text: &[u8]) -> bool
     plain
 }
 
-// The text up to the quote that ends it, and what is left from the quote on.
-fn text(rest: &[u8]) -> Option<(&str, &[u8])>
+/// The text up to the quote that ends it, and what is left from the quote on.
+pub(crate) fn text(rest: &[u8]) -> Option<(&str, &[u8])>
     ensures { IfSome result (λ found. (rest.now ≡ found.0.now ++ found.1.now)
         × ((list_all is_plain_byte found.0.now ≡ true) × IsUtf8 found.0.now)) }
 {
@@ -148,28 +144,40 @@ pub(crate) fn load_line(line: &[u8]) -> Option<(u32, &str, Option<&[u8]>)>
     Some((page, url, Some(escaped)))
 }
 
-// The call and the kind of a reply, and what is left from its text on.
-fn reply_front(line: &[u8]) -> Option<(u32, &str, &[u8])>
-    ensures text { IfSome result (λ found. line.now ≡ spec.reply_text found.0 found.1.now found.2.now) }
-    ensures plain { IfSome result (λ found. (list_all is_plain_byte found.1.now ≡ true) × IsUtf8 found.1.now) }
+// The provider's place, if a line names it next, and what is left after it.
+fn place(rest: &[u8]) -> Option<(Option<u32>, &[u8])>
+    ensures { IfSome result (λ found. rest.now ≡ spec.place_text found.0 found.1.now) }
+{
+    let Some(named) = after(rest, b",\"provider\":") else {
+        return Some((None, rest));
+    };
+    let (place, left) = number(named)?;
+    Some((Some(place), left))
+}
+
+// The call, the provider's place and the kind of a reply, and what is left from its text on.
+fn reply_front(line: &[u8]) -> Option<(u32, Option<u32>, &str, &[u8])>
+    ensures text { IfSome result (λ found. line.now ≡ spec.reply_text found.0 found.1 found.2.now found.3.now) }
+    ensures plain { IfSome result (λ found. (list_all is_plain_byte found.2.now ≡ true) × IsUtf8 found.2.now) }
 {
     let rest = after(line, b"{\"do\":\"reply\",\"call\":")?;
     let (call, rest) = number(rest)?;
+    let (place, rest) = place(rest)?;
     let rest = after(rest, b",\"to\":\"")?;
     let (word, rest) = text(rest)?;
     let rest = after(rest, b"\",\"text\":\"")?;
-    Some((call, word, rest))
+    Some((call, place, word, rest))
 }
 
-/// The call and the kind of a reply, and its text with its escapes.
-pub(crate) fn reply_line(line: &[u8]) -> Option<(u32, ReplyKind, &[u8])>
-    ensures { IfSome result (λ found. (raw : List ℕ) → found.2.now ≡ escape raw → IsUtf8 raw
-        → event_named line.now ≡ Ok (events.Reply found.0 0 found.1 raw)) }
+/// The call, the provider's place and the kind of a reply, and its text with its escapes.
+pub(crate) fn reply_line(line: &[u8]) -> Option<(u32, u32, ReplyKind, &[u8])>
+    ensures { IfSome result (λ found. (raw : List ℕ) → found.3.now ≡ escape raw → IsUtf8 raw
+        → event_named line.now ≡ Ok (events.Reply found.0 found.1 found.2 raw)) }
 {
-    let (call, word, rest) = reply_front(line)?;
+    let (call, place, word, rest) = reply_front(line)?;
     let kind = ReplyKind::of_word(word)?;
     let escaped = last_text(rest)?;
-    Some((call, kind, escaped))
+    Some((call, place.unwrap_or(0), kind, escaped))
 }
 
 fn close_page_line(line: &[u8]) -> Option<u32>
@@ -188,87 +196,6 @@ fn go_on_line(line: &[u8]) -> Option<u32>
     let (call, rest) = number(rest)?;
     end(rest, b"}")?;
     Some(call)
-}
-
-// Whether a get is active and the user acted at the page, by what follows its providers.
-fn get_end(rest: &[u8]) -> Option<bool>
-    ensures { IfSome result (λ active. rest.now ≡ spec.get_end active) }
-{
-    if rest == b"\"}]}".as_slice() {
-        return Some(false);
-    }
-    if rest == b"\"}],\"mode\":\"active\",\"activation\":true}".as_slice() {
-        return Some(true);
-    }
-    None
-}
-
-// The configuration URL and the client of the only provider, where it names nothing else, and whether the get is active.
-fn provider(rest: &[u8]) -> Option<(&str, &str, bool)>
-    ensures text { IfSome result (λ found. rest.now ≡ spec.providers_text found.0.now found.1.now found.2) }
-    ensures plain { IfSome result (λ found.
-        (list_all is_plain_byte found.0.now ≡ true) × (list_all is_plain_byte found.1.now ≡ true)) }
-    ensures utf8 { IfSome result (λ found. IsUtf8 found.0.now × IsUtf8 found.1.now) }
-{
-    let rest = after(rest, b",\"providers\":[{\"config\":\"")?;
-    let (config, rest) = text(rest)?;
-    let rest = after(rest, b"\",\"client\":\"")?;
-    let (client, rest) = text(rest)?;
-    let active = get_end(rest)?;
-    Some((config, client, active))
-}
-
-// The page, the call, and the rest of a get.
-fn get_line(line: &[u8]) -> Option<(u32, u32, (&str, &str, bool))>
-    ensures text { IfSome result (λ found. line.now ≡ spec.get_text found.0 found.1 found.2.0.now found.2.1.now found.2.2) }
-    ensures plain { IfSome result (λ found.
-        (list_all is_plain_byte found.2.0.now ≡ true) × (list_all is_plain_byte found.2.1.now ≡ true)) }
-    ensures utf8 { IfSome result (λ found. IsUtf8 found.2.0.now × IsUtf8 found.2.1.now) }
-{
-    let rest = after(line, b"{\"do\":\"get\",\"page\":")?;
-    let (page, rest) = number(rest)?;
-    let rest = after(rest, b",\"call\":")?;
-    let (call, rest) = number(rest)?;
-    let found = provider(rest)?;
-    Some((page, call, found))
-}
-
-// The mode of a get that is active or not.
-fn mode(active: bool) -> Mode
-    ensures { result ≡ cond active Mode.Active Mode.Passive }
-{
-    if active { Mode::Active } else { Mode::Passive }
-}
-
-// The members of a get whose provider names nothing else.
-fn members<'a>(
-    page: u32,
-    call: u32,
-    config: &'a str,
-    client: &'a str,
-    active: bool,
-) -> GetMembers<'a>
-    ensures { get_seen result ≡ spec.plain_members page call config.now client.now active }
-{
-    GetMembers {
-        page,
-        call,
-        options: OptionMembers {
-            mediation: Mediation::Optional,
-            mode: mode(active),
-            activation: active,
-            context: Context::SignIn,
-        },
-        provider: ProviderMembers {
-            config,
-            client,
-            nonce: None,
-            login_hint: None,
-            domain_hint: None,
-            params: None,
-        },
-        further: &[],
-    }
 }
 
 // The texts of a disconnect call.
@@ -305,15 +232,11 @@ fn disconnect_line(line: &[u8]) -> Option<(u32, u32, (&str, &str, &str))>
 }
 
 /// What a line of another kind says that JSON writers give so; None where it is another line.
-#[tactic(auto, using(crate::proofs::plainly::Events::get_event, crate::proofs::plainly::Events::disconnect_event, crate::proofs::plainly::Events::closepage_event, crate::proofs::plainly::Events::go_on_event))]
+#[tactic(auto, using(crate::proofs::plainly::Events::disconnect_event, crate::proofs::plainly::Events::closepage_event, crate::proofs::plainly::Events::go_on_event))]
 pub(crate) fn plain_line(line: &[u8]) -> Option<PlainLine<'_>>
     ensures { IfSome result (λ said. event_named line.now ≡ spec.event_by said) }
 {
     match line.get(7) {
-        Some(b'g') => {
-            let (page, call, (config, client, active)) = get_line(line)?;
-            Some(PlainLine::Get(members(page, call, config, client, active)))
-        }
         Some(b'd') => {
             let (page, call, (config, client, hint)) = disconnect_line(line)?;
             Some(PlainLine::Disconnect(DisconnectMembers {

@@ -18,6 +18,3 @@ mod view;
 pub use fed_trace::Out;
 pub use session::Session;
 pub use view::View;
-
-#[cfg(test)]
-mod tests;

@@ -170,8 +170,7 @@ impl Form {
             return Err(NoRoom);
         };
         let Form::One(ends, first) = mem::replace(self, Form::Leaf(Ends::none())) else {
-            // There is one.
-            return Err(NoRoom);
+            unreachable!()
         };
         let second = Child { label, node };
         *self = Form::Many(ends, filled(room, Box::into_inner(first), second));

@@ -6,7 +6,5 @@ mod keys;
 mod owners;
 mod place;
 mod table;
-#[cfg(test)]
-mod tests;
 
 pub use table::Table;

@@ -1,7 +1,5 @@
 //! The CORS check.
 ghost use Rattle.std.specs.Prelude.{◌≡◌};
-ghost use Rattle.http_header.specs.Token.{lowercase};
-ghost use Rattle.fed_reply.specs.Fields.{is_only, values};
 ghost use Rattle.fed_token.specs.Cors as spec;
 
 use fed_reply::Reply;
@@ -20,15 +18,5 @@ pub(crate) const ALLOW_CREDENTIALS: &str = "access-control-allow-credentials";
 pub fn cors_passes(reply: &Reply, origin: &[u8]) -> bool
     ensures { result ≡ spec.CorsPasses origin.now reply.now }
 {
-    has_only(reply, ALLOW_ORIGIN, origin) && has_only(reply, ALLOW_CREDENTIALS, b"true")
-}
-
-// Whether there is exactly one field of that name, and it has the value.
-fn has_only(reply: &Reply, name: &str, value: &[u8]) -> bool
-    ensures { result ≡ is_only value.now (values (lowercase name.now) reply.now.fields) }
-{
-    match reply.field(name, 0) {
-        Some(first) => first == value && reply.field(name, 1).is_none(),
-        None => false,
-    }
+    reply.has_only(ALLOW_ORIGIN, origin) && reply.has_only(ALLOW_CREDENTIALS, b"true")
 }

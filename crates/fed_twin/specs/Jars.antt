@@ -2,6 +2,8 @@
 use Rattle.std.specs.Prelude.{◌≡◌, ℕ, List, [], map, Option, Some, None}
 use Rattle.std.specs.List.{filter_map, AllZip}
 use Rattle.url.specs.Parts.{Parts}
+use Rattle.fed_consent.specs.declared.table.ask.Ask.{Ask}
+use Rattle.fed_consent.specs.declared.table.ask.Ask.TheVariants as asks
 use Rattle.fed_script.specs.declared.event.Event.{Event}
 use Rattle.fed_script.specs.declared.event.Event.TheVariants as events
 use Rattle.fed_script.specs.declared.event.Have.TheVariants as haves
@@ -29,10 +31,19 @@ pub record JarTwin (a b : Script) : Type 0 where
   pub header : a.header ≡ b.header
   pub events : AllZip OnOneLine a.events b.events
 
+-- the cookies of a request that carries none by its kind; of others nothing is said
+abbrev pub fixed_cookies : Ask → List ℕ → List ℕ
+fixed_cookies (asks.WellKnown to) cookies = cookies
+fixed_cookies (asks.Config to) cookies = cookies
+fixed_cookies (asks.Accounts to) cookies = []
+fixed_cookies (asks.Metadata to client origin) cookies = cookies
+fixed_cookies (asks.Assertion ask) cookies = []
+fixed_cookies (asks.Disconnect to client hint origin) cookies = []
+
 -- an effect without the cookies that it writes or sends
 abbrev pub but_cookies : Effect → Option Effect
 but_cookies (Cookie cookie) = None
-but_cookies (Sent kind call provider ask cookies) = Some (Sent kind call provider ask [])
+but_cookies (Sent kind call provider ask cookies) = Some (Sent kind call provider ask (fixed_cookies ask cookies))
 but_cookies effect = Some effect
 
 -- a row's line and effects without cookies

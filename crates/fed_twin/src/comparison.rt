@@ -113,7 +113,7 @@ fn take_event<L: Ledger>(
 }
 
 // The run of a script by a session in which nothing happened.
-pub(crate) fn take_events<L: Ledger>(
+fn take_events<L: Ledger>(
     session: &mut Session,
     script: &Script,
     most: u64,

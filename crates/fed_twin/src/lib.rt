@@ -10,8 +10,6 @@ mod load;
 mod members;
 mod names;
 mod parties;
-#[cfg(test)]
-mod view_tests;
 
 pub use comparison::compare;
 pub use fault::{TwinClause, TwinFault, twin_fault};

@@ -1,9 +1,8 @@
 //! The program over the process's words, its standard input and its standard output.
 ghost use Rattle.std.specs.Prelude.{◌≡◌, ◌<◌};
 
-use crate::status::Status;
-use crate::top::fedcm;
 use fed_io::{NoRoom, StdSink, StdSource, Steps, Text};
+use fed_run::{Status, fedcm};
 use std::alloc::Global;
 use std::env::{self, Args};
 use std::io;

@@ -168,9 +168,9 @@ fn configurations(rt: HostRuntime) -> Result<(), Fail> {
     Ok(())
 }
 
-// The login URL of a shared configuration's copy.
-fn copied_login(alloc: Global, read: Config) -> Result<Text, NoRoom> {
-    let shared = SharedConfig::new(alloc, read)?;
+// The login URL of a copy of a shared configuration's copy.
+fn copied_login(alloc: Global, read: &Config) -> Result<Text, NoRoom> {
+    let shared = SharedConfig::new(alloc, read.copy(alloc)?)?;
     let copy = shared.copy()?;
     Text::of(alloc, copy.get().login.as_str())
 }
@@ -178,7 +178,7 @@ fn copied_login(alloc: Global, read: Config) -> Result<Text, NoRoom> {
 // The login URL of the configuration in a reply, or nothing.
 fn login_in(alloc: Global, raw: &[u8], config: &WebUrl) -> Result<Text, NoRoom> {
     match read_config(alloc, raw, config) {
-        Ok(read) => copied_login(alloc, read),
+        Ok(read) => copied_login(alloc, &read),
         Err(_) => Text::of(alloc, ""),
     }
 }

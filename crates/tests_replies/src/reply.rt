@@ -1,6 +1,5 @@
 //! Replies as they come, and the step at which they are refused.
 use fed_io::{Fault, NoRoom};
-use fed_json::Part;
 use fed_reply::ReplyStep::{Chunk, Coding, Head, Json, Length, Mime, Short, Status};
 use fed_reply::{
     Asked, JsonBuffer, Member, Reply, ReplyStep, json_of, list_member, object_member, read_head,
@@ -21,15 +20,14 @@ fn settled<T: Drop>(answer: Result<T, Fault<ReplyStep>>) -> Result<Result<T, Rep
 // The first step at which a reply is refused, if there is one.
 fn first_step(alloc: Global, raw: &[u8]) -> Result<Option<ReplyStep>, NoRoom> {
     match settled(read_reply(alloc, raw))? {
-        Ok(reply) => value_step(alloc, reply),
+        Ok(reply) => value_step(alloc, &reply),
         Err(step) => Ok(Some(step)),
     }
 }
 
 // The step at which the value of a reply is refused, if it is.
-fn value_step(alloc: Global, reply: Reply) -> Result<Option<ReplyStep>, NoRoom> {
-    let mut buffer = JsonBuffer::new(alloc);
-    match settled(json_of(alloc, reply, &mut buffer))? {
+fn value_step(alloc: Global, reply: &Reply) -> Result<Option<ReplyStep>, NoRoom> {
+    match settled(json_of(alloc, reply))? {
         Ok(_) => Ok(None),
         Err(step) => Ok(Some(step)),
     }
@@ -159,7 +157,7 @@ fn many_small_chunks(rt: HostRuntime) -> Result<(), Fail> {
     match settled(read_reply(rt.alloc(), raw.as_bytes()))? {
         Ok(reply) => {
             assert_eq!(rt; reply.body().len(), 500002);
-            assert_eq!(rt; value_step(rt.alloc(), reply)?, None);
+            assert_eq!(rt; value_step(rt.alloc(), &reply)?, None);
         }
         Err(step) => panic!(rt; "refused at {step:?}"),
     }
@@ -192,21 +190,16 @@ fn members(rt: HostRuntime) -> Result<(), Fail> {
     let Ok(reply) = settled(read_reply(rt.alloc(), raw.as_slice()))? else {
         panic!(rt; "no reply");
     };
-    let mut buffer = JsonBuffer::new(rt.alloc());
-    let Ok(tape) = settled(json_of(rt.alloc(), reply, &mut buffer))? else {
+    let Ok(value) = settled(json_of(rt.alloc(), &reply))? else {
         panic!(rt; "no value");
     };
-    let value = Part::of(&tape);
     assert!(rt; matches!(text_member(&value, "a"), Member::Is("t")));
     assert!(rt; matches!(text_member(&value, "b"), Member::Wrong));
     assert!(rt; matches!(text_member(&value, "d"), Member::Absent));
     assert!(rt; matches!(text_member(&value, "e"), Member::Absent));
     match list_member(&value, "b") {
-        Member::Is(mut list) => match list.next() {
-            Some(item) => {
-                assert!(rt; matches!(text_member(&item, "a"), Member::Wrong));
-                assert!(rt; list.next().is_none());
-            }
+        Member::Is(list) => match list.first() {
+            Some(item) => assert!(rt; matches!(text_member(item, "a"), Member::Wrong)),
             None => panic!(rt; "no item"),
         },
         _ => panic!(rt; "no list"),

@@ -1,5 +1,6 @@
 //! What a caller concludes from the contracts of the lower crates alone.
 ghost use Rattle.std.specs.Prelude.{◌≡◌, ◌++◌, ◌+◌, ◌≤◌, length, true, IfOk, OnOk};
+ghost use Rattle.fed_check.specs.Check.{findings};
 ghost use Rattle.fed_io.specs.Fault.{Answers};
 ghost use Rattle.fed_print.specs.Lines.{record_line};
 ghost use Rattle.fed_reply.specs.Steps.{with_ok};
@@ -8,6 +9,7 @@ ghost use Rattle.fed_script.specs.Reader.{all_lines};
 ghost use Rattle.fed_script.specs.Used.{HasProviders, HasKnownStatus};
 ghost use Rattle.tests_scripts.specs.Named.{client_in, login_in};
 
+use fed_check::{Checker, Finding};
 use fed_io::{Fault, Items, NoRoom, Text};
 use fed_origin::LoginStatus;
 use fed_print::print;
@@ -92,6 +94,22 @@ pub fn read_both(
     let head = reader.feed(first)?;
     let further = reader.feed(second)?;
     let last = reader.finish()?;
+    Ok((head, further, last))
+}
+
+/// Wherever a script is cut in two, what is found in its pieces and at the end is what is found in the whole.
+pub fn check_both(
+    alloc: Global,
+    first: &[u8],
+    second: &[u8],
+) -> Result<(Items<Finding>, Items<Finding>, Items<Finding>), NoRoom>
+    requires { length first.now + length second.now ≤ 67108865 }
+    ensures { IfOk result (λ found. findings (first.now ++ second.now) ≡ found.0 ++ found.1 ++ found.2) }
+{
+    let mut checker = Checker::new(alloc);
+    let head = checker.feed(first)?;
+    let further = checker.feed(second)?;
+    let last = checker.last()?;
     Ok((head, further, last))
 }
 

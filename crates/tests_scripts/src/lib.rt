@@ -3,6 +3,8 @@
 
 pub mod callers;
 #[cfg(test)]
+mod check;
+#[cfg(test)]
 mod print;
 #[cfg(test)]
 mod script;

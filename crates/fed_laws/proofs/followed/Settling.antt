@@ -37,7 +37,7 @@ use Rattle.fed_laws.proofs.causes.Cause.{unheard}
 use Rattle.fed_laws.proofs.causes.Come.{AllCome, HasCome, drops_are, drops_none, event_is, files_only, outcome_logs, unsaid_accounts}
 use Rattle.fed_laws.proofs.causes.Come.{unsaid_left, unsettled_in}
 use Rattle.fed_laws.proofs.causes.First.{Unheard}
-use Rattle.fed_laws.proofs.permissions.Sending.{sending}
+use Rattle.fed_laws.proofs.disconnects.Sending.{sending}
 use Rattle.fed_laws.proofs.turns.Way.{Elsewhere, First, Hearing, Hears, ByWellKnown, ByConfig, HearsOne, Picks, Readies, SettlesNone}
 use Rattle.fed_laws.proofs.turns.Way.{SettlesOne, Settling, Unmoved, Way}
 use Rattle.fed_laws.proofs.turns.Way.{is_first, way_at}

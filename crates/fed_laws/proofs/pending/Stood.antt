@@ -101,8 +101,8 @@ pub calm : (T : Trace) (line : ℕ) (event : Event) (call page : ℕ) → replac
 calm T line event call page kept gives =
     ap (λ b. b || list_any (is_result call) (effects_of T event)) kept ∙ gives_none call (effects_of T event) gives
 
-undisturbed_on : (rows : List Row) (row : Row) (call : ℕ) (b : Begun) → disturbs call b.page row ≡ false → Undisturbed rows call b
-    → Undisturbed (row ∷ rows) call b
+unfoldable pub undisturbed_on : (rows : List Row) (row : Row) (call : ℕ) (b : Begun) → disturbs call b.page row ≡ false
+    → Undisturbed rows call b → Undisturbed (row ∷ rows) call b
 undisturbed_on rows row call b is u =
     record {
       since = row ∷ u.since;

@@ -57,12 +57,13 @@ use Rattle.fed_laws.specs.Laws.{ComesByToken, GoesByDisconnect, OfRuns, at}
 use Rattle.fed_laws.proofs.pending.Asked.{invariant}
 use Rattle.fed_laws.proofs.pending.Begun.{or_true}
 use Rattle.fed_laws.proofs.pending.Stood.{AskedFor, Invariant, Stood}
-use Rattle.fed_laws.proofs.permissions.Changes.{all_both, begin_leaves, close_leaves, has_all, outcome_leaves, unchanged}
-use Rattle.fed_laws.proofs.permissions.Disconnects.{Answers, Ends, Rests, Sends, Way, way_of}
-use Rattle.fed_laws.proofs.permissions.Sending.{Sending, sending}
+use Rattle.fed_laws.proofs.permissions.Changes.{all_both, close_leaves, has_all, outcome_leaves, unchanged}
+use Rattle.fed_laws.proofs.disconnects.Turns.{Answers, Ends, Rests, Sends, Way, way_of}
+use Rattle.fed_laws.proofs.disconnects.Sending.{Sending, sending}
 use Rattle.fed_laws.proofs.tokens.Answered.{gives_result}
 use Rattle.fed_laws.proofs.tokens.Token.{row_of_trace, says_one}
 use Rattle.fed_laws.proofs.causes.Picked.{Provided, provided}
+use Rattle.fed_laws.proofs.turns.First.{IsBefore, begin_silent}
 use Rattle.fed_laws.proofs.turns.Turn.{Asks, Gives, Goes, IfToken, InReply, LeavesKept, Turn, changes_kept}
 use Rattle.fed_laws.proofs.turns.Turn.{turn_at}
 
@@ -286,10 +287,10 @@ by_disconnect T event call f triple stays m s has = go (way_of (world_at T) f m.
         (outcome_leaves (world_at T) (cookies_with T) DisconnectCall call f.page o leaves)) has
 
     go : Way (world_at T) f m.takes.input o → Explained T event triple stays
-    go (Sends to sends) = never (ap (λ x. list_any changes_kept x.effects) sends)
-    go (Ends ended leaves) = never leaves
-    go (Rests still gives leaves) = never leaves
-    go (Answers raw at is_reply answers) =
+    go (Sends to reading sends) = never (ap (λ x. list_any changes_kept x.effects) sends)
+    go (Ends ended leaves none) = never leaves
+    go (Rests still gives leaves none) = never leaves
+    go (Answers raw at is_reply answers none) =
         let came : Some event ≡ Some (Reply call only_place kinds.Disconnect raw) = m.takes.is_event ∙ ap (event_for call) is_reply in
         let reply : event ≡ Reply call only_place kinds.Disconnect raw = cc in
         let goes =
@@ -371,6 +372,18 @@ by_have T have triple stays has = go have refl
         subst (Explained T (events.Have have) triple) (sym one.stays_is)
         (FromBefore (ap events.Have (is ∙ ap haves.Kept (sym one.triple_is))))
 
+before : IsBefore kept_change
+before =
+    record {
+      wellknown = λ n c p t k. refl;
+      config = λ n c p t k. refl;
+      dropped = λ c p f. refl;
+      result = λ c p f. refl;
+      begin = λ b. refl;
+      move = λ n c s. refl;
+      ignored = λ w. refl;
+    }
+
 explained : (T : Trace) (event : Event) (triple : Triple) (stays : Bool) → IsRun T.header T.rows
     → Has (effects_of T event) (Kept triple stays) → Explained T event triple stays
 explained T (events.Have have) triple stays run has = by_have T have triple stays has
@@ -386,10 +399,10 @@ explained T (Load page url raw) triple stays run has =
 explained T (ClosePage page) triple stays run has = unchanged _ triple stays (close_leaves (pending_of T page) page (page_at T page)) has
 explained T (Get page call options) triple stays run has =
     unchanged _ triple stays
-    (begin_leaves (world_at T) (cookies_with T) (page_at T page) (is_busy page (gets T)) page call (ToGet options)) has
+    (begin_silent kept_change before (world_at T) (cookies_with T) (page_at T page) (is_busy page (gets T)) page call (ToGet options)) has
 explained T (Disconnect page call config client hint) triple stays run has =
     unchanged _ triple stays
-    (begin_leaves (world_at T) (cookies_with T) (page_at T page) (is_busy page (gets T)) page call
+    (begin_silent kept_change before (world_at T) (cookies_with T) (page_at T page) (is_busy page (gets T)) page call
     (ToDisconnect (record { config = config; client = client; hint = hint }))) has
 explained T (events.Abort call) triple stays run has =
     by_input T (events.Abort call) call inputs.Abort triple stays run refl refl refl has

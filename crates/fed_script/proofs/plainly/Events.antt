@@ -1,9 +1,9 @@
 -- The events that lines as JSON writers give them name.
-use Rattle.std.proofs.Common.{◌≡◌, ◌<◌, ◌^◌, ◌++◌, ℕ, List, Bool, true, false, codes, Option}
-use Rattle.std.proofs.Common.{Some, None, Ok, Result, cond, ap, subst, ◌∙◌, arith}
+use Rattle.std.proofs.Common.{◌≡◌, ◌<◌, ◌^◌, ◌++◌, ℕ, List, true, codes, Option}
+use Rattle.std.proofs.Common.{Some, None, Ok, Result, cond, refl, ap, subst, ◌∙◌, arith}
 use Rattle.std.proofs.lemmas.Bool.Decides.{nat_tests}
 use Rattle.std.specs.List.{list_all}
-use Rattle.std.specs.Prelude.{nat_lt, IfSome}
+use Rattle.std.specs.Prelude.{nat_lt, IfSome, unwrap_or, ⊤}
 use Rattle.std.specs.Str.{IsUtf8}
 use Rattle.json.specs.Print.{escape}
 use Rattle.serde_json.specs.Data.{Data}
@@ -15,18 +15,18 @@ use Rattle.fed_script.specs.declared.cause.MemberName.TheVariants as names
 use Rattle.fed_script.specs.declared.event.Event.{Event}
 use Rattle.fed_script.specs.declared.event.Event.TheVariants as events
 use Rattle.fed_script.specs.Disconnect.{disconnect_by}
-use Rattle.fed_script.specs.Get.{get_by}
 use Rattle.fed_script.specs.Line.{event_named, kind_of, event_of_kind}
 use Rattle.fed_script.specs.Load.{load_by}
-use Rattle.fed_script.specs.Member.{◌>>=◌, or_cause, small}
+use Rattle.fed_script.specs.Member.{◌>>=◌, or_cause, some_of, small}
 use Rattle.fed_script.specs.Plain.{is_plain_byte, load_text, reply_text, closepage_text, go_on_text}
-use Rattle.fed_script.specs.Plain.{get_text, disconnect_text, plain_members}
-use Rattle.fed_script.proofs.plainly.Tokens.{load_is, load_reply_is, reply_is, closepage_is, go_on_is, get_is, disconnect_is}
+use Rattle.fed_script.specs.Plain.{disconnect_text}
+use Rattle.fed_script.proofs.plainly.Tokens.{load_is, load_reply_is, reply_is, reply_data, Fits}
+use Rattle.fed_script.proofs.plainly.Tokens.{closepage_is, go_on_is, disconnect_is}
 
-is_small : (n : ℕ) → n < 2 ^ 32 → small n ≡ Some n
+pub is_small : (n : ℕ) → n < 2 ^ 32 → small n ≡ Some n
 is_small n h = let below : nat_lt n (2 ^ 32) ≡ true = grind (arith, nat_tests, h) in ap (λ b. cond b (Some n) None) below
 
-named_by : Result Data LineCause → Result Event LineCause
+unfoldable pub named_by : Result Data LineCause → Result Event LineCause
 named_by r = r >>= (λ d. kind_of d >>= (λ kind. event_of_kind kind d))
 
 load_from : Option ℕ → List ℕ → Option (List ℕ) → Result Event LineCause
@@ -53,18 +53,47 @@ pub last_found : (rest : List ℕ) (found : Option (List ℕ)) (text : List ℕ)
     → IfSome found (λ bytes. (rest ≡ escape bytes ++ codes "\"}") × IsUtf8 bytes) → (rest ≡ escape text ++ codes "\"}") × IsUtf8 text
 last_found rest found text is h = subst (λ o. IfSome o (λ bytes. (rest ≡ escape bytes ++ codes "\"}") × IsUtf8 bytes)) is h
 
-reply_from : Option ℕ → Option ReplyKind → List ℕ → Result Event LineCause
-reply_from call kind text =
-    or_cause (Member names.Call) call >>= (λ c. or_cause (Member names.To) kind >>= (λ k. Ok (events.Reply c 0 k text)))
+reply_from : Option ℕ → Result (Option ℕ) LineCause → Option ReplyKind → List ℕ → Result Event LineCause
+reply_from call place kind text =
+    or_cause (Member names.Call) call >>= (λ c. place >>= (λ p. or_cause (Member names.To) kind
+    >>= (λ k. Ok (events.Reply c (unwrap_or p 0) k text))))
 
-pub reply_event : (line : List ℕ) (call : ℕ) (word rest text : List ℕ) (kind : ReplyKind) → line ≡ reply_text call word rest
-    → rest ≡ escape text ++ codes "\"}" → kind_of_word word ≡ Some kind → IsUtf8 word → IsUtf8 text → call < 2 ^ 32
-    → list_all is_plain_byte word ≡ true → event_named line ≡ Ok (events.Reply call 0 kind text)
+-- what is read of a place
+place_from : Option ℕ → Result (Option ℕ) LineCause
+place_from None = Ok None
+place_from (Some place) = some_of (or_cause (Member names.Provider) (small place))
+
+-- a place fits 32 bits
+abbrev pub IsSmall : Option ℕ → Type 0
+IsSmall place = IfSome place (λ n. n < 2 ^ 32)
+
+is_small_place : (place : Option ℕ) → IsSmall place → place_from place ≡ Ok place
+unfolding place_from
+is_small_place None h = refl
+is_small_place (Some place) h = ap (λ n. some_of (or_cause (Member names.Provider) n)) (is_small place h)
+
+is_fit : (place : Option ℕ) → IsSmall place → Fits place
+is_fit None h = tt
+is_fit (Some place) h = omega arith
+
+reply_named : (call : ℕ) (place : Option ℕ) (word text : List ℕ)
+    → named_by (Ok (reply_data call place word text)) ≡ reply_from (small call) (place_from place) (kind_of_word word) text
+unfolding named_by reply_from place_from
+reply_named call None word text = refl
+reply_named call (Some place) word text = refl
+
+pub reply_event : (line : List ℕ) (call : ℕ) (place : Option ℕ) (word rest text : List ℕ) (kind : ReplyKind)
+    → line ≡ reply_text call place word rest → rest ≡ escape text ++ codes "\"}" → kind_of_word word ≡ Some kind → IsUtf8 word → IsUtf8 text
+    → call < 2 ^ 32 → IsSmall place → list_all is_plain_byte word ≡ true
+    → event_named line ≡ Ok (events.Reply call (unwrap_or place 0) kind text)
 unfolding named_by reply_from
-reply_event line call word rest text kind is ends known first second h plain =
-    ap named_by (reply_is line call word text first second (omega arith) plain (is ∙ ap (reply_text call word) ends))
-    ∙ ap (λ c. reply_from c (kind_of_word word) text) (is_small call h)
-    ∙ ap (λ k. reply_from (Some call) k text) known
+reply_event line call place word rest text kind is ends known first second h few plain =
+    ap named_by (reply_is line call place word text first second (omega arith) (is_fit place few) plain
+    (is ∙ ap (reply_text call place word) ends))
+    ∙ reply_named call place word text
+    ∙ ap (λ c. reply_from c (place_from place) (kind_of_word word) text) (is_small call h)
+    ∙ ap (λ p. reply_from (Some call) p (kind_of_word word) text) (is_small_place place few)
+    ∙ ap (λ k. reply_from (Some call) (Ok place) k text) known
 
 closepage_from : Option ℕ → Result Event LineCause
 closepage_from page = or_cause (Member names.Page) page >>= (λ p. Ok (events.ClosePage p))
@@ -83,24 +112,6 @@ pub go_on_event : (line : List ℕ) (call : ℕ) → call < 2 ^ 32 → line ≡ 
 unfolding named_by go_on_from
 go_on_event line call h is =
     ap named_by (go_on_is line call (omega arith) is) ∙ ap go_on_from (is_small call h)
-
-get_from : Option ℕ → Option ℕ → List ℕ → List ℕ → Bool → Result Event LineCause
-get_from page call config client active =
-    (or_cause (Member names.Page) page >>= (λ p. or_cause (Member names.Call) call >>= (λ c. Ok (plain_members p c config client active))))
-    >>= get_by
-
-pub get_event : (line : List ℕ) (page call : ℕ) (config client : List ℕ) (active : Bool) → IsUtf8 config → IsUtf8 client → page < 2 ^ 32
-    → call < 2 ^ 32 → list_all is_plain_byte config ≡ true → list_all is_plain_byte client ≡ true
-    → line ≡ get_text page call config client active → event_named line ≡ get_by (plain_members page call config client active)
-unfolding named_by get_from
-get_event line page call config client false first second h k one two is =
-    ap named_by (get_is line page call config client false first second (omega arith) (omega arith) one two is)
-    ∙ ap (λ p. get_from p (small call) config client false) (is_small page h)
-    ∙ ap (λ c. get_from (Some page) c config client false) (is_small call k)
-get_event line page call config client true first second h k one two is =
-    ap named_by (get_is line page call config client true first second (omega arith) (omega arith) one two is)
-    ∙ ap (λ p. get_from p (small call) config client true) (is_small page h)
-    ∙ ap (λ c. get_from (Some page) c config client true) (is_small call k)
 
 disconnect_from : Option ℕ → Option ℕ → List ℕ → List ℕ → List ℕ → Result Event LineCause
 disconnect_from page call config client hint =

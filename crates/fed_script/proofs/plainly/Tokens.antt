@@ -22,7 +22,7 @@ use Rattle.serde_json.specs.Read.{read, of_json, max_depth, number_of}
 use Rattle.serde_json.proofs.Numbers.{number_of-decimal}
 use Rattle.fed_script.specs.declared.cause.LineCause.TheVariants.{NotJson}
 use Rattle.fed_script.specs.Member.{json_of, or_cause}
-use Rattle.fed_script.specs.Plain.{is_plain_byte, load_text, reply_text, closepage_text, go_on_text, get_text, get_end, disconnect_text}
+use Rattle.fed_script.specs.Plain.{is_plain_byte, load_text, reply_text, closepage_text, go_on_text, place_text, disconnect_text}
 
 -- ---- tokens that can be written, each text in UTF-8
 
@@ -85,7 +85,7 @@ plain_data line ts d is good h =
     ap (λ b. or_cause NotJson (cond b (read line) None)) utf8
     ∙ ap (or_cause NotJson) (ap read_of (ap tokens is ∙ tokens-print ts (printable ts good)) ∙ h)
 
-good_number : (n : ℕ) → n < 2 ^ 64 → IsGood (number (decimal n))
+pub good_number : (n : ℕ) → n < 2 ^ 64 → IsGood (number (decimal n))
 good_number n small = (IsNumber-decimal n small, digits-IsUtf8 10 false n (omega arith) (omega arith))
 
 -- ---- texts
@@ -110,16 +110,22 @@ ended : (text rest : List ℕ) → escape text ++ 34 ∷ rest ≡ (escape text +
 ended text rest = sym (append_assoc (escape text) (34 ∷ []) rest)
 
 -- the same of a text without an escape
-closed : (text rest : List ℕ) → list_all is_plain_byte text ≡ true → text ++ 34 ∷ rest ≡ (escape text ++ 34 ∷ []) ++ rest
+pub closed : (text rest : List ℕ) → list_all is_plain_byte text ≡ true → text ++ 34 ∷ rest ≡ (escape text ++ 34 ∷ []) ++ rest
 closed text rest plain = ap (λ u. u ++ 34 ∷ rest) (sym (plain_escape text plain)) ∙ ended text rest
 
 -- the members of a line of this kind, before its others
-abbrev of_kind : List ℕ → Members
+abbrev pub of_kind : List ℕ → Members
 of_kind kind = put (codes "do") (value.string kind) no_members
 
--- the numbers of a page and of a call
+-- the number of a page or of a call
 abbrev counted : Option Num → (Data → Members) → Option Data
 counted n members = option_map object (option_and_then (λ d. Some (members d)) (option_map value.number n))
+
+-- the numbers of two members
+abbrev pub counted_both : Option Num → Option Num → (Data → Data → Members) → Option Data
+counted_both page call members =
+    option_map object (option_and_then (λ p. option_and_then (λ c. Some (members p c)) (option_map value.number call))
+    (option_map value.number page))
 
 -- ---- a load
 
@@ -193,42 +199,92 @@ load_reply_is line page url text first second small plain is =
 
 -- ---- a reply
 
-abbrev reply_tokens : ℕ → List ℕ → List ℕ → List Token
-reply_tokens call word text =
-    begin_object ∷ key (codes "do") ∷ string (codes "reply") ∷ key (codes "call") ∷ number (decimal call) ∷ key (codes "to")
-    ∷ string word ∷ key (codes "text") ∷ string text ∷ end_object ∷ []
+abbrev place_tokens : Option ℕ → List Token → List Token
+place_tokens None rest = rest
+place_tokens (Some place) rest = key (codes "provider") ∷ number (decimal place) ∷ rest
 
-abbrev reply_members : List ℕ → List ℕ → Data → Members
-reply_members word text call =
-    put (codes "text") (value.string text) (put (codes "to") (value.string word) (put (codes "call") call (of_kind (codes "reply"))))
+abbrev reply_tokens : ℕ → Option ℕ → List ℕ → List ℕ → List Token
+reply_tokens call place word text =
+    begin_object ∷ key (codes "do") ∷ string (codes "reply") ∷ key (codes "call") ∷ number (decimal call)
+    ∷ place_tokens place (key (codes "to") ∷ string word ∷ key (codes "text") ∷ string text ∷ end_object ∷ [])
 
-abbrev pub reply_data : ℕ → List ℕ → List ℕ → Data
-reply_data call word text = object (reply_members word text (value.number (unsigned call)))
+abbrev with_place : Option Data → Members → Members
+with_place None members = members
+with_place (Some place) members = put (codes "provider") place members
 
-reply_line : (call : ℕ) (word text : List ℕ) → print (reply_tokens call word text)
-    ≡ codes "{\"do\":\"reply\",\"call\":" ++ (decimal call ++ (codes ",\"to\":\"" ++ ((escape word ++ 34 ∷ [])
+abbrev reply_members : List ℕ → List ℕ → Data → Option Data → Members
+reply_members word text call place =
+    put (codes "text") (value.string text) (put (codes "to") (value.string word)
+    (with_place place (put (codes "call") call (of_kind (codes "reply")))))
+
+abbrev pub place_data : Option ℕ → Option Data
+place_data place = option_map (λ n. value.number (unsigned n)) place
+
+abbrev pub reply_data : ℕ → Option ℕ → List ℕ → List ℕ → Data
+reply_data call place word text = object (reply_members word text (value.number (unsigned call)) (place_data place))
+
+reply_line : (call : ℕ) (place : Option ℕ) (word text : List ℕ) → print (reply_tokens call place word text)
+    ≡ codes "{\"do\":\"reply\",\"call\":" ++ (decimal call ++ place_text place (codes ",\"to\":\"" ++ ((escape word ++ 34 ∷ [])
     ++ (codes ",\"text\":\"" ++ ((escape text ++ 34 ∷ []) ++ codes "}")))))
 unfolding print_from escape_byte
-reply_line call word text = refl
+reply_line call None word text = refl
+reply_line call (Some place) word text = refl
 
-reply_read : (call : ℕ) (word text : List ℕ)
-    → read_of (reply_tokens call word text) ≡ counted (number_of (decimal call)) (reply_members word text)
+-- the numbers of a call and perhaps of a place
+abbrev counted_with : Option Num → Option (Option Num) → (Data → Option Data → Members) → Option Data
+counted_with call None members = option_map object (option_and_then (λ c. Some (members c None)) (option_map value.number call))
+counted_with call (Some place) members = counted_both call place (λ c p. members c (Some p))
+
+reply_read : (call : ℕ) (place : Option ℕ) (word text : List ℕ) → read_of (reply_tokens call place word text)
+    ≡ counted_with (number_of (decimal call)) (option_map (λ p. number_of (decimal p)) place) (reply_members word text)
 unfolding json.value json.items json.members
-reply_read call word text = refl
+reply_read call None word text = refl
+reply_read call (Some place) word text = refl
 
-pub reply_is : (line : List ℕ) (call : ℕ) (word text : List ℕ) → IsUtf8 word → IsUtf8 text → call < 2 ^ 64
-    → list_all is_plain_byte word ≡ true → line ≡ reply_text call word (escape text ++ codes "\"}")
-    → json_of line ≡ Ok (reply_data call word text)
+-- a place fits 64 bits
+abbrev pub Fits : Option ℕ → Type 0
+Fits None = ⊤
+Fits (Some place) = place < 2 ^ 64
+
+place_good : (place : Option ℕ) (rest : List Token) → Fits place → AreGood rest → AreGood (place_tokens place rest)
+place_good None rest fits good = good
+place_good (Some place) rest fits good = (refl, (good_number place fits, good))
+
+reply_numbers : (call : ℕ) (place : Option ℕ) (members : Data → Option Data → Members) → call < 2 ^ 64 → Fits place
+    → counted_with (number_of (decimal call)) (option_map (λ p. number_of (decimal p)) place) members
+    ≡ Some (object (members (value.number (unsigned call)) (place_data place)))
+reply_numbers call None members small fits = ap (λ n. counted_with n None members) (number_of-decimal call small)
+reply_numbers call (Some place) members small fits =
+    ap (λ n. counted_with n (Some (number_of (decimal place))) members) (number_of-decimal call small)
+    ∙ ap (λ n. counted_with (Some (unsigned call)) (Some n) members) (number_of-decimal place fits)
+
+pub reply_is : (line : List ℕ) (call : ℕ) (place : Option ℕ) (word text : List ℕ) → IsUtf8 word → IsUtf8 text → call < 2 ^ 64
+    → Fits place → list_all is_plain_byte word ≡ true → line ≡ reply_text call place word (escape text ++ codes "\"}")
+    → json_of line ≡ Ok (reply_data call place word text)
 unfolding reply_text
-reply_is line call word text first second small plain is =
-    let front : List ℕ → List ℕ = λ l. codes "{\"do\":\"reply\",\"call\":" ++ (decimal call ++ (codes ",\"to\":\"" ++ l)) in
+reply_is line call place word text first second small fits plain is =
+    let front : List ℕ → List ℕ = λ l. codes "{\"do\":\"reply\",\"call\":" ++ (decimal call ++ place_text place (codes ",\"to\":\"" ++ l)) in
     let back : List ℕ → List ℕ = λ l. codes ",\"text\":\"" ++ l in
-    plain_data line (reply_tokens call word text) (reply_data call word text)
+    plain_data line (reply_tokens call place word text) (reply_data call place word text)
     (is ∙ ap front (closed word (back (escape text ++ codes "\"}")) plain
     ∙ ap (λ l. (escape word ++ 34 ∷ []) ++ back l) (ended text (codes "}")))
-    ∙ sym (reply_line call word text))
-    (tt, (refl, (IsUtf8-are_ascii _ refl, (refl, (good_number call small, (refl, (first, (refl, (second, (tt, tt))))))))))
-    (reply_read call word text ∙ ap (λ n. counted n (reply_members word text)) (number_of-decimal call small))
+    ∙ sym (reply_line call place word text)) (
+      tt,
+      (
+        refl,
+        (
+          IsUtf8-are_ascii _ refl,
+          (
+            refl,
+            (
+              good_number call small,
+              place_good place _ fits (refl, (first, (refl, (second, (tt, tt))))),
+            ),
+          ),
+        ),
+      ),
+    )
+    (reply_read call place word text ∙ reply_numbers call place (reply_members word text) small fits)
 
 -- ---- a page that closes
 
@@ -283,120 +339,6 @@ go_on_is line call small is =
     plain_data line (go_on_tokens call) (go_on_data call) (is ∙ go_on_line call)
     (tt, (refl, (IsUtf8-are_ascii _ refl, (refl, (good_number call small, (tt, tt))))))
     (go_on_read call ∙ ap (λ n. counted n go_on_members) (number_of-decimal call small))
-
--- the numbers of a page and of a call
-abbrev counted_both : Option Num → Option Num → (Data → Data → Members) → Option Data
-counted_both page call members =
-    option_map object (option_and_then (λ p. option_and_then (λ c. Some (members p c)) (option_map value.number call))
-    (option_map value.number page))
-
--- ---- a get
-
-abbrev get_tail : Bool → List Token
-get_tail false = end_object ∷ []
-get_tail true = key (codes "mode") ∷ string (codes "active") ∷ key (codes "activation") ∷ boolean true ∷ end_object ∷ []
-
-abbrev get_tokens : ℕ → ℕ → List ℕ → List ℕ → Bool → List Token
-get_tokens page call config client active =
-    begin_object ∷ key (codes "do") ∷ string (codes "get") ∷ key (codes "page") ∷ number (decimal page) ∷ key (codes "call")
-    ∷ number (decimal call) ∷ key (codes "providers") ∷ begin_array ∷ begin_object ∷ key (codes "config") ∷ string config
-    ∷ key (codes "client") ∷ string client ∷ end_object ∷ end_array ∷ get_tail active
-
-abbrev providers_data : List ℕ → List ℕ → Data
-providers_data config client =
-    array (item (object (put (codes "client") (value.string client) (put (codes "config") (value.string config) no_members))) no_items)
-
-abbrev with_mode : Bool → Members → Members
-with_mode false members = members
-with_mode true members = put (codes "activation") (value.boolean true) (put (codes "mode") (value.string (codes "active")) members)
-
-abbrev get_members : List ℕ → List ℕ → Bool → Data → Data → Members
-get_members config client active page call =
-    with_mode active
-    (put (codes "providers") (providers_data config client) (put (codes "call") call (put (codes "page") page (of_kind (codes "get")))))
-
-abbrev pub get_data : ℕ → ℕ → List ℕ → List ℕ → Bool → Data
-get_data page call config client active =
-    object (get_members config client active (value.number (unsigned page)) (value.number (unsigned call)))
-
-get_read : (page call : ℕ) (config client : List ℕ) (active : Bool) → read_of (get_tokens page call config client active)
-    ≡ counted_both (number_of (decimal page)) (number_of (decimal call)) (get_members config client active)
-unfolding json.value json.items json.members
-get_read page call config client false = refl
-get_read page call config client true = refl
-
-abbrev get_close : Bool → List ℕ
-get_close false = codes "}]}"
-get_close true = codes "}],\"mode\":\"active\",\"activation\":true}"
-
-get_line : (page call : ℕ) (config client : List ℕ) (active : Bool) → print (get_tokens page call config client active)
-    ≡ codes "{\"do\":\"get\",\"page\":" ++ (decimal page ++ (codes ",\"call\":" ++ (decimal call
-    ++ (codes ",\"providers\":[{\"config\":\"" ++ ((escape config ++ 34 ∷ []) ++ (codes ",\"client\":\""
-    ++ ((escape client ++ 34 ∷ []) ++ get_close active)))))))
-unfolding print_from escape_byte
-get_line page call config client false = refl
-get_line page call config client true = refl
-
-ends_so : (active : Bool) → get_end active ≡ 34 ∷ get_close active
-ends_so false = refl
-ends_so true = refl
-
-get_written : (page call : ℕ) (config client : List ℕ) (active : Bool) → list_all is_plain_byte config ≡ true
-    → list_all is_plain_byte client ≡ true
-    → get_text page call config client active ≡ print (get_tokens page call config client active)
-unfolding get_text
-get_written page call config client active one two =
-    let front : List ℕ → List ℕ = λ l. codes "{\"do\":\"get\",\"page\":" ++ (decimal page ++ (codes ",\"call\":" ++ (decimal call
-    ++ (codes ",\"providers\":[{\"config\":\"" ++ l)))) in
-    let back : List ℕ → List ℕ = λ l. codes ",\"client\":\"" ++ l in
-    let last : client ++ get_end active ≡ (escape client ++ 34 ∷ []) ++ get_close active =
-    ap (λ l. client ++ l) (ends_so active) ∙ closed client (get_close active) two in
-    ap front (closed config (back (client ++ get_end active)) one ∙ ap (λ l. (escape config ++ 34 ∷ []) ++ back l) last)
-    ∙ sym (get_line page call config client active)
-
-tail_good : (active : Bool) → AreGood (get_tail active)
-tail_good false = (tt, tt)
-tail_good true = (refl, (IsUtf8-are_ascii _ refl, (refl, (tt, (tt, tt)))))
-
-pub get_is : (line : List ℕ) (page call : ℕ) (config client : List ℕ) (active : Bool) → IsUtf8 config → IsUtf8 client → page < 2 ^ 64
-    → call < 2 ^ 64 → list_all is_plain_byte config ≡ true → list_all is_plain_byte client ≡ true
-    → line ≡ get_text page call config client active → json_of line ≡ Ok (get_data page call config client active)
-get_is line page call config client active first second small few one two is =
-    plain_data line (get_tokens page call config client active) (get_data page call config client active)
-    (is ∙ get_written page call config client active one two) (
-      tt,
-      (
-        refl,
-        (
-          IsUtf8-are_ascii _ refl,
-          (
-            refl,
-            (
-              good_number page small,
-              (
-                refl,
-                (
-                  good_number call few,
-                  (
-                    refl,
-                    (
-                      tt,
-                      (
-                        tt,
-                        (refl, (first, (refl, (second, (tt, (tt, tail_good active)))))),
-                      ),
-                    ),
-                  ),
-                ),
-              ),
-            ),
-          ),
-        ),
-      ),
-    )
-    (get_read page call config client active
-    ∙ ap (λ p. counted_both p (number_of (decimal call)) (get_members config client active)) (number_of-decimal page small)
-    ∙ ap (λ c. counted_both (Some (unsigned page)) c (get_members config client active)) (number_of-decimal call few))
 
 -- ---- a disconnect call
 

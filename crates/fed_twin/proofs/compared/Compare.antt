@@ -361,7 +361,7 @@ at_end {s = s} {most = most} {kept = kept} {sent = sent} {total = total} {sessio
     subst (λ ns. GoesOn s most session ns kept sent total) (drop_all i events beyond) h
 
 -- no earlier event took the call of a get or of a disconnect
-fresh : (session : State) (T : Trace) (used : UsedState) (event : Event) → Stands session T → IsUntaken used.calls (begun T.rows)
+pub fresh : (session : State) (T : Trace) (used : UsedState) (event : Event) → Stands session T → IsUntaken used.calls (begun T.rows)
     → IsUnused used event → IsFresh session event
 fresh session T used (events.Get page call options) stands untaken unused =
     ap (list_any (nat_eq call)) stands.taken ∙ untaken call unused

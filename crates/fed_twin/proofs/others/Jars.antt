@@ -15,6 +15,7 @@ use Rattle.fed_jar.specs.Cookie.{StoredCookie}
 use Rattle.fed_status.specs.Login.{set_login_of}
 use Rattle.fed_status.specs.Shared.{World}
 use Rattle.fed_consent.specs.declared.table.ask.Ask.{Ask}
+use Rattle.fed_consent.specs.declared.table.ask.Ask.TheVariants as asks
 use Rattle.fed_consent.specs.declared.table.effect.Effect.{Effect as CallEffect}
 use Rattle.fed_consent.specs.declared.table.effect.Effect.TheVariants as does
 use Rattle.fed_consent.specs.declared.table.input.Input.{Input}
@@ -39,7 +40,7 @@ use Rattle.fed_trace.specs.Windows.{provider_asked, provider_of, is_origin, open
 use Rattle.fed_trace.specs.Trace.{Row, Trace, page_at, logins, kept, flags, pending, gets, pending_of, calls_of, now_at, begun, stage_at}
 use Rattle.fed_trace.specs.Trace.{last_value, all_said}
 use Rattle.fed_trace.specs.OfScript.{start, with_events}
-use Rattle.fed_twin.specs.Jars.{BringCookies, Equal, Haves, Loads, OnOneLine, but_cookies, but_cookies_of, TwoJars}
+use Rattle.fed_twin.specs.Jars.{BringCookies, Equal, Haves, Loads, OnOneLine, but_cookies, but_cookies_of, fixed_cookies, TwoJars}
 use Rattle.fed_twin.proofs.seen.Seen.{last_at, last_of-seen, last_in-seen, last_value-seen, standing-seen, all_said-seen}
 use Rattle.fed_origin.specs.declared.status.Triple.{Triple}
 use Rattle.fed_status.specs.Kept.{triples_of_pair}
@@ -56,7 +57,8 @@ record IsBlind {A : Type 0} (said : Effect → Option A) : Type 0 where
 
 blind : {A : Type 0} (said : Effect → Option A) → IsBlind said → (e : Effect) → said e ≡ option_and_then said (but_cookies e)
 blind said h (effects.Cookie cookie) = h.cookie cookie
-blind said h (effects.Sent kind call provider ask cookies) = h.sent kind call provider ask cookies
+blind said h (effects.Sent kind call provider ask cookies) =
+    h.sent kind call provider ask cookies ∙ sym (h.sent kind call provider ask (fixed_cookies ask cookies))
 blind said h (effects.Time time) = refl
 blind said h (effects.Page page origin) = refl
 blind said h (effects.Closed page) = refl
@@ -104,7 +106,8 @@ any_same : (test : Effect → Bool) → ((cookie : StoredCookie) → test (effec
 any_same test c s [] = refl
 any_same test c s (effects.Cookie cookie ∷ es) = ap (λ b. b || list_any test es) (c cookie) ∙ any_same test c s es
 any_same test c s (effects.Sent kind call provider ask cookies ∷ es) =
-    ap₂ (λ a b. a || b) (s kind call provider ask cookies) (any_same test c s es)
+    ap₂ (λ a b. a || b) (s kind call provider ask cookies ∙ sym (s kind call provider ask (fixed_cookies ask cookies)))
+    (any_same test c s es)
 any_same test c s (effects.Time time ∷ es) = ap (λ b. test (effects.Time time) || b) (any_same test c s es)
 any_same test c s (effects.Page page origin ∷ es) = ap (λ b. test (effects.Page page origin) || b) (any_same test c s es)
 any_same test c s (effects.Closed page ∷ es) = ap (λ b. test (effects.Closed page) || b) (any_same test c s es)
@@ -224,28 +227,40 @@ module _ (T U : Trace) (h : SameLooks T U) where
 
 -- ---- effects without their cookies
 
-but_call : (w : World) (ck ck' : Ask → List ℕ) (kind : CallKind) (call page : ℕ) (es : List CallEffect)
+-- these cookies agree where a request carries none by its kind
+abbrev Agree : (Ask → List ℕ) → (Ask → List ℕ) → Type 0
+Agree ck ck' = (ask : Ask) → fixed_cookies ask (ck ask) ≡ fixed_cookies ask (ck' ask)
+
+cookies_agree : (T U : Trace) → Agree (cookies_with T) (cookies_with U)
+cookies_agree T U (asks.WellKnown to) = refl
+cookies_agree T U (asks.Config to) = refl
+cookies_agree T U (asks.Accounts to) = refl
+cookies_agree T U (asks.Metadata to client origin) = refl
+cookies_agree T U (asks.Assertion ask) = refl
+cookies_agree T U (asks.Disconnect to client hint origin) = refl
+
+but_call : (w : World) (ck ck' : Ask → List ℕ) (ag : Agree ck ck') (kind : CallKind) (call page : ℕ) (es : List CallEffect)
     → filter_map but_cookies (flat_map (call_effects w ck kind call page) es)
     ≡ filter_map but_cookies (flat_map (call_effects w ck' kind call page) es)
-but_call w ck ck' kind call page [] = refl
-but_call w ck ck' kind call page (does.Send provider ask ∷ es) =
-    ap (λ xs. effects.Sent kind call provider ask [] ∷ xs) (but_call w ck ck' kind call page es)
-but_call w ck ck' kind call page (does.SetLogin origin status ∷ es) =
-    ap (λ xs. Login origin status ∷ xs) (but_call w ck ck' kind call page es)
-but_call w ck ck' kind call page (does.Finish finish ∷ es) =
-    ap (λ xs. effects.Result call page finish ∷ xs) (but_call w ck ck' kind call page es)
-but_call w ck ck' kind call page (does.Ignored why ∷ es) = ap (λ xs. effects.Ignored why ∷ xs) (but_call w ck ck' kind call page es)
-but_call w ck ck' kind call page (does.Dialog dialog ∷ es) =
-    ap (λ xs. effects.Shown call dialog ∷ xs) (but_call w ck ck' kind call page es)
-but_call w ck ck' kind call page (does.Dropped place failure ∷ es) =
-    ap (λ xs. effects.Dropped call place failure ∷ xs) (but_call w ck ck' kind call page es)
-but_call w ck ck' kind call page (does.Window place url ∷ es) =
-    ap (λ xs. effects.Window call place url ∷ xs) (but_call w ck ck' kind call page es)
-but_call w ck ck' kind call page (does.Keep triple ∷ es) =
-    ap (λ xs. effects.Kept triple true ∷ xs) (but_call w ck ck' kind call page es)
-but_call w ck ck' kind call page (does.Forget triple ∷ es) =
-    ap (λ xs. effects.Kept triple false ∷ xs) (but_call w ck ck' kind call page es)
-but_call w ck ck' kind call page (does.ForgetPair o u ∷ es) = goes (but_call w ck ck' kind call page es) (triples_of_pair w.kept o u)
+but_call w ck ck' ag kind call page [] = refl
+but_call w ck ck' ag kind call page (does.Send provider ask ∷ es) =
+    ap₂ (λ c xs. effects.Sent kind call provider ask c ∷ xs) (ag ask) (but_call w ck ck' ag kind call page es)
+but_call w ck ck' ag kind call page (does.SetLogin origin status ∷ es) =
+    ap (λ xs. Login origin status ∷ xs) (but_call w ck ck' ag kind call page es)
+but_call w ck ck' ag kind call page (does.Finish finish ∷ es) =
+    ap (λ xs. effects.Result call page finish ∷ xs) (but_call w ck ck' ag kind call page es)
+but_call w ck ck' ag kind call page (does.Ignored why ∷ es) = ap (λ xs. effects.Ignored why ∷ xs) (but_call w ck ck' ag kind call page es)
+but_call w ck ck' ag kind call page (does.Dialog dialog ∷ es) =
+    ap (λ xs. effects.Shown call dialog ∷ xs) (but_call w ck ck' ag kind call page es)
+but_call w ck ck' ag kind call page (does.Dropped place failure ∷ es) =
+    ap (λ xs. effects.Dropped call place failure ∷ xs) (but_call w ck ck' ag kind call page es)
+but_call w ck ck' ag kind call page (does.Window place url ∷ es) =
+    ap (λ xs. effects.Window call place url ∷ xs) (but_call w ck ck' ag kind call page es)
+but_call w ck ck' ag kind call page (does.Keep triple ∷ es) =
+    ap (λ xs. effects.Kept triple true ∷ xs) (but_call w ck ck' ag kind call page es)
+but_call w ck ck' ag kind call page (does.Forget triple ∷ es) =
+    ap (λ xs. effects.Kept triple false ∷ xs) (but_call w ck ck' ag kind call page es)
+but_call w ck ck' ag kind call page (does.ForgetPair o u ∷ es) = goes (but_call w ck ck' ag kind call page es) (triples_of_pair w.kept o u)
   where
     goes : filter_map but_cookies (flat_map (call_effects w ck kind call page) es)
         ≡ filter_map but_cookies (flat_map (call_effects w ck' kind call page) es)
@@ -254,27 +269,27 @@ but_call w ck ck' kind call page (does.ForgetPair o u ∷ es) = goes (but_call w
         ≡ filter_map but_cookies (map (λ triple. effects.Kept triple false) triples ++ flat_map (call_effects w ck' kind call page) es)
     goes rest [] = rest
     goes rest (t ∷ triples) = ap (λ xs. effects.Kept t false ∷ xs) (goes rest triples)
-but_call w ck ck' kind call page (does.ClearFlag origin ∷ es) =
-    ap (λ xs. effects.Flag origin false ∷ xs) (but_call w ck ck' kind call page es)
+but_call w ck ck' ag kind call page (does.ClearFlag origin ∷ es) =
+    ap (λ xs. effects.Flag origin false ∷ xs) (but_call w ck ck' ag kind call page es)
 
-but_outcome : (w : World) (ck ck' : Ask → List ℕ) (kind : CallKind) (call page : ℕ) (o : Outcome)
+but_outcome : (w : World) (ck ck' : Ask → List ℕ) (ag : Agree ck ck') (kind : CallKind) (call page : ℕ) (o : Outcome)
     → filter_map but_cookies (outcome_effects w ck kind call page o) ≡ filter_map but_cookies (outcome_effects w ck' kind call page o)
-but_outcome w ck ck' kind call page o =
+but_outcome w ck ck' ag kind call page o =
     filter_map-append but_cookies (flat_map (call_effects w ck kind call page) o.effects) (moves kind call o.stage)
-    ∙ ap (λ xs. xs ++ filter_map but_cookies (moves kind call o.stage)) (but_call w ck ck' kind call page o.effects)
+    ∙ ap (λ xs. xs ++ filter_map but_cookies (moves kind call o.stage)) (but_call w ck ck' ag kind call page o.effects)
     ∙ sym (filter_map-append but_cookies (flat_map (call_effects w ck' kind call page) o.effects) (moves kind call o.stage))
 
-but_input : (w : World) (ck ck' : Ask → List ℕ) (begun : Bool) (call : ℕ) (known : Option Known) (i : Input)
+but_input : (w : World) (ck ck' : Ask → List ℕ) (ag : Agree ck ck') (begun : Bool) (call : ℕ) (known : Option Known) (i : Input)
     → filter_map but_cookies (input_effects w ck begun call known i) ≡ filter_map but_cookies (input_effects w ck' begun call known i)
-but_input w ck ck' false call known i = refl
-but_input w ck ck' true call None i = refl
-but_input w ck ck' true call (Some known) i = but_outcome w ck ck' (kind_of known) call (page_of known) (input_row w known i)
+but_input w ck ck' ag false call known i = refl
+but_input w ck ck' ag true call None i = refl
+but_input w ck ck' ag true call (Some known) i = but_outcome w ck ck' ag (kind_of known) call (page_of known) (input_row w known i)
 
-but_begin : (w : World) (ck ck' : Ask → List ℕ) (o : Option Origin) (busy : Bool) (page call : ℕ) (options : CallOptions)
+but_begin : (w : World) (ck ck' : Ask → List ℕ) (ag : Agree ck ck') (o : Option Origin) (busy : Bool) (page call : ℕ) (options : CallOptions)
     → filter_map but_cookies (begin_effects w ck o busy page call options)
     ≡ filter_map but_cookies (begin_effects w ck' o busy page call options)
-but_begin w ck ck' None busy page call options = refl
-but_begin w ck ck' (Some origin) busy page call options = go (is_trustworthy origin)
+but_begin w ck ck' ag None busy page call options = refl
+but_begin w ck ck' ag (Some origin) busy page call options = go (is_trustworthy origin)
   where
     b : Begun
     b = record { call = call; page = page; origin = origin; options = options }
@@ -282,7 +297,7 @@ but_begin w ck ck' (Some origin) busy page call options = go (is_trustworthy ori
     go : (trusted : Bool)
         → filter_map but_cookies (standing_call w ck trusted busy b) ≡ filter_map but_cookies (standing_call w ck' trusted busy b)
     go false = refl
-    go true = ap (λ xs. Begin b ∷ xs) (but_outcome w ck ck' (kind_asked options) call page (first_row w busy origin options))
+    go true = ap (λ xs. Begin b ∷ xs) (but_outcome w ck ck' ag (kind_asked options) call page (first_row w busy origin options))
 
 but_writes : (cookies : List StoredCookie) → filter_map but_cookies (cookie_effects cookies) ≡ []
 but_writes [] = refl
@@ -308,7 +323,7 @@ input_same : (T U : Trace) → SameLooks T U → (call : ℕ) (i : Input)
     → filter_map but_cookies (input_effects (world_at T) (cookies_with T) (is_begun T call) call (known_at T call) i)
     ≡ filter_map but_cookies (input_effects (world_at U) (cookies_with U) (is_begun U call) call (known_at U call) i)
 input_same T U h call i =
-    but_input (world_at T) (cookies_with T) (cookies_with U) (is_begun T call) call (known_at T call) i
+    but_input (world_at T) (cookies_with T) (cookies_with U) (cookies_agree T U) (is_begun T call) call (known_at T call) i
     ∙ ap (λ w. filter_map but_cookies (input_effects w (cookies_with U) (is_begun T call) call (known_at T call) i)) (same_world T U h)
     ∙ ap₂ (λ b f. filter_map but_cookies (input_effects (world_at U) (cookies_with U) b call f i)) (same_begun T U h call)
     (same_known T U h call)
@@ -317,42 +332,42 @@ begin_same : (T U : Trace) → SameLooks T U → (page call : ℕ) (options : Ca
     → filter_map but_cookies (begin_effects (world_at T) (cookies_with T) (page_at T page) (is_busy page (gets T)) page call options)
     ≡ filter_map but_cookies (begin_effects (world_at U) (cookies_with U) (page_at U page) (is_busy page (gets U)) page call options)
 begin_same T U h page call options =
-    but_begin (world_at T) (cookies_with T) (cookies_with U) (page_at T page) (is_busy page (gets T)) page call options
+    but_begin (world_at T) (cookies_with T) (cookies_with U) (cookies_agree T U) (page_at T page) (is_busy page (gets T)) page call options
     ∙ ap (λ w. filter_map but_cookies (begin_effects w (cookies_with U) (page_at T page) (is_busy page (gets T)) page call options))
     (same_world T U h)
     ∙ ap₂ (λ o x. filter_map but_cookies (begin_effects (world_at U) (cookies_with U) o (is_busy page x) page call options))
     (same_page T U h page) (same_gets T U h)
 
-but_resumes : (w : World) (ck ck' : Ask → List ℕ) (known : ℕ → Option Known) (calls : List ℕ)
+but_resumes : (w : World) (ck ck' : Ask → List ℕ) (ag : Agree ck ck') (known : ℕ → Option Known) (calls : List ℕ)
     → filter_map but_cookies (flat_map (resume_effects w ck known) calls)
     ≡ filter_map but_cookies (flat_map (resume_effects w ck' known) calls)
-but_resumes w ck ck' known [] = refl
-but_resumes w ck ck' known (call ∷ calls) =
+but_resumes w ck ck' ag known [] = refl
+but_resumes w ck ck' ag known (call ∷ calls) =
     filter_map-append but_cookies (resume_effects w ck known call) (flat_map (resume_effects w ck known) calls)
-    ∙ ap₂ (λ xs ys. xs ++ ys) (but_input w ck ck' true call (known call) Resume) (but_resumes w ck ck' known calls)
+    ∙ ap₂ (λ xs ys. xs ++ ys) (but_input w ck ck' ag true call (known call) Resume) (but_resumes w ck ck' ag known calls)
     ∙ sym (filter_map-append but_cookies (resume_effects w ck' known call) (flat_map (resume_effects w ck' known) calls))
 
-but_waiting : (w : World) (ck ck' : Ask → List ℕ) (known : ℕ → Option Known) (calls : List ℕ)
+but_waiting : (w : World) (ck ck' : Ask → List ℕ) (ag : Agree ck ck') (known : ℕ → Option Known) (calls : List ℕ)
     → filter_map but_cookies (waiting_effects w ck known calls) ≡ filter_map but_cookies (waiting_effects w ck' known calls)
-but_waiting w ck ck' known [] = refl
-but_waiting w ck ck' known (call ∷ calls) = but_resumes w ck ck' known (call ∷ calls)
+but_waiting w ck ck' ag known [] = refl
+but_waiting w ck ck' ag known (call ∷ calls) = but_resumes w ck ck' ag known (call ∷ calls)
 
-but_idpclose : (w : World) (ck ck' : Ask → List ℕ) (known : ℕ → Option Known) (waiting : Origin → List ℕ) (o : Option Origin)
+but_idpclose : (w : World) (ck ck' : Ask → List ℕ) (ag : Agree ck ck') (known : ℕ → Option Known) (waiting : Origin → List ℕ) (o : Option Origin)
     → filter_map but_cookies (idpclose_effects w ck known waiting o) ≡ filter_map but_cookies (idpclose_effects w ck' known waiting o)
-but_idpclose w ck ck' known waiting None = refl
-but_idpclose w ck ck' known waiting (Some origin) = go (is_trustworthy origin)
+but_idpclose w ck ck' ag known waiting None = refl
+but_idpclose w ck ck' ag known waiting (Some origin) = go (is_trustworthy origin)
   where
     go : (trusted : Bool) → filter_map but_cookies (standing_resumes w ck known (waiting origin) trusted)
         ≡ filter_map but_cookies (standing_resumes w ck' known (waiting origin) trusted)
     go false = refl
-    go true = but_waiting w ck ck' known (waiting origin)
+    go true = but_waiting w ck ck' ag known (waiting origin)
 
 -- a page that says that the user has signed in
 resumes_same : (T U : Trace) → SameLooks T U → (page : ℕ)
     → filter_map but_cookies (idpclose_effects (world_at T) (cookies_with T) (known_at T) (windows_of T) (page_at T page))
     ≡ filter_map but_cookies (idpclose_effects (world_at U) (cookies_with U) (known_at U) (windows_of U) (page_at U page))
 resumes_same T U h page =
-    but_idpclose (world_at T) (cookies_with T) (cookies_with U) (known_at T) (windows_of T) (page_at T page)
+    but_idpclose (world_at T) (cookies_with T) (cookies_with U) (cookies_agree T U) (known_at T) (windows_of T) (page_at T page)
     ∙ ap₂ (λ w o. filter_map but_cookies (idpclose_effects w (cookies_with U) (known_at T) (windows_of T) o)) (same_world T U h)
     (same_page T U h page)
     ∙ ap₂ (λ known waiting. filter_map but_cookies (idpclose_effects (world_at U) (cookies_with U) known waiting (page_at U page)))

@@ -3,6 +3,7 @@ use Rattle.std.proofs.KnownBytes.{Appends-trans, Appends-kept}
 use Rattle.std.proofs.Math.Seq.{take-add}
 use Rattle.std.proofs.lemmas.Grind.{common_steps}
 use Rattle.std.proofs.lemmas.Result.{err_from_is_err_and}
+use Rattle.std.proofs.lemmas.List.{length-take}
 use Rattle.fed_io.proofs.source.put_all.Goals as goal
 
 -- `&bytes[at..]` is what stands behind `at`
@@ -15,6 +16,16 @@ returns-in_err-at-clause-bytes g c =
     rw p.1 (
       take c.loop-at.at c.args.bytes.now,
       (drop c.loop-at.at c.args.bytes.now, take-append-drop c.loop-at.at c.args.bytes.now),
+      Appends-kept _ _ _ _ c.loop-at.invariant.taken c.in_err-at.ensures.bytes,
+    )
+
+pub returns-in_err-at-clause-less : goal.returns-in_err-at-clause-less
+returns-in_err-at-clause-less g c =
+    let p = err_from_is_err_and c.from_residual.result c.from_residual.ensures.1 in
+    rw p.1 (
+      take c.loop-at.at c.args.bytes.now,
+      (drop c.loop-at.at c.args.bytes.now, take-append-drop c.loop-at.at c.args.bytes.now),
+      simp (length-take) (omega arith),
       Appends-kept _ _ _ _ c.loop-at.invariant.taken c.in_err-at.ensures.bytes,
     )
 

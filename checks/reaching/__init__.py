@@ -1,0 +1,1 @@
+"""What `checks/reached` is made of."""

@@ -1,0 +1,4 @@
+pub mod Members
+pub mod Check
+pub mod Stage
+pub mod Laws

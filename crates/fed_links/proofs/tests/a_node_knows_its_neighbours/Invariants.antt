@@ -1,4 +1,0 @@
-use Rattle.fed_links.proofs.tests.a_node_knows_its_neighbours.Given as goal
-
-abbrev pub ghosts-looking : goal.ghosts-looking
-ghosts-looking g a = record { name = a.blank.name; parts = a.blank.parts }

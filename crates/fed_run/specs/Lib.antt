@@ -1,0 +1,10 @@
+pub mod Run
+pub mod Text
+pub mod Words
+pub mod Told
+pub mod Streams
+pub mod Checks
+pub mod Ends
+pub mod Alike
+pub mod Make
+pub mod Memory

@@ -1,0 +1,82 @@
+//! The form `twin`: what is told of the two scripts of a source, once it was read whole.
+ghost use Rattle.std.specs.Prelude.{◌≡◌, ◌≤◌, ◌<◌, ◌+◌, ◌++◌, ◌⊎◌, length, List, ℕ, Some, IfOk, IfSome};
+ghost use Rattle.std.specs.Io.KnownBytes.{Appends, Keeps, IsAtEnd};
+ghost use Rattle.fed_io.specs.Io.{Rose, AppendsLess};
+ghost use Rattle.fed_run.specs.declared.form.Form.TheVariants.{Twin};
+ghost use Rattle.fed_run.specs.Ends.{EndsAs, Writes, WritesLess, EndsTwin, IsWhole};
+ghost use Rattle.fed_run.specs.Run.{TakesAtMost, TakesExactly, NoneRose};
+
+use crate::ran::Ran;
+use crate::read::{LIMIT, ReadEnd, read_all};
+use crate::status::Status;
+use crate::twin::{twin, twin_of_front};
+use fed_io::{NoRoom, Sink, Source, put_all};
+use std::alloc::Global;
+
+// Writes what is told, and answers how the program ends. Of too many bytes nothing is written.
+fn write<K: Sink>(sink: &mut K, ran: &Ran) -> Status
+    ensures ends { (result ≡ ran.now.status) ⊎ (result ≡ Status.WriteFault) }
+    ensures nothing { ran.now.status ≡ Status.TooLong → (result ≡ Status.TooLong) × Keeps (K.taken sink.old) (K.taken sink.new) }
+    ensures took { ¬ (ran.now.status ≡ Status.TooLong) → ¬ (result ≡ Status.WriteFault)
+        → Appends (K.taken sink.old) (K.taken sink.new) ran.now.text.items }
+    ensures fault { ¬ (ran.now.status ≡ Status.WriteFault) → result ≡ Status.WriteFault
+        → Rose (K.faults sink.old) (K.faults sink.new) × AppendsLess (K.taken sink.old) (K.taken sink.new) ran.now.text.items }
+    ensures faults { K.faults sink.old ≤ K.faults sink.new }
+{
+    if ran.status == Status::TooLong {
+        return Status::TooLong;
+    }
+    match put_all(sink, ran.text.as_slice()) {
+        Ok(()) => ran.status,
+        Err(_) => Status::WriteFault,
+    }
+}
+
+// What is told of the bytes of a source, of which these are all, or the first up to one more than the limit. Of more bytes
+// than the limit only those within it are looked at.
+fn answer(alloc: Global, bytes: &[u8]) -> Result<Ran, NoRoom>
+    requires { length bytes.now ≤ LIMIT + 1 }
+    ensures { IfOk result (λ ran. (more : List ℕ) → IsWhole LIMIT bytes.now more
+        → EndsTwin LIMIT (bytes.now ++ more) ran.status ran.text.items) }
+{
+    if bytes.len() > LIMIT {
+        return twin_of_front(alloc, &bytes[..LIMIT]);
+    }
+    twin(alloc, bytes)
+}
+
+/// Reads the source whole, at most 67,108,864 bytes, and writes whether its two scripts are twins.
+#[inline(never)]
+pub fn tell_twins<S: Source, K: Sink>(alloc: Global, source: &mut S, sink: &mut K) -> Status
+    ensures ends { result ≡ Status.Usage → ⊥ }
+    ensures done { result ≡ Status.Done → IsAtEnd (S.left source.new)
+        × IfSome (S.left source.old) (λ bytes. Writes LIMIT (Some Twin) bytes Status.Done (K.taken sink.old) (K.taken sink.new)) }
+    ensures not_twins { result ≡ Status.NotTwins → IsAtEnd (S.left source.new)
+        × IfSome (S.left source.old) (λ bytes. Writes LIMIT (Some Twin) bytes Status.NotTwins (K.taken sink.old) (K.taken sink.new)) }
+    ensures bad_script { result ≡ Status.BadScript → IfSome (S.left source.old)
+        (λ bytes. (length bytes ≤ LIMIT → IsAtEnd (S.left source.new)) × Writes LIMIT (Some Twin) bytes Status.BadScript
+        (K.taken sink.old) (K.taken sink.new)) }
+    ensures too_long { result ≡ Status.TooLong → Keeps (K.taken sink.old) (K.taken sink.new)
+        × IfSome (S.left source.old) (λ bytes. Writes LIMIT (Some Twin) bytes Status.TooLong (K.taken sink.old) (K.taken sink.new)) }
+    ensures past_limit { result ≡ Status.TooLong → TakesExactly (S.left source.old) (S.left source.new) (LIMIT + 1) }
+    ensures read_fault { result ≡ Status.ReadFault
+        → Rose (S.faults source.old) (S.faults source.new) × Keeps (K.taken sink.old) (K.taken sink.new) }
+    ensures write_fault { result ≡ Status.WriteFault → Rose (K.faults sink.old) (K.faults sink.new)
+        × IfSome (S.left source.old) (λ bytes. WritesLess LIMIT (Some Twin) bytes (K.taken sink.old) (K.taken sink.new)) }
+    ensures no_room { result ≡ Status.NoRoom → Keeps (K.taken sink.old) (K.taken sink.new) }
+    ensures complete { NoneRose (S.faults source.old) (S.faults source.new) → NoneRose (K.faults sink.old) (K.faults sink.new)
+        → IfSome (S.left source.old) (λ bytes. EndsAs LIMIT (Some Twin) bytes result ⊎ (result ≡ Status.NoRoom)) }
+    ensures takes { TakesAtMost (S.left source.old) (S.left source.new) (LIMIT + 1) }
+    ensures source_faults { S.faults source.old ≤ S.faults source.new }
+    ensures sink_faults { K.faults sink.old ≤ K.faults sink.new }
+{
+    let bytes = match read_all(alloc, source) {
+        Ok(bytes) => bytes,
+        Err(ReadEnd::Fault) => return Status::ReadFault,
+        Err(ReadEnd::NoRoom) => return Status::NoRoom,
+    };
+    match answer(alloc, bytes.as_slice()) {
+        Ok(ran) => write(sink, &ran),
+        Err(_) => Status::NoRoom,
+    }
+}

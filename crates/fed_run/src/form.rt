@@ -1,0 +1,77 @@
+//! The forms of the command line.
+ghost use Rattle.std.specs.Prelude.{◌≡◌, IfSome};
+ghost use Rattle.fed_run.specs.Words as spec;
+ghost use Rattle.fed_run.specs.Words.{MayBe};
+
+use fed_io::Text;
+use itoa::Buffer;
+
+/// A form of the command line.
+#[derive(Clone, Copy, Debug, PartialEq, Eq)]
+pub enum Form {
+    /// The word `run`: a script's transcript.
+    Run,
+    /// The word `check`: the bad lines of a script, and the members that are read over.
+    Check,
+    /// The word `twin`: whether two scripts are twins, and how far they are compared.
+    Twin,
+    /// The words `make N`: the summary of a script of `N` calls, from 1 to 20,000.
+    Make(u32),
+}
+
+// The form of one word.
+fn form_named(word: &str) -> Option<Form>
+    ensures { result ≡ spec.form_named word.now }
+{
+    match word {
+        "run" => Some(Form::Run),
+        "check" => Some(Form::Check),
+        "twin" => Some(Form::Twin),
+        _ => None,
+    }
+}
+
+// Whether so many calls may be made, and the word is the number in decimal.
+fn names_calls(calls: u32, word: &str) -> bool
+    ensures { result ≡ spec.names_calls calls word.now }
+{
+    let mut buffer = Buffer::new();
+    0 < calls && calls < 20_001 && buffer.format(calls) == word
+}
+
+// The number of calls that a word names.
+fn calls_named(word: &str) -> Option<u32>
+    ensures { result ≡ spec.calls_named word.now }
+{
+    let Ok(calls) = word.parse::<u32>() else {
+        return None;
+    };
+    if names_calls(calls, word) {
+        Some(calls)
+    } else {
+        None
+    }
+}
+
+// The form of a word and a number.
+fn form_numbered(word: &str, number: &str) -> Option<Form>
+    ensures { result ≡ spec.form_numbered word.now number.now }
+{
+    match word {
+        "make" => calls_named(number).map(|calls| Form::Make(calls)),
+        _ => None,
+    }
+}
+
+/// The form of the words of a command line, which are without the program's name. It takes no memory.
+pub fn form_of(words: &[Text]) -> Option<Form>
+    ensures form { result ≡ spec.form_of words.now }
+    ensures calls { IfSome result MayBe }
+{
+    match words {
+        [word] => form_named(word.as_str()),
+        [word, number] => form_numbered(word.as_str(), number.as_str()),
+        [] => None,
+        [_, _, _, ..] => None,
+    }
+}

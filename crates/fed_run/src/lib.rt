@@ -1,0 +1,25 @@
+//! What the program does with a session script, over any source and any sink.
+#![tactic(auto)]
+
+mod answer;
+mod check;
+mod form;
+pub mod laws;
+mod make;
+mod memory;
+mod pieces;
+mod print;
+mod ran;
+mod read;
+mod run;
+mod status;
+mod stop;
+mod stream;
+mod summary;
+mod top;
+mod twin;
+
+pub use make::make_script;
+pub use memory::fedcm_in_memory;
+pub use status::Status;
+pub use top::fedcm;

@@ -1,4 +1,0 @@
-use Rattle.fed_table.proofs.tests.a_call_has_a_node_of_its_own.Given as goal
-
-abbrev pub ghosts-numbering : goal.ghosts-numbering
-ghosts-numbering g a = record { name = a.blank.name; parts = a.blank.parts }

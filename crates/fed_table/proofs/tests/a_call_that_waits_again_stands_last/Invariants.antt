@@ -1,4 +1,0 @@
-use Rattle.fed_table.proofs.tests.a_call_that_waits_again_stands_last.Given as goal
-
-abbrev pub ghosts-waiting : goal.ghosts-waiting
-ghosts-waiting g a = record { name = a.blank.name; parts = a.blank.parts }

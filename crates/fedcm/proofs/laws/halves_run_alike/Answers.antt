@@ -1,5 +1,0 @@
-use Rattle.fedcm.proofs.halves.Alike.{halves_run_alike_lem}
-use Rattle.fedcm.proofs.laws.halves_run_alike.Goals as goal
-
-pub returns : goal.returns
-returns c = halves_run_alike_lem

@@ -1,3 +1,0 @@
--- The script of `make N`, and what is counted of its run.
-pub mod Lines
-pub mod Tally

@@ -1,6 +1,0 @@
--- The members, one put after the other.
-use Rattle.fedcm.proofs.print.print_not_twins.Goals as goal
-
-pub returns-clause-ok : goal.returns-clause-ok
-returns-clause-ok c =
-    rw (c.in_ok-text-2.ensures, c.in_ok-count.ensures, c.in_ok-text.ensures, c.new.ensures, c.as_str.ensures) at c.append_line.ensures.ok

@@ -1,0 +1,3 @@
+-- Scripts that differ in cookies alone, or in one token.
+pub mod Jars
+pub mod Tokens

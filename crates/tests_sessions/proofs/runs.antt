@@ -1,0 +1,2 @@
+-- A session takes the events of a script.
+pub mod Runs

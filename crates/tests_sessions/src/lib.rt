@@ -1,0 +1,17 @@
+//! Tests of sessions, and of two scripts.
+#![tactic(auto)]
+
+pub mod callers;
+pub mod laws;
+#[cfg(test)]
+mod lines;
+#[cfg(test)]
+mod pages;
+#[cfg(test)]
+mod permissions;
+#[cfg(test)]
+mod steps;
+#[cfg(test)]
+mod twins;
+#[cfg(test)]
+mod views;
