@@ -8,7 +8,7 @@ from .scripts import NEXT
 
 DONE, USAGE, BAD, TOO_LONG, NOT_TWINS = 0, 1, 2, 6, 7
 # With words that are a form, and where reading and writing do not fail and memory suffices.
-STATUSES = {"run": {DONE, BAD, TOO_LONG}, "twin": {DONE, BAD, TOO_LONG, NOT_TWINS}, "make": {DONE}}
+STATUSES = {"run": {DONE, BAD, TOO_LONG}, "check": {DONE, BAD, TOO_LONG}, "twin": {DONE, BAD, TOO_LONG, NOT_TWINS}, "make": {DONE}}
 # The record that comes last, by the word and the status; none where the input is too long.
 LAST = {("run", DONE): "end", ("run", BAD): "bad", ("twin", DONE): "twins", ("twin", BAD): "bad", ("twin", NOT_TWINS): "not-twins"}
 LAST["make", DONE] = "summary"
@@ -21,6 +21,7 @@ EVENT_RECORDS = {
         ("call dialog provider site step", "detail"),
     ],
     "window": [("call provider url", "")],
+    "dropped": [("call provider step", "detail")],
     "result": [("auto call page provider see token", ""), ("call page see", ""), ("call page see step", "code detail url")],
     "ignored": [("why", "")],
 }
@@ -31,7 +32,7 @@ LAST_RECORDS = {
     "not-twins": ("clause event", ""),
     "summary": ("calls dialogs events ignored mix requests tokens", ""),
 }
-STEPS = """call-pending config-scheme no-activation no-site silent-prevented logged-out well-known-reply well-known-shape well-known-other
+STEPS = """call-pending config-scheme no-activation no-site silent-prevented active-many provider-twice logged-out well-known-reply well-known-shape well-known-other
     config-reply config-shape endpoint-origin accounts-reply accounts-shape accounts-empty accounts-hints silent-no-account user-cancelled
     window-shut aborted assertion-reply assertion-cors assertion-shape provider-error not-connected no-disconnect disconnect-reply
     disconnect-cors disconnect-shape"""
@@ -80,7 +81,7 @@ def need(holds, what):
 
 def form_of(words):
     """The first word, where the words are a form of the program."""
-    if words in ([b"run"], [b"twin"]):
+    if words in ([b"run"], [b"check"], [b"twin"]):
         return words[0].decode()
     if len(words) == 2 and words[0] == b"make" and re.fullmatch(rb"[1-9][0-9]{0,4}", words[1]) and int(words[1]) <= 20_000:
         return "make"
@@ -185,6 +186,25 @@ def check_last(record, wanted):
     need(wanted != "bad" or ("member" in record) == (record["cause"] == "member"), "a member beside another cause")
 
 
+def check_finding(record):
+    """What `check` says of a bad line, or of a member that is read over, whatever its name is."""
+    need(record["out"] in ("bad", "unread"), f"a finding {record['out']!r}")
+    if record["out"] == "bad":
+        check_last(record, "bad")
+    else:
+        need(check_members(record, "line member", ""), f"the members of a finding: {sorted(record)}")
+        need(type(record["line"]) is int and isinstance(record["member"], str), "the line or the member of a finding")
+
+
+def check_findings(records, status, source):
+    lines = lines_in(source)
+    for record in records:
+        check_finding(record)
+    numbers = [record["line"] for record in records]
+    need(numbers == sorted(numbers) and all(1 <= number <= lines + 1 for number in numbers), "the lines of findings")
+    need(status == TOO_LONG or (status == BAD) == any(record["out"] == "bad" for record in records), f"status {status} by the findings")
+
+
 def lines_in(source):
     """How many lines an input has."""
     return source.count(b"\n") + (not source.endswith(b"\n") and source != b"")
@@ -233,6 +253,9 @@ def check(words, source, status, written):
     check_status(form, status, source)
     need(not written or written.endswith(b"\n"), "the last line does not end")
     records = [record_of(line) for line in written.split(b"\n")[:-1]]
+    if form == "check":
+        check_findings(records, status, source)
+        return
     wanted = LAST.get((form, status))
     last = None
     if wanted:
