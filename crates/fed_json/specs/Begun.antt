@@ -3,7 +3,7 @@ use Rattle.serde_json.specs.Data.{Data, null, boolean, string, array, object, no
 use Rattle.serde_json.specs.Read.{number_of}
 use Rattle.fed_json.specs.declared.reading.Begun.{Begun}
 use Rattle.fed_json.specs.declared.reading.Begun.TheVariants.{Null, Bool, Number, Text, Array, Object}
-use Rattle.fed_json.specs.Part.{number_or_negative}
+use Rattle.fed_json.specs.Value.{number_or_negative}
 
 -- the data of a value that begins so; an array and an object stand for all such
 abbrev pub begun_data : Begun → Data

@@ -1,4 +1,3 @@
 pub mod Value
-pub mod Part
 pub mod Values
 pub mod Begun

@@ -7,7 +7,7 @@ use Rattle.serde_json.specs.Data.{Data, null, boolean, string, array, object, It
 use Rattle.serde_json.specs.Read.{number_of, of_json, of_items, of_members, converted}
 use Rattle.fed_io.specs.declared.error.Fault.{Fault}
 use Rattle.fed_io.specs.declared.error.Fault.TheVariants.{Step, NoRoom}
-use Rattle.fed_json.specs.Part.{number_or_negative}
+use Rattle.fed_json.specs.Value.{number_or_negative}
 use Rattle.fed_json.specs.declared.reading.Begun.{Begun}
 use Rattle.fed_json.specs.declared.reading.Invalid.{Invalid}
 use Rattle.fed_json.specs.declared.reading.Begun.TheVariants.{Null, Bool, Number, Text, Array, Object}

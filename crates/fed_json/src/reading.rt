@@ -1,4 +1,4 @@
-//! The values of a text, one after another, with no tape.
+//! The values of a text, one after another.
 ghost use Rattle.std.specs.Prelude.{◌≡◌, ◌==◌, ◌<◌, ◌≤◌, ⊤, List, ◌∷◌, Some, None, true, length, option_map, option_and_then};
 ghost use Rattle.std.specs.Prelude.{IfOk, IfSome, OnOk, MatchOption, MatchResult};
 ghost use Rattle.std.specs.Bool.{MatchBool};

@@ -35,10 +35,6 @@ abbrev pub member_of : {A : Type 0} → (Data → Option A) → List ℕ → Opt
 member_of kind name None = Wrong
 member_of kind name (Some ms) = member_found kind (get_member name ms)
 
--- the value under the name, of any kind
-abbrev pub value_under : List ℕ → Data → Member Data
-value_under name d = member_of Some name (as_object d)
-
 -- the text under the name
 abbrev pub text_under : List ℕ → Data → Member (List ℕ)
 text_under name d = member_of as_str name (as_object d)

@@ -114,7 +114,7 @@ abbrev pub AreRead : UsedState → List Numbered → Type 0
 AreRead used [] = ⊤
 AreRead used (n ∷ ns) = MayFollow used n.event × AreRead (used_after n.event used) ns
 
--- A readable script has at most 1,000,000 events, no two gets of one number, one to ten providers for each get,
--- and no unknown status.
+-- A readable script has at most 1,000,000 events, no two gets or disconnects of one number, one to ten
+-- providers for each get, and no unknown status.
 abbrev pub IsRead : Script → Type 0
 IsRead script = AreRead (unused script.header.now) script.events

@@ -1,8 +1,8 @@
 //! Laws of the definitions.
 ghost use Rattle.fed_script.specs.Laws.{LinesAreTheScript, ScriptsAreReadable};
 
-/// Each script that bytes are read as is readable: it has at most 1,000,000 events, no two gets of one number, one
-/// to ten providers for each get, and no unknown status.
+/// Each script that bytes are read as is readable: it has at most 1,000,000 events, no two gets or
+/// disconnects of one number, one to ten providers for each get, and no unknown status.
 pub fn scripts_are_readable()
     ensures { ScriptsAreReadable }
 {}

@@ -16,8 +16,8 @@ use std::alloc::Global;
 use std::marker::Model;
 
 /// A readable script: its header, and its events with the numbers of their lines. Contracts see it as the script of the
-/// definitions, and know that it can be read: it has at most 1,000,000 events, no two gets of one number, one to ten
-/// providers for each get, and no unknown status.
+/// definitions, and know that it can be read: it has at most 1,000,000 events, no two gets or disconnects of one
+/// number, one to ten providers for each get, and no unknown status.
 pub struct Script {
     header: Header,
     events: Items<Numbered>,

@@ -4,7 +4,7 @@ use Rattle.std.specs.Prelude.{Err}
 use Rattle.serde_json.specs.Data.{Num, Data, null, boolean, number, string, array, object}
 use Rattle.serde_json.specs.Find.{as_str, as_array, as_object}
 use Rattle.serde_json.specs.Read.{number_of}
-use Rattle.fed_json.specs.Part.{number_or_negative}
+use Rattle.fed_json.specs.Value.{number_or_negative}
 use Rattle.fed_json.specs.declared.reading.Begun.{Begun}
 use Rattle.fed_json.specs.declared.reading.Begun.TheVariants as begun
 use Rattle.fed_json.specs.declared.reading.Begun.TheVariants.{Null, Number, Text, Array, Object}

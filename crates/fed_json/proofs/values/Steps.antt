@@ -16,7 +16,7 @@ use Rattle.json.proofs.Grammar.{items_end as json_items_end, items_more as json_
 use Rattle.json.proofs.Grammar.{members_more as json_members_more, members_no_key as json_members_no_key}
 use Rattle.serde_json.specs.Data.{Num, Data, null, boolean, number, string, array, object, Items, no_items, item, Members, no_members, put}
 use Rattle.serde_json.specs.Read.{number_of, of_json, of_items, of_members, converted, read}
-use Rattle.fed_json.specs.Part.{number_or_negative}
+use Rattle.fed_json.specs.Value.{number_or_negative}
 use Rattle.fed_json.specs.declared.reading.Begun.{Begun}
 use Rattle.fed_json.specs.declared.reading.Begun.TheVariants as begun
 use Rattle.fed_json.specs.declared.reading.Begun.TheVariants.{Null, Number, Text, Array, Object}

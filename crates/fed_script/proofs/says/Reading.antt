@@ -12,7 +12,7 @@ use Rattle.serde_json.specs.Read.{number_of}
 use Rattle.serde_json.proofs.Views.{get_member-put, get_member-put_other}
 use Rattle.fed_json.specs.declared.reading.Begun.{Begun}
 use Rattle.fed_json.specs.declared.reading.Begun.TheVariants.{Null, Bool, Number, Text, Array, Object}
-use Rattle.fed_json.specs.Part.{number_or_negative}
+use Rattle.fed_json.specs.Value.{number_or_negative}
 use Rattle.fed_json.specs.Values.{value_in, items_in, Took, IsBegun}
 use Rattle.fed_json.proofs.values.Steps.{items_end, items_more, items_stop}
 use Rattle.fed_script.specs.declared.said.Said.{Said}

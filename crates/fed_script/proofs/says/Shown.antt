@@ -6,7 +6,7 @@ use Rattle.serde_json.specs.Read.{number_of}
 use Rattle.fed_json.specs.declared.reading.Begun.{Begun}
 use Rattle.fed_json.specs.declared.reading.Begun.TheVariants.{Null, Bool, Number, Text, Array, Object}
 use Rattle.fed_json.specs.Begun.{begun_data}
-use Rattle.fed_json.specs.Part.{number_or_negative}
+use Rattle.fed_json.specs.Value.{number_or_negative}
 use Rattle.fed_script.specs.declared.cause.MemberName.{MemberName}
 use Rattle.fed_script.specs.declared.cause.MemberName.TheVariants as names
 use Rattle.fed_script.specs.declared.said.Said.{Said}
