@@ -1,7 +1,8 @@
 #!/usr/bin/env python3
-"""Runs the built program over page loads that store cookies: PARTIES parties with 180 cookies each, 90 of them a load, and the
-same loads once more, which replace each cookie in its place. Reports seconds of a processor, cookies a second, peak memory, and
-instructions a cookie where valgrind is found and the input is not long, for each number of parties.
+"""Runs the built program over page loads that store cookies: PARTIES parties with 180 cookies each, 90 of them a load, and as
+many loads once more: of the same cookies, which are replaced in their places, or of new ones, each of which makes another go.
+Reports seconds of a processor, cookies a second, peak memory, and instructions a cookie where valgrind is found and the input is
+not long, for each number of parties.
 
     bench/cookies.py [PARTIES ..]
 """
@@ -20,10 +21,10 @@ def reply(first, value):
     return f"HTTP/1.1 200 OK\\r\\n{fields}\\r\\n"
 
 
-def script(parties):
-    for value in ("one", "two"):
+def script(parties, second):
+    for value, begin in (("one", 0), ("two", second)):
         for party in range(parties):
-            for first in (0, A_LOAD):
+            for first in (begin, begin + A_LOAD):
                 yield (
                     f'{{"do":"load","page":1,"url":"https://p{party}.example/",'
                     f'"text":"{reply(first, value)}"}}\n'
@@ -32,15 +33,16 @@ def script(parties):
 
 def main():
     counts = [int(word) for word in sys.argv[1:]] or [100, 1000]
-    print("| parties | cookies kept | cookies written | input MB | seconds | written a second | peak MB | instructions a cookie |")
-    print("|---|---|---|---|---|---|---|---|")
+    print("| parties | the second time | cookies kept | cookies written | input MB | seconds | written a second | peak MB | instructions a cookie |")
+    print("|---|---|---|---|---|---|---|---|---|")
     for parties in counts:
-        _, size, seconds, peak, count = measured(HEADER, script(parties))
-        written = parties * 360
-        print(
-            f"| {parties} | {parties * 180} | {written} | {size:.1f} "
-            f"| {seconds:.2f} | {written / seconds:,.0f} | {peak:.0f} | {each(count, written)} |"
-        )
+        for what, second in (("in their places", 0), ("new ones", 2 * A_LOAD)):
+            _, size, seconds, peak, count = measured(HEADER, script(parties, second))
+            written = parties * 360
+            print(
+                f"| {parties} | {what} | {parties * 180} | {written} | {size:.1f} "
+                f"| {seconds:.2f} | {written / seconds:,.0f} | {peak:.0f} | {each(count, written)} |"
+            )
 
 
 if __name__ == "__main__":

@@ -33,7 +33,7 @@ LAST_RECORDS = {
     "summary": ("calls dialogs events ignored mix requests tokens", ""),
 }
 STEPS = """call-pending config-scheme no-activation no-site silent-prevented active-many provider-twice logged-out well-known-reply well-known-shape well-known-other
-    config-reply config-shape endpoint-origin accounts-reply accounts-shape accounts-empty accounts-hints silent-no-account user-cancelled
+    config-reply config-shape endpoint-origin config-other accounts-reply accounts-shape accounts-empty accounts-hints silent-no-account user-cancelled
     window-shut aborted assertion-reply assertion-cors assertion-shape provider-error not-connected no-disconnect disconnect-reply
     disconnect-cors disconnect-shape"""
 MEMBERS = """fedcm now rules what origin status page provider account url text raw time call mediation mode activation context providers
@@ -174,7 +174,7 @@ def check_event_record(record):
         need(record["disclosure"] != record["account"]["connected"], "what the prompt discloses")
     if "step" in record:
         step = record["step"]
-        need(("detail" in record) == (step.endswith("-reply") or step == "endpoint-origin"), f"the detail of {step}")
+        need(("detail" in record) == (step.endswith("-reply") or step in ("endpoint-origin", "config-other")), f"the detail of {step}")
         need(("code" in record) == (step == "provider-error"), f"the code of {step}")
         need(record.get("see", SEEN.get(step, "NetworkError")) == SEEN.get(step, "NetworkError"), f"what a page sees of {step}")
 

@@ -91,7 +91,7 @@ start_several world origin options = by_active world origin options (is_active o
 abbrev pub gathering_came : World → Facts → ℕ → Origin → Came → Outcome
 -- C36
 gathering_came world facts place provider Unawaited = ignored NotWaited
--- M5
+-- M5, M7a
 gathering_came world facts place provider (Refused failure) =
     after (Dropped place failure) (settles world (with_progress place (progress_is.Dropped failure) facts))
 -- M6

@@ -29,7 +29,7 @@ by_step (Err closed) = Err (step_of closed)
 
 -- how far it has come then, and what is done for it, where it has this place and this configuration URL
 abbrev pub opened_by : Result Parts FailStep → Progress
-opened_by (Ok wellknown) = progress_is.Reading (record { wellknown = false; config = None })
+opened_by (Ok wellknown) = progress_is.Reading (record { wellknown = None; config = None })
 opened_by (Err step) = progress_is.Dropped (plain step)
 
 abbrev pub opens_by : ℕ → Parts → Result Parts FailStep → List Effect

@@ -69,7 +69,7 @@ opening world mode provider =
     (is_gated mode (status_of world.login (origin_of provider.config)))
 
 abbrev pub opened : Result Parts Closed → Progress
-opened (Ok wellknown) = Reading (record { wellknown = false; config = None })
+opened (Ok wellknown) = Reading (record { wellknown = None; config = None })
 opened (Err closed) = Dropped (plain (step_of closed))
 
 -- how far it has come then
@@ -82,7 +82,7 @@ first_progress world mode provider = opened (opening world mode provider)
 pub data Came : Type 0 where
   -- it is not awaited
   Unawaited : Came
-  -- it is refused, as one of the first two
+  -- it is refused, as one of the first two, or these do not agree
   Refused : (failure : Failure) → Came
   -- it is good, and the other of the first two is awaited
   Waits : (replies : FirstReplies) → Came

@@ -57,7 +57,7 @@ refused world facts place provider failure =
 abbrev pub single_came : World → Facts → ℕ → Origin → Came → Outcome
 -- C36
 single_came world facts place provider Unawaited = ignored NotWaited
--- C8, C11
+-- C8, C10a, C11, C13a
 single_came world facts place provider (Refused failure) = fails failure
 -- C9, C12
 single_came world facts place provider (Waits replies) = stays

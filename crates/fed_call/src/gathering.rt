@@ -31,7 +31,7 @@ use crate::stages::At;
 use fed_consent::{Effect, Failure, Finish, Why};
 use fed_io::{Items, NoRoom};
 use fed_origin::{LoginStatus, ProviderOptions, ReplyKind, Stage};
-use fed_provider::{FirstReplies, Heard, SharedConfig};
+use fed_provider::{Heard, SharedConfig};
 use fed_status::Shared;
 use std::alloc::Global;
 
@@ -114,7 +114,7 @@ fn read_by(
 {
     match so_far {
         Progress::Reading(replies) => {
-            let replies = copy_of(replies)?;
+            let replies = replies.copy(alloc)?;
             let config = &provider.config;
             let heard = replies.hear(alloc, shared.rules, config, incoming.kind, incoming.raw)?;
             Ok(Taken::First(heard))
@@ -131,22 +131,8 @@ fn read_by(
     }
 }
 
-// The same first replies.
-fn copy_of(replies: &FirstReplies) -> Result<FirstReplies, NoRoom>
-    ensures { IfOk result (λ copy. copy ≡ replies.now) }
-{
-    let config = match &replies.config {
-        Some(config) => Some(config.copy()?),
-        None => None,
-    };
-    Ok(FirstReplies {
-        wellknown: replies.wellknown,
-        config,
-    })
-}
-
-// A first reply of the provider at this place came to this: it drops out (row M5), the other is awaited (row M6), or the accounts are
-// asked for (row M7).
+// A first reply of the provider at this place came to this: it drops out (row M5, and M7a where the files do not agree), the other is
+// awaited (row M6), or the accounts are asked for (row M7).
 fn hears(
     alloc: Global,
     shared: &Shared<'_>,

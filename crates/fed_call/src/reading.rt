@@ -21,7 +21,7 @@ use fed_provider::{FirstReplies, Heard, SharedConfig};
 use fed_status::Shared;
 use std::alloc::Global;
 
-/// A first reply of the only provider, after these: rows C8 to C13.
+/// A first reply of the only provider, after these: rows C8 to C13a.
 pub fn first_reply(
     alloc: Global,
     shared: &Shared<'_>,
@@ -42,8 +42,8 @@ pub fn first_reply(
     hears(alloc, begun, heard)
 }
 
-// A reply of the only provider came to this: the call fails (rows C8 and C11), awaits the other file (rows C9 and C12), or asks for the
-// accounts (rows C10 and C13).
+// A reply of the only provider came to this: the call fails (rows C8 and C11, and C10a and C13a where the files do not agree), awaits the
+// other file (rows C9 and C12), or asks for the accounts (rows C10 and C13).
 fn hears(alloc: Global, begun: Call, heard: Heard) -> Result<(CallState, Items<Effect>), NoRoom>
     requires one { IsTrue (is_one begun) }
     requires secure { IsTrue (is_https (scheme_of begun.provider.config)) }

@@ -27,6 +27,7 @@ provider_failure provider_steps.WellKnownOther = plain steps.WellKnownOther
 provider_failure (provider_steps.ConfigReply s) = detailed steps.ConfigReply (details.Reply s)
 provider_failure provider_steps.ConfigShape = plain steps.ConfigShape
 provider_failure (provider_steps.EndpointOrigin e) = detailed steps.EndpointOrigin (details.Member e)
+provider_failure (provider_steps.ConfigOther e) = detailed steps.ConfigOther (details.Member e)
 
 -- the failure where the accounts are refused, or none fits the hints
 abbrev pub accounts_failure : AccountsStep → Failure

@@ -8,6 +8,7 @@ use Rattle.fed_origin.specs.declared.stage.Stage.TheVariants.{Reading, Ended}
 use Rattle.fed_origin.specs.declared.stage.ReplyKind.{ReplyKind}
 use Rattle.fed_origin.specs.WebUrl.{origin_of}
 use Rattle.fed_suffix.specs.Rule.{RuleSet}
+use Rattle.fed_provider.specs.declared.wellknown.WellKnown.TheVariants.{Listed}
 use Rattle.fed_provider.specs.declared.config.Config.{Config}
 use Rattle.fed_provider.specs.declared.first_replies.FirstReplies.{FirstReplies}
 use Rattle.fed_provider.specs.declared.first_replies.Heard.{Heard}
@@ -47,11 +48,11 @@ provider_origin options = origin_of options.config
 
 -- no reply was taken
 abbrev pub none_taken : FirstReplies
-none_taken = record { wellknown = false; config = None }
+none_taken = record { wellknown = None; config = None }
 
--- both replies were taken, with this configuration
+-- both replies were taken, with this configuration: nothing is left to compare
 abbrev pub both_taken : Config → FirstReplies
-both_taken config = record { wellknown = true; config = Some config }
+both_taken config = record { wellknown = Some Listed; config = Some config }
 
 -- the call at this stage; a call that is over has no facts
 abbrev pub at_stage : Stage → DisconnectFacts → Option DisconnectFacts

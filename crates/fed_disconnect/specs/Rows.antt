@@ -72,7 +72,7 @@ asks_disconnect origin options None = fails (plain steps.NoDisconnect)
 asks_disconnect origin options (Some to) =
     moves Asserting (Send only_place (Disconnect to options.client options.hint origin))
 
--- by what a reply comes to (rows E5, E6, else row E13)
+-- by what a reply comes to (rows E5, E6, E8a, else row E13)
 abbrev pub by_heard : Origin → DisconnectOptions → Heard → Outcome
 by_heard origin options (heard.Refused step) = fails (provider_failure step)
 by_heard origin options (heard.Waits replies) = stays

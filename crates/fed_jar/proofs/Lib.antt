@@ -1,6 +1,7 @@
 pub mod order
 pub mod keys
 pub mod texts
-pub mod writes
+pub mod changes
 pub mod parties
+pub mod limit
 pub mod parts

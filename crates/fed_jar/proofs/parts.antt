@@ -2,4 +2,7 @@
 pub mod Lists
 pub mod Kept
 pub mod Put
+pub mod Drop
+pub mod Store
 pub mod Places
+pub mod Limited

@@ -1,5 +1,5 @@
 -- What contracts see of a Cookie, and of a jar: the list of its cookies, the party of each, and how many new keys ever entered.
-use Rattle.std.specs.Prelude.{ℕ, ◌+◌, Bool, ◌&&◌, List, [], ◌∷◌, Option, None, Some, bytes_eq, filter, fold, map, if◌then◌else◌}
+use Rattle.std.specs.Prelude.{ℕ, ◌+◌, Bool, ◌&&◌, List, [], ◌∷◌, Option, bytes_eq, filter, map, if◌then◌else◌}
 use Rattle.std.specs.List.{IsDistinct, list_any}
 use Rattle.fed_cookie.specs.declared.same_site.SameSite.{SameSite}
 
@@ -28,15 +28,6 @@ AreDistinct cookies = IsDistinct same_key cookies
 abbrev pub with_cookie : List StoredCookie → StoredCookie → List StoredCookie
 with_cookie [] cookie = cookie ∷ []
 with_cookie (c ∷ cs) cookie = if same_key cookie c then cookie ∷ cs else c ∷ with_cookie cs cookie
-
--- the cookies of a jar after more were written to it
-abbrev pub cookies_after : List StoredCookie → List StoredCookie → List StoredCookie
-cookies_after cookies writes = fold with_cookie cookies writes
-
--- the cookies after a write, or as they were where nothing is written
-abbrev pub written : List StoredCookie → Option StoredCookie → List StoredCookie
-written cookies None = cookies
-written cookies (Some cookie) = with_cookie cookies cookie
 
 -- a cookie of a jar, the party under which it is kept, and how many new keys had entered the jar before it
 pub record KeptCookie : Type 0 where
@@ -77,11 +68,3 @@ with_kept (k ∷ ks) new = if same_key new.cookie k.cookie then record k { cooki
 -- how many new keys ever entered, after the cookie
 abbrev pub entered_after : JarParts → StoredCookie → ℕ
 entered_after jar cookie = if has_key cookie (cookies_in jar) then jar.entered else jar.entered + 1
-
--- the jar after a write from a host of the party, or as it was where nothing is written
-abbrev pub jar_after : List ℕ → JarParts → Option StoredCookie → JarParts
-jar_after name jar None = jar
-jar_after name jar (Some cookie) = record {
-  kept = with_kept jar.kept (record { cookie = cookie; party = name; number = jar.entered });
-  entered = entered_after jar cookie;
-}

@@ -1,22 +1,15 @@
 -- The laws of the definitions.
-use Rattle.std.specs.Prelude.{◌≡◌, ℕ, true, false, List, []}
+use Rattle.std.specs.Prelude.{◌≡◌, ℕ, ◌≤◌, true, false, List, length, Some, None}
+use Rattle.std.specs.List.{AllByRecursion}
 use Rattle.url.specs.Parts.{Parts}
 use Rattle.fed_origin.specs.WebUrl.{host_of}
 use Rattle.fed_suffix.specs.Rule.{RuleSet}
 use Rattle.fed_suffix.specs.Registrable.{party}
-use Rattle.fed_jar.specs.Cookie.{StoredCookie, with_cookie, cookies_after}
-use Rattle.fed_jar.specs.Store.{is_of_party, part_of}
+use Rattle.fed_jar.specs.Cookie.{StoredCookie, JarParts, cookies_in}
+use Rattle.fed_jar.specs.Changes.{CookieKey, CookieChange, changed, changed_by, standing, domain_of, changes_party, changes_of_party, last_left, cookie_under}
+use Rattle.fed_jar.specs.Limit.{most_cookies, changes_from, stored, jar_after}
+use Rattle.fed_jar.specs.Store.{IsKeptBy, part_of}
 use Rattle.fed_jar.specs.Send.{jar_text}
-use Rattle.fed_jar.specs.Writes.{standing, cookie_text}
-
--- the cookies of a jar are the writes that stand
-abbrev pub JarIsStanding : Type 0
-JarIsStanding = (writes : List StoredCookie) → cookies_after [] writes ≡ standing writes
-
--- the Cookie field of a jar is that of the writes to it
-abbrev pub TextIsOfWrites : Type 0
-TextIsOfWrites = (rules : RuleSet) (url : Parts) (now : ℕ) (writes : List StoredCookie)
-    → jar_text rules url now (cookies_after [] writes) ≡ cookie_text rules url now writes
 
 -- two jars with the same cookies of the party of the URL's host give the same Cookie field
 abbrev pub TextIsOfParty : Type 0
@@ -24,25 +17,54 @@ TextIsOfParty = (rules : RuleSet) (url : Parts) (now : ℕ) (a b : List StoredCo
     → part_of rules (party rules (host_of url)) a ≡ part_of rules (party rules (host_of url)) b
     → jar_text rules url now a ≡ jar_text rules url now b
 
--- a write of a cookie of another party leaves the part of a party as it was
+-- a change of a cookie of another party leaves the part of a party as it was
 abbrev pub OtherPartsStay : Type 0
-OtherPartsStay = (rules : RuleSet) (name : List ℕ) (write : StoredCookie) (cookies : List StoredCookie)
-    → is_of_party rules name write ≡ false
-    → part_of rules name (with_cookie cookies write) ≡ part_of rules name cookies
+OtherPartsStay = (rules : RuleSet) (name : List ℕ) (change : CookieChange) (cookies : List StoredCookie)
+    → changes_party rules name change ≡ false
+    → part_of rules name (changed cookies change) ≡ part_of rules name cookies
 
--- the part of a party after a write of one of its cookies is that write to the part
-abbrev pub OwnPartIsWritten : Type 0
-OwnPartIsWritten = (rules : RuleSet) (name : List ℕ) (write : StoredCookie) (cookies : List StoredCookie)
-    → is_of_party rules name write ≡ true
-    → part_of rules name (with_cookie cookies write) ≡ with_cookie (part_of rules name cookies) write
+-- the part of a party after a change of one of its cookies is that change of the part
+abbrev pub OwnPartIsChanged : Type 0
+OwnPartIsChanged = (rules : RuleSet) (name : List ℕ) (change : CookieChange) (cookies : List StoredCookie)
+    → changes_party rules name change ≡ true
+    → part_of rules name (changed cookies change) ≡ changed (part_of rules name cookies) change
 
--- the part of a party after any writes is the party's writes to its part
-abbrev pub PartIsOfWrites : Type 0
-PartIsOfWrites = (rules : RuleSet) (name : List ℕ) (cookies writes : List StoredCookie)
-    → part_of rules name (cookies_after cookies writes) ≡ cookies_after (part_of rules name cookies) (part_of rules name writes)
+-- the part of a party after any changes is its part after the party's changes
+abbrev pub PartIsOfChanges : Type 0
+PartIsOfChanges = (rules : RuleSet) (name : List ℕ) (cookies : List StoredCookie) (changes : List CookieChange)
+    → part_of rules name (changed_by cookies changes) ≡ changed_by (part_of rules name cookies) (changes_of_party rules name changes)
 
--- two lists of writes with the same writes of the party of the URL's host give the same Cookie field
-abbrev pub TextIsOfPartyWrites : Type 0
-TextIsOfPartyWrites = (rules : RuleSet) (url : Parts) (now : ℕ) (a b : List StoredCookie)
-    → part_of rules (party rules (host_of url)) a ≡ part_of rules (party rules (host_of url)) b
-    → cookie_text rules url now a ≡ cookie_text rules url now b
+-- two lists of changes with the same changes of the party of the URL's host give the same Cookie field
+abbrev pub TextIsOfPartyChanges : Type 0
+TextIsOfPartyChanges = (rules : RuleSet) (url : Parts) (now : ℕ) (a b : List CookieChange)
+    → changes_of_party rules (party rules (host_of url)) a ≡ changes_of_party rules (party rules (host_of url)) b
+    → jar_text rules url now (standing a) ≡ jar_text rules url now (standing b)
+
+-- the cookies are of the party
+abbrev pub AreOfParty : RuleSet → List ℕ → List StoredCookie → Type 0
+AreOfParty rules name cookies = AllByRecursion (λ (cookie : StoredCookie). party rules cookie.domain ≡ name) cookies
+
+-- where cookies of one party are stored, cookies of that party alone stand or go
+abbrev pub OwnCookiesGo : Type 0
+OwnCookiesGo = (rules : RuleSet) (now : ℕ) (name : List ℕ) (cookies new : List StoredCookie) → AreOfParty rules name new
+    → AllByRecursion (λ change. party rules (domain_of change) ≡ name) (changes_from rules now cookies new)
+
+-- and which of them, is told by the cookies of that party alone
+abbrev pub GoneByOwn : Type 0
+GoneByOwn = (rules : RuleSet) (now : ℕ) (name : List ℕ) (a b new : List StoredCookie) → AreOfParty rules name new
+    → part_of rules name a ≡ part_of rules name b → changes_from rules now a new ≡ changes_from rules now b new
+
+-- where no more than the most cookies of a party stand, no more of them stand after any cookies are stored
+abbrev pub MostStay : Type 0
+MostStay = (rules : RuleSet) (now : ℕ) (name : List ℕ) (cookies new : List StoredCookie)
+    → length (part_of rules name cookies) ≤ most_cookies
+    → length (part_of rules name (changed_by cookies (changes_from rules now cookies new))) ≤ most_cookies
+
+-- the cookies of a jar after one is stored are its cookies after the changes that this makes
+abbrev pub JarIsChanged : Type 0
+JarIsChanged = (rules : RuleSet) (now : ℕ) (jar : JarParts) (cookie : StoredCookie) → IsKeptBy rules jar
+    → cookies_in (jar_after now (party rules cookie.domain) jar (Some cookie)) ≡ stored rules now (cookies_in jar) (Some cookie)
+
+-- a cookie stands exactly where the last change of its key stored it
+abbrev pub LastStands : Type 0
+LastStands = (key : CookieKey) (changes : List CookieChange) → cookie_under key (standing changes) ≡ last_left key None changes

@@ -1,7 +1,8 @@
 pub mod Cookie
 pub mod Send
 pub mod Store
-pub mod Writes
+pub mod Changes
+pub mod Limit
 pub mod Packed
 pub mod Parts
 pub mod Laws

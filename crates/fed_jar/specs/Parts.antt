@@ -1,5 +1,5 @@
 -- For private clauses: the lists of cookies by parties, and the jar that they make.
-use Rattle.std.specs.Prelude.{ℕ, ◌<◌, ◌≡◌, Bool, false, ⊤, List, [], ◌∷◌, ◌++◌, map, bytes_eq, nat_le, if◌then◌else◌}
+use Rattle.std.specs.Prelude.{ℕ, ◌<◌, ◌≡◌, Bool, false, not, ⊤, List, [], ◌∷◌, ◌++◌, filter, map, bytes_eq, nat_le, if◌then◌else◌}
 use Rattle.std.specs.Prelude.{Option, None, Some, is_some, option_map, slice_get}
 use Rattle.std.specs.List.{AllByRecursion, IsDistinct}
 use Rattle.std.specs.Map.{keys_of, lookup}
@@ -11,6 +11,8 @@ use Rattle.fed_jar.specs.declared.numbered.Lent.{Lent}
 use Rattle.fed_jar.specs.declared.party_cookies.PartyCookies.{PartyCookies}
 use Rattle.fed_jar.specs.declared.party_cookies.PartyCookies.TheVariants.{Empty, One, Many}
 use Rattle.fed_jar.specs.Cookie.{StoredCookie, KeptCookie, JarParts, AreDistinct, same_key, cookies_of}
+use Rattle.fed_jar.specs.Changes.{CookieKey, is_key}
+use Rattle.fed_jar.specs.Limit.{gone_with}
 use Rattle.fed_jar.specs.Send.{in_order}
 
 -- the cookies have the same name, domain and path
@@ -70,6 +72,25 @@ list_under name lists = option_map_or (λ list. list) (lookup (bytes_eq name) li
 abbrev pub put_under : List ℕ → Lists → Numbered → Lists
 put_under name [] new = (name, new ∷ []) ∷ []
 put_under name (l ∷ ls) new = if bytes_eq name l.0 then (l.0, put_numbered l.1 new) ∷ ls else l ∷ put_under name ls new
+
+-- the list without the cookie of the key
+abbrev pub dropped : Option CookieKey → List Numbered → List Numbered
+dropped None list = list
+dropped (Some key) list = filter (λ n. not (is_key key n.cookie)) list
+
+-- the cookie of the key goes from the list of the party
+abbrev pub drop_under : List ℕ → Lists → Option CookieKey → Lists
+drop_under name [] key = []
+drop_under name (l ∷ ls) key = if bytes_eq name l.0 then (l.0, dropped key l.1) ∷ ls else l ∷ drop_under name ls key
+
+-- of a party's list: the cookie is put, and then the one that it makes go is gone
+abbrev pub put_limited : ℕ → List Numbered → Numbered → List Numbered
+put_limited now list new = dropped (gone_with now (numbered_cookies list) new.cookie) (put_numbered list new)
+
+-- the same among all lists
+abbrev pub store_under : ℕ → List ℕ → Lists → Numbered → Lists
+store_under now name lists new =
+    drop_under name (put_under name lists new) (gone_with now (numbered_cookies (list_under name lists)) new.cookie)
 
 -- all cookies, one party after another
 abbrev pub all_kept : Lists → List KeptCookie

@@ -7,11 +7,12 @@ ghost use Rattle.fed_origin.specs.WebUrl.{host_of};
 ghost use Rattle.std.specs.Option.{option_copied};
 ghost use Rattle.fed_suffix.specs.Registrable.{party, registrable};
 ghost use Rattle.fed_cookie.specs.SetCookie.{HasNoLineEnd};
-ghost use Rattle.fed_jar.specs.Cookie.{AreDistinct, cookies_in, cookies_of, has_key, jar_after, kept_under, written};
-ghost use Rattle.fed_jar.specs.Parts.{AreOwn, IsPlace, list_under, put_under, same_numbered};
+ghost use Rattle.fed_jar.specs.Cookie.{AreDistinct, cookies_in, kept_under};
+ghost use Rattle.fed_jar.specs.Limit.{jar_after, stored};
+ghost use Rattle.fed_jar.specs.Parts.{AreOwn, IsPlace, list_under, same_numbered, store_under};
 ghost use Rattle.fed_jar.specs.Parts.{all_numbered, lent_cookies, lent_numbered, lists_of, numbered_cookies, numbered_of, smallest_first};
 ghost use Rattle.fed_jar.specs.Store.{IsKeptBy, cookie_of, is_of_party};
-ghost use Rattle.fed_jar.specs.Store as stored;
+ghost use Rattle.fed_jar.specs.Store as storing;
 ghost use Rattle.fed_jar.specs.Send as spec;
 
 use crate::lists::{
@@ -86,7 +87,9 @@ impl Jar {
     /// one registrable domain and no equal of it; it is Secure and the URL is http; it is
     /// `SameSite=None` and not Secure; its name begins with `__Secure-` and it is not Secure, or
     /// with `__Host-` and it is not Secure, has a Domain attribute or a path other than `/`. On
-    /// `true` the cookie stands in the place of the same name, domain and path, or last.
+    /// `true` the cookie stands in the place of the same name, domain and path, or last. Where it
+    /// is new so and its party already had 180 cookies, one of these is gone: the first whose
+    /// expiry is at or below the time, else the first.
     pub fn store(
         &mut self,
         rules: &Suffixes,
@@ -97,7 +100,8 @@ impl Jar {
         requires kept { IsKeptBy rules.now self.old }
         requires entered { self.old.entered < 2 ^ 64 - 1 }
         ensures ok { IfOk result (λ stored. stored ≡ is_some (cookie_of rules.now url.now now raw)) }
-        ensures value { OnOk result (cookies_in self.new ≡ written (cookies_in self.old) (cookie_of rules.now url.now now raw)) }
+        ensures value { OnOk result (cookies_in self.new
+            ≡ stored rules.now now (cookies_in self.old) (cookie_of rules.now url.now now raw)) }
         ensures err { OnErr result (self.new ≡ self.old) }
 
         // The cookies of every other party are as they were, in their order.
@@ -106,7 +110,8 @@ impl Jar {
 
         // A new cookie is kept under the host's party with the number of the new keys before it, and one that replaces another
         // under that one's party and number.
-        ensures parts { OnOk result (self.new ≡ jar_after (party rules.now (host_of url.now)) self.old (cookie_of rules.now url.now now raw)) }
+        ensures parts { OnOk result (self.new
+            ≡ jar_after now (party rules.now (host_of url.now)) self.old (cookie_of rules.now url.now now raw)) }
         ensures kept { IsKeptBy rules.now self.new }
     {
         self.write(rules, url, now, raw)
@@ -122,21 +127,22 @@ impl Jar {
         requires kept { IsKeptBy rules.now self.old }
         requires entered { self.old.entered < 2 ^ 64 - 1 }
         ensures ok { IfOk result (λ stored. stored ≡ is_some (cookie_of rules.now url.now now raw)) }
-        ensures parts { OnOk result (self.new ≡ jar_after (party rules.now (host_of url.now)) self.old (cookie_of rules.now url.now now raw)) }
+        ensures parts { OnOk result (self.new
+            ≡ jar_after now (party rules.now (host_of url.now)) self.old (cookie_of rules.now url.now now raw)) }
         ensures err { OnErr result (self.new ≡ self.old) }
     {
         let Some(host_only) = self.scope_of(rules, url, &raw) else {
             return Ok(false);
         };
         let cookie = cookie_from(self.alloc, url, now, &raw, host_only)?;
-        self.put(rules, url.host(), cookie)?;
+        self.put(rules, url.host(), now, cookie)?;
         Ok(true)
     }
 
     // Whether the cookie is for the host alone, or `None` where it is ignored.
     fn scope_of(&self, rules: &Suffixes, url: &WebUrl, raw: &RawCookie) -> Option<bool>
         requires { IsKeptBy rules.now self.now }
-        ensures { result ≡ stored.scope_of rules.now url.now raw.now }
+        ensures { result ≡ storing.scope_of rules.now url.now raw.now }
     {
         if is_refused_of(url, raw) {
             return None;
@@ -161,20 +167,29 @@ impl Jar {
         }
     }
 
-    // Puts the cookie under the party of the host, under which each cookie with its name, domain and
-    // path is kept.
-    fn put(&mut self, rules: &Suffixes, host: &Host, cookie: PackedCookie) -> Result<(), NoRoom>
+    // Puts the cookie, whose party is that of the host, under it.
+    fn put(
+        &mut self,
+        rules: &Suffixes,
+        host: &Host,
+        now: u64,
+        cookie: PackedCookie,
+    ) -> Result<(), NoRoom>
         requires kept { IsKeptBy rules.now self.old }
-        requires own { has_key cookie (cookies_in self.old)
-            ≡ has_key cookie (cookies_of (kept_under (party rules.now host.now) self.old.kept)) }
+        requires own { party rules.now cookie.domain ≡ party rules.now host.now }
         requires entered { self.old.entered < 2 ^ 64 - 1 }
-        ensures ok { OnOk result (self.new ≡ jar_after (party rules.now host.now) self.old (Some cookie)) }
+        ensures ok { OnOk result (self.new ≡ jar_after now (party rules.now host.now) self.old (Some cookie)) }
         ensures err { OnErr result (self.new ≡ self.old) }
     {
         let number = self.entered;
         let host_only = cookie.host_only();
         let new = Numbered { cookie, number };
-        let kept = keep(&mut self.parties, self.alloc, self.last, rules, host, new)?;
+        let writer = Writer {
+            rules,
+            host,
+            time: now,
+        };
+        let kept = keep(&mut self.parties, self.alloc, self.last, &writer, new)?;
         self.entered = after(number, kept.is_new);
         self.last = if host_only { kept.place } else { self.last };
         Ok(())
@@ -234,26 +249,33 @@ impl Jar {
     }
 }
 
+// Who stores a cookie, under whose party by the rules, and when.
+#[derive(Clone, Copy)]
+struct Writer<'a> {
+    rules: &'a Suffixes,
+    host: &'a Host,
+    time: u64,
+}
+
 // Puts the cookie into the list of the party of the host, of whose cookies one may stand at `last`.
 fn keep(
     parties: &mut Parties,
     alloc: Global,
     last: Place,
-    rules: &Suffixes,
-    host: &Host,
+    writer: &Writer<'_>,
     new: Numbered,
 ) -> Result<Kept, NoRoom>
     requires named { IsDistinct bytes_eq (keys_of (lists_of (λ key. key.items) parties.old.entries)) }
-    requires own { AreOwn rules.now (lists_of (λ key. key.items) parties.old.entries) }
+    requires own { AreOwn writer.now.rules.now (lists_of (λ key. key.items) parties.old.entries) }
     ensures ok { OnOk result (lists_of (λ key. key.items) parties.new.entries
-        ≡ put_under (party rules.now host.now) (lists_of (λ key. key.items) parties.old.entries) new) }
+        ≡ store_under writer.now.time (party writer.now.rules.now writer.now.host.now) (lists_of (λ key. key.items) parties.old.entries) new) }
     ensures fresh { IfOk result (λ kept. kept.is_new ≡ not (list_any (same_numbered new)
-        (list_under (party rules.now host.now) (lists_of (λ key. key.items) parties.old.entries)))) }
+        (list_under (party writer.now.rules.now writer.now.host.now) (lists_of (λ key. key.items) parties.old.entries)))) }
     ensures err { OnErr result (lists_of (λ key. key.items) parties.new.entries ≡ lists_of (λ key. key.items) parties.old.entries) }
 {
-    match place_by(parties, last, rules, host) {
-        Some(at) => keep_more(parties, alloc, at, new),
-        None => keep_first(parties, alloc, rules.party(host), new),
+    match place_by(parties, last, writer.rules, writer.host) {
+        Some(at) => keep_more(parties, alloc, at, writer.time, new),
+        None => keep_first(parties, alloc, writer.rules.party(writer.host), new),
     }
 }
 

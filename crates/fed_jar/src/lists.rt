@@ -5,7 +5,7 @@ ghost use Rattle.std.specs.Map.{keys_of};
 ghost use Rattle.fed_suffix.specs.Rule.{RuleSet};
 ghost use Rattle.fed_suffix.specs.Registrable.{party};
 ghost use Rattle.fed_jar.specs.Parts.{AreOwn, IsPlace, cookies_held};
-ghost use Rattle.fed_jar.specs.Parts.{lists_of, list_under, put_under, put_numbered, same_numbered, all_numbered, lent_numbered};
+ghost use Rattle.fed_jar.specs.Parts.{lists_of, list_under, put_limited, store_under, same_numbered, all_numbered, lent_numbered};
 
 use crate::numbered::{Lent, Numbered};
 use crate::party_cookies::PartyCookies;
@@ -66,7 +66,8 @@ pub struct Kept {
     pub place: Place,
 }
 
-/// The first cookie of a party: the party stands from it on, so none stands without a cookie.
+/// The first cookie of a party: the party stands from it on, so none stands without a cookie. It
+/// makes none go, whatever the time.
 pub fn keep_first(
     parties: &mut Parties,
     alloc: Global,
@@ -74,8 +75,8 @@ pub fn keep_first(
     new: Numbered,
 ) -> Result<Kept, NoRoom>
     requires { IsPlace party.now None (lists_of (λ key. key.items) parties.old.entries) }
-    ensures ok { OnOk result (lists_of (λ key. key.items) parties.new.entries
-        ≡ put_under party.now (lists_of (λ key. key.items) parties.old.entries) new) }
+    ensures ok { OnOk result ((now : ℕ) → lists_of (λ key. key.items) parties.new.entries
+        ≡ store_under now party.now (lists_of (λ key. key.items) parties.old.entries) new) }
     ensures fresh { IfOk result (λ kept. kept.is_new
         ≡ not (list_any (same_numbered new) (list_under party.now (lists_of (λ key. key.items) parties.old.entries)))) }
     ensures err { OnErr result (lists_of (λ key. key.items) parties.new.entries ≡ lists_of (λ key. key.items) parties.old.entries) }
@@ -92,34 +93,41 @@ pub fn keep_first(
     })
 }
 
-/// One more cookie of the party at the place: a new one, or one that takes the number of that
-/// which it replaces.
+/// One more cookie of the party at the place: one that takes the number of that which it replaces,
+/// or a new one, which makes another go where the party is full.
 pub fn keep_more(
     parties: &mut Parties,
     alloc: Global,
     at: usize,
+    now: u64,
     new: Numbered,
 ) -> Result<Kept, NoRoom>
     requires named { IsDistinct bytes_eq (keys_of (lists_of (λ key. key.items) parties.old.entries)) }
     requires there { at < length parties.old.entries }
     ensures ok { OnOk result ((name : List ℕ) → IsPlace name (Some at) (lists_of (λ key. key.items) parties.old.entries)
-        → lists_of (λ key. key.items) parties.new.entries ≡ put_under name (lists_of (λ key. key.items) parties.old.entries) new) }
+        → lists_of (λ key. key.items) parties.new.entries ≡ store_under now name (lists_of (λ key. key.items) parties.old.entries) new) }
     ensures fresh { IfOk result (λ kept. (name : List ℕ) → IsPlace name (Some at) (lists_of (λ key. key.items) parties.old.entries)
         → kept.is_new ≡ not (list_any (same_numbered new) (list_under name (lists_of (λ key. key.items) parties.old.entries)))) }
     ensures err { OnErr result (lists_of (λ key. key.items) parties.new.entries ≡ lists_of (λ key. key.items) parties.old.entries) }
 {
     match parties.get_index_mut(at) {
-        Some(cookies) => put(cookies, alloc, at, new),
+        Some(cookies) => put(cookies, alloc, at, now, new),
         None => unreachable!(),
     }
 }
 
-fn put(cookies: &mut PartyCookies, alloc: Global, at: usize, new: Numbered) -> Result<Kept, NoRoom>
-    ensures ok { OnOk result (cookies_held cookies.new ≡ put_numbered (cookies_held cookies.old) new) }
+fn put(
+    cookies: &mut PartyCookies,
+    alloc: Global,
+    at: usize,
+    now: u64,
+    new: Numbered,
+) -> Result<Kept, NoRoom>
+    ensures ok { OnOk result (cookies_held cookies.new ≡ put_limited now (cookies_held cookies.old) new) }
     ensures fresh { IfOk result (λ kept. kept.is_new ≡ not (list_any (same_numbered new) (cookies_held cookies.old))) }
     ensures err { OnErr result (cookies_held cookies.new ≡ cookies_held cookies.old) }
 {
-    let entered = cookies.put(alloc, new)?;
+    let entered = cookies.put(alloc, now, new)?;
     Ok(Kept {
         is_new: entered.is_new,
         place: Place {

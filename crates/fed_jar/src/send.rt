@@ -194,7 +194,8 @@ fn is_sent<'a>(
         && goes_to(rules, url.host(), site, last, cookie)
 }
 
-fn is_fresh(now: u64, expiry: Option<u64>) -> bool
+/// Whether there is no expiry, or one above the time.
+pub fn is_fresh(now: u64, expiry: Option<u64>) -> bool
     ensures { result ≡ spec.is_fresh now expiry }
 {
     match expiry {

@@ -15,7 +15,9 @@ use Rattle.fed_origin.specs.Origin.{origin_text, same_origin}
 use Rattle.fed_origin.specs.WebUrl.{origin_of}
 use Rattle.fed_suffix.specs.Rule.{RuleSet}
 use Rattle.fed_provider.specs.declared.config.Config.{Config}
+use Rattle.fed_provider.specs.declared.wellknown.WellKnown.{WellKnown}
 use Rattle.fed_provider.specs.Config.{ConfigOf}
+use Rattle.fed_provider.specs.WellKnown.{agrees}
 use Rattle.fed_accounts.specs.declared.account.Account.{Account}
 use Rattle.fed_accounts.specs.declared.step.AccountsStep.{AccountsStep}
 use Rattle.fed_token.specs.declared.step.TokenStep.{TokenStep}
@@ -381,21 +383,23 @@ first_in brought call (row ∷ rows) = option_or (first_in brought call rows) (b
 abbrev pub first_by : (Option Input → Option (List ℕ)) → ℕ → List Row → Event → Option (List ℕ)
 first_by brought call rows event = option_or (first_in brought call rows) (brought (input_to call event))
 
--- The first well-known file and the first configuration that the rows and the event bring to the call are good, and the event brings
--- one of the two.
+-- The first well-known file and the first configuration that the rows and the event bring to the call are good, they agree, and the
+-- event brings one of the two.
 pub record FilesAreGood (rules : RuleSet) (url : Parts) (call : ℕ) (since : List Row) (event : Event) : Type 0 where
   pub wellknown : List ℕ
   pub wellknown_came : first_by wellknown_brought call since event ≡ Some wellknown
-  pub names_it : wellknown_read rules url wellknown ≡ Ok tt
+  pub said : WellKnown
+  pub names_it : wellknown_read rules url wellknown ≡ Ok said
   pub file : List ℕ
   pub file_came : first_by config_brought call since event ≡ Some file
   pub config : Config
   pub holds : ConfigOf file url ≡ Ok config
+  pub agree : agrees said config ≡ None
   pub not_before : (first_in wellknown_brought call since ≡ None) ⊎ (first_in config_brought call since ≡ None)
 
 -- Why a provider is asked to disconnect: the call is a disconnect of a page that stands, with the origin that it had when the call began
 -- and neither loaded nor closed since, a permission of its page's origin and its provider's origin was kept when it began, and by the
--- event both files of its provider are good.
+-- event both files of its provider are good, and they agree.
 pub record DisconnectCause (T : Trace) (event : Event) (call : ℕ) : Type 0 where
   pub begun : Begun
   pub options : DisconnectOptions

@@ -64,8 +64,8 @@ pub fn permission_goes_by_disconnect()
 {}
 
 /// Where a call asks for a disconnect, its page stands and was neither loaded nor closed since it began, a permission of the page and the
-/// provider was kept when it began, and by the event both files of the provider are good. The request goes to the endpoint that the
-/// configuration names, with the call's own page, client and hint.
+/// provider was kept when it began, and by the event both files of the provider are good and agree. The request goes to the endpoint
+/// that the configuration names, with the call's own page, client and hint.
 pub fn disconnect_has_cause()
     ensures runs { OfRuns DisconnectHasCause }
     ensures sessions { OfSessions DisconnectHasCause }

@@ -2,3 +2,4 @@
 pub mod SiteText
 pub mod LastEndpoint
 pub mod Texts
+pub mod Named

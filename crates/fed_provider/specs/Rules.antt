@@ -7,10 +7,11 @@ use Rattle.fed_provider.specs.Config.{ConfigOf}
 use Rattle.fed_provider.specs.FirstReplies.{wellknown_read}
 use Rattle.fed_provider.specs.WellKnown.{WellKnownOf, WellKnownUrlOf}
 use Rattle.fed_provider.specs.declared.step.ProviderStep.{ProviderStep}
+use Rattle.fed_provider.specs.declared.wellknown.WellKnown.{WellKnown}
 use Rattle.fed_reply.specs.Steps.{◌>>=◌}
 
 -- what a reply with the well-known file says, by its URL
-abbrev pub file_by : Result Parts ProviderStep → Parts → List ℕ → Result (Unit {0}) ProviderStep
+abbrev pub file_by : Result Parts ProviderStep → Parts → List ℕ → Result WellKnown ProviderStep
 file_by base config raw = base >>= (λ url. WellKnownOf raw url config)
 
 -- its well-known URL is the one by these rules, and its files say what is kept of them

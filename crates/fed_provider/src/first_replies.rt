@@ -1,12 +1,12 @@
 //! The first two replies of a provider.
-ghost use Rattle.std.specs.Prelude.{◌≡◌, false, None, IfOk};
+ghost use Rattle.std.specs.Prelude.{◌≡◌, None, IfOk};
 ghost use Rattle.fed_origin.specs.WebUrl.{scheme_of};
 ghost use Rattle.fed_provider.specs.Config.{ConfigOf};
 ghost use Rattle.fed_provider.specs.FirstReplies as spec;
 
 use crate::config::config_answer;
-use crate::wellknown::{site_url, wellknown_answer};
-use crate::{ProviderStep, Rules, SharedConfig};
+use crate::wellknown::{agrees, site_url, wellknown_answer};
+use crate::{ProviderStep, Rules, SharedConfig, WellKnown};
 use fed_io::NoRoom;
 use fed_origin::{ReplyKind, Scheme, WebUrl};
 use std::alloc::Global;
@@ -14,8 +14,8 @@ use std::alloc::Global;
 /// What a call took of the first replies of a provider: the one with its well-known file and the one with its configuration,
 /// which come in any order.
 pub struct FirstReplies {
-    /// Whether a well-known reply was taken.
-    pub wellknown: bool,
+    /// What the well-known reply that was taken says.
+    pub wellknown: Option<WellKnown>,
     /// The configuration in the config reply that was taken.
     pub config: Option<SharedConfig>,
 }
@@ -46,12 +46,27 @@ pub enum Heard {
 impl FirstReplies {
     /// No reply was taken. It takes no memory.
     pub fn none() -> FirstReplies
-        ensures { result ≡ record { wellknown = false; config = None } }
+        ensures { result ≡ record { wellknown = None; config = None } }
     {
         FirstReplies {
-            wellknown: false,
+            wellknown: None,
             config: None,
         }
+    }
+
+    /// The same. It takes no memory.
+    pub fn copy(&self, alloc: Global) -> Result<FirstReplies, NoRoom>
+        ensures { IfOk result (λ copy. copy ≡ self.now) }
+    {
+        let wellknown = match &self.wellknown {
+            Some(file) => Some(file.copy(alloc)?),
+            None => None,
+        };
+        let config = match &self.config {
+            Some(config) => Some(config.copy()?),
+            None => None,
+        };
+        Ok(FirstReplies { wellknown, config })
     }
 
     /// What a reply of this kind comes to, from the provider with this configuration URL. One of each kind is taken. On want
@@ -89,7 +104,7 @@ impl FirstReplies {
         ensures { IfOk result (λ heard. heard ≡ spec.wellknown_heard self.wellknown self.config
             (spec.wellknown_read rules.now config.now raw.now)) }
     {
-        if self.wellknown {
+        if self.wellknown.is_some() {
             return Ok(Heard::NotWaited(self));
         }
         let read = wellknown_file(alloc, rules, config, raw)?;
@@ -114,20 +129,21 @@ impl FirstReplies {
     }
 
     // What the first well-known reply comes to, of which this was read.
-    fn first_wellknown(self, read: Result<(), ProviderStep>) -> Heard
+    fn first_wellknown(self, read: Result<WellKnown, ProviderStep>) -> Heard
         ensures { result ≡ spec.first_wellknown self.config read }
     {
-        if let Err(step) = read {
-            return Heard::Refused(step);
-        }
+        let file = match read {
+            Ok(file) => file,
+            Err(step) => return Heard::Refused(step),
+        };
         let FirstReplies {
             wellknown: _,
             config,
         } = self;
         match config {
-            Some(config) => Heard::Both(config),
+            Some(config) => both(&file, config),
             None => Heard::Waits(FirstReplies {
-                wellknown: true,
+                wellknown: Some(file),
                 config: None,
             }),
         }
@@ -141,13 +157,23 @@ impl FirstReplies {
             Ok(config) => config,
             Err(step) => return Heard::Refused(step),
         };
-        if self.wellknown {
-            return Heard::Both(config);
+        match &self.wellknown {
+            Some(file) => both(file, config),
+            None => Heard::Waits(FirstReplies {
+                wellknown: None,
+                config: Some(config),
+            }),
         }
-        Heard::Waits(FirstReplies {
-            wellknown: false,
-            config: Some(config),
-        })
+    }
+}
+
+// What both files come to: the configuration agrees with the well-known file, or is refused beside it.
+fn both(file: &WellKnown, config: SharedConfig) -> Heard
+    ensures { result ≡ spec.both file.now config }
+{
+    match agrees(file, config.get()) {
+        Some(endpoint) => Heard::Refused(ProviderStep::ConfigOther(endpoint)),
+        None => Heard::Both(config),
     }
 }
 
@@ -157,18 +183,31 @@ fn wellknown_file(
     rules: &Rules,
     config: &WebUrl,
     raw: &[u8],
-) -> Result<Result<(), ProviderStep>, NoRoom>
+) -> Result<Result<WellKnown, ProviderStep>, NoRoom>
     requires { scheme_of config.now ≡ Scheme.Https }
     ensures { IfOk result (λ read. read ≡ spec.wellknown_read rules.now config.now raw.now) }
 {
     if let Some(said) = rules.file_said(config, raw) {
-        return Ok(said);
+        return kept_file(alloc, said);
     }
     let base = match site_url(alloc, rules.suffixes(), config)? {
         Ok(base) => base,
         Err(step) => return Ok(Err(step)),
     };
     wellknown_answer(alloc, rules.memory(), raw, &base, config)
+}
+
+// What is kept of a well-known reply.
+fn kept_file(
+    alloc: Global,
+    said: &Result<WellKnown, ProviderStep>,
+) -> Result<Result<WellKnown, ProviderStep>, NoRoom>
+    ensures { IfOk result (λ copy. copy ≡ said.now) }
+{
+    match said {
+        Ok(file) => Ok(Ok(file.copy(alloc)?)),
+        Err(step) => Ok(Err(*step)),
+    }
 }
 
 // What is kept of a config reply.

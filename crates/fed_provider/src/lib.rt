@@ -17,4 +17,4 @@ pub use fed_origin::Endpoint;
 pub use metadata::{PolicyLinks, read_metadata, read_metadata_with};
 pub use rules::Rules;
 pub use step::ProviderStep;
-pub use wellknown::{read_wellknown, site_url, wellknown_url};
+pub use wellknown::{WellKnown, agrees, read_wellknown, site_url, wellknown_url};

@@ -1,4 +1,4 @@
-//! The one URL that a well-known file lists, read from left to right.
+//! What a well-known file names, read from left to right: the one URL that it lists, and two endpoints.
 ghost use Rattle.std.specs.Prelude.{◌≡◌, ◌<◌, None, OnOk, length, option_and_then, MatchResult};
 ghost use Rattle.std.specs.Option.{option_copied};
 ghost use Rattle.serde_json.specs.Data.{no_members};
@@ -9,47 +9,104 @@ ghost use Rattle.fed_provider.specs.Listed as spec;
 ghost use Rattle.fed_provider.specs.WellKnown.{only_item};
 
 use fed_json::{Begun, Invalid, LEVELS, Values};
+use fed_reply::{Member, text_of};
 
-/// The text that a file lists alone under `provider_urls`, where nothing is left after it.
-pub fn whole_listed<'a>(values: &mut Values<'a>) -> Result<Option<&'a str>, Invalid>
-    ensures { MatchResult result (λ text. IsWhole (spec.IsListed text) (whole_in values.old)) (λ _. whole_in values.old ≡ None) }
+/// What a well-known file names.
+#[derive(Clone, Copy, Debug)]
+pub struct Named<'a> {
+    /// The text that is the only item of the list under `provider_urls`.
+    pub listed: Option<&'a str>,
+    /// The text under `accounts_endpoint`.
+    pub accounts: Member<&'a str>,
+    /// The text under `login_url`.
+    pub login: Member<&'a str>,
+}
+
+/// What a file names, where nothing is left after it.
+pub fn whole_named<'a>(values: &mut Values<'a>) -> Result<Named<'a>, Invalid>
+    ensures { MatchResult result (λ named. IsWhole (spec.Names named) (whole_in values.old)) (λ _. whole_in values.old ≡ None) }
 {
-    let text = take_listed(values, LEVELS)?;
+    let named = take_named(values, LEVELS)?;
     if values.is_done() {
-        Ok(text)
+        Ok(named)
     } else {
         Err(Invalid)
     }
 }
 
-// The text that a value lists alone, which is passed over.
-fn take_listed<'a>(values: &mut Values<'a>, depth: usize) -> Result<Option<&'a str>, Invalid>
+// What a value names, which is passed over.
+fn take_named<'a>(values: &mut Values<'a>, depth: usize) -> Result<Named<'a>, Invalid>
     ensures { MatchResult result
-        (λ text. Took (spec.IsListed text) (value_in depth values.old) values.new)
+        (λ named. Took (spec.Names named) (value_in depth values.old) values.new)
         (λ _. value_in depth values.old ≡ None) }
 {
     let first = values.begin(depth)?;
     let Begun::Object(inner) = first else {
         values.finish(&first)?;
-        return Ok(None);
+        return Ok(Named {
+            listed: None,
+            accounts: Member::Wrong,
+            login: Member::Wrong,
+        });
     };
     take_members(values, inner)
 }
 
-// The text that the members list alone that are left of an object, of several of the name the last.
-fn take_members<'a>(values: &mut Values<'a>, depth: usize) -> Result<Option<&'a str>, Invalid>
+// What the members name that are left of an object, of several of one name the last.
+fn take_members<'a>(values: &mut Values<'a>, depth: usize) -> Result<Named<'a>, Invalid>
     ensures { MatchResult result
-        (λ text. Took (λ ms. option_copied text ≡ spec.listed_in ms) (members_in depth no_members values.old) values.new)
+        (λ named. Took (λ ms. spec.parts named ≡ spec.parts_of ms) (members_in depth no_members values.old) values.new)
         (λ _. members_in depth no_members values.old ≡ None) }
 {
-    let mut listed = None;
+    let mut named = Named {
+        listed: None,
+        accounts: Member::Absent,
+        login: Member::Absent,
+    };
     while let Some(name) = values.next_name()? {
-        let text = take_list(values, depth)?;
-        if name == "provider_urls" {
-            listed = text;
-        }
+        named = take_member(values, depth, name, named)?;
     }
-    Ok(listed)
+    Ok(named)
+}
+
+// The same with what the value of a member names, which is passed over.
+fn take_member<'a>(
+    values: &mut Values<'a>,
+    depth: usize,
+    name: &str,
+    named: Named<'a>,
+) -> Result<Named<'a>, Invalid>
+    ensures value { MatchResult result
+        (λ now. Took (λ d. spec.parts now ≡ spec.parts_with name.now d (spec.parts named.entry)) (value_in depth values.old) values.new)
+        (λ _. value_in depth values.old ≡ None) }
+    ensures shorter { OnOk result (length values.new < length values.old) }
+{
+    if name == "provider_urls" {
+        let listed = take_list(values, depth)?;
+        return Ok(Named {
+            listed,
+            accounts: named.accounts,
+            login: named.login,
+        });
+    }
+    if name == "accounts_endpoint" {
+        let first = values.pass(depth)?;
+        return Ok(Named {
+            listed: named.listed,
+            accounts: text_of(&first),
+            login: named.login,
+        });
+    }
+    if name == "login_url" {
+        let first = values.pass(depth)?;
+        return Ok(Named {
+            listed: named.listed,
+            accounts: named.accounts,
+            login: text_of(&first),
+        });
+    }
+    values.skip(depth)?;
+    Ok(named)
 }
 
 // The text that is the only item of the list that a value is.

@@ -9,7 +9,7 @@ ghost use Rattle.fed_provider.specs.Rules.{file_by, IsKept, IsSite};
 
 use crate::config::config_answer;
 use crate::wellknown::{site_url, wellknown_answer};
-use crate::{ProviderStep, SharedConfig};
+use crate::{ProviderStep, SharedConfig, WellKnown};
 use fed_io::{Bytes, NoRoom};
 use fed_origin::{ReplyKind, SLOTS, Scheme, WebUrl, slot_of};
 use fed_reply::ReplyMemory;
@@ -21,7 +21,7 @@ use std::marker::Model;
 #[derive(Drop)]
 pub struct SaidFile {
     raw: Bytes,
-    said: Result<(), ProviderStep>,
+    said: Result<WellKnown, ProviderStep>,
 }
 
 // The bytes of a reply with a configuration, and what it says.
@@ -258,12 +258,12 @@ impl Rules {
     }
 
     /// What a reply with the well-known file of a configuration URL says, where that is kept. It takes no memory.
-    pub fn file_said(&self, config: &WebUrl, raw: &[u8]) -> Option<Result<(), ProviderStep>>
-        ensures { IfSome result (λ said. said ≡ wellknown_read self.now config.now raw.now) }
+    pub fn file_said(&self, config: &WebUrl, raw: &[u8]) -> Option<&Result<WellKnown, ProviderStep>>
+        ensures { IfSome result (λ said. said.now ≡ wellknown_read self.now config.now raw.now) }
     {
         let file = self.site(config)?.file.as_ref()?;
         if file.raw.as_slice() == raw {
-            Some(file.said)
+            Some(&file.said)
         } else {
             None
         }

@@ -16,6 +16,8 @@ pub enum ProviderStep {
     WellKnownOther,
     /// The reply with the configuration is refused.
     ConfigReply(ReplyStep),
+    /// The configuration has another URL for that endpoint than the well-known file names.
+    ConfigOther(Endpoint),
     /// A member of the configuration is missing or no text.
     ConfigShape,
     /// That endpoint is no URL, or is not same-origin with the configuration URL.

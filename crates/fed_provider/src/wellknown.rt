@@ -1,15 +1,17 @@
 //! The well-known file of a site.
 ghost use Rattle.std.specs.Prelude.{◌≡◌, Some, IfOk, IsAscii, string_bytes};
 ghost use Rattle.std.specs.Option.{option_copied};
+ghost use Rattle.serde_json.specs.Data.{Data};
 ghost use Rattle.fed_io.specs.Fault.{Answers};
-ghost use Rattle.fed_origin.specs.WebUrl.{scheme_of};
+ghost use Rattle.fed_origin.specs.WebUrl.{joined_url, scheme_of};
+ghost use Rattle.fed_provider.specs.Listed.{Names};
 ghost use Rattle.fed_provider.specs.WellKnown as spec;
 
-use crate::ProviderStep;
-use crate::listed::whole_listed;
+use crate::listed::{Named, whole_named};
+use crate::{Config, ProviderStep};
 use fed_io::{Fault, NoRoom};
-use fed_origin::{Scheme, WebUrl};
-use fed_reply::{JsonBuffer, ReplyMemory, ReplyStep, open_json};
+use fed_origin::{Endpoint, Scheme, WebUrl};
+use fed_reply::{JsonBuffer, Member, ReplyMemory, ReplyStep, open_json};
 use fed_suffix::Suffixes;
 use std::alloc::Global;
 use std::str;
@@ -96,16 +98,63 @@ fn wellknown_text(alloc: Global, site: &str) -> Result<String, NoRoom>
     Ok(text)
 }
 
-/// Reads the well-known file in a reply of the well-known URL `base`, and tests that it names the
-/// configuration URL. The steps are `WellKnownReply`, `WellKnownShape` where the file does not list
-/// exactly one text under `provider_urls`, and `WellKnownOther` where that text, joined to `base`,
-/// is not the configuration URL by their serialized texts.
+/// What a well-known file says of the site's provider.
+#[derive(Drop)]
+pub enum WellKnown {
+    /// It lists the one configuration URL.
+    Listed,
+    /// It names these endpoints itself, with which the configuration must agree.
+    Direct {
+        /// The accounts endpoint.
+        accounts: WebUrl,
+        /// The login URL.
+        login: WebUrl,
+    },
+}
+
+impl WellKnown {
+    /// The same. It takes no memory.
+    pub fn copy(&self, alloc: Global) -> Result<WellKnown, NoRoom>
+        ensures { IfOk result (λ copy. copy ≡ self.now) }
+    {
+        match self {
+            WellKnown::Listed => Ok(WellKnown::Listed),
+            WellKnown::Direct { accounts, login } => Ok(WellKnown::Direct {
+                accounts: accounts.copy(alloc)?,
+                login: login.copy(alloc)?,
+            }),
+        }
+    }
+}
+
+/// The endpoint of which the configuration has another URL than the well-known file names, by their serialized texts: the accounts
+/// endpoint before the login URL. Where the file lists the configuration URL there is none. It takes no memory.
+pub fn agrees(wellknown: &WellKnown, config: &Config) -> Option<Endpoint>
+    ensures { result ≡ spec.agrees wellknown.now config.now }
+{
+    let WellKnown::Direct { accounts, login } = wellknown else {
+        return None;
+    };
+    if config.accounts.as_str() != accounts.as_str() {
+        return Some(Endpoint::Accounts);
+    }
+    if config.login.as_str() != login.as_str() {
+        return Some(Endpoint::Login);
+    }
+    None
+}
+
+/// Reads the well-known file in a reply of the well-known URL `base`. Where it has two texts as `accounts_endpoint` and `login_url`, it
+/// names these endpoints, each joined to `base`; its list is not looked at (this form is the profile's own). Else it has to list the
+/// configuration URL. The steps are `WellKnownReply`, `WellKnownShape` where such a text gives no URL or the file does not list exactly
+/// one text under `provider_urls`, and `WellKnownOther` where that text, joined to `base`, is not the configuration URL by their
+/// serialized texts.
 pub fn read_wellknown(
     alloc: Global,
     raw: &[u8],
     base: &WebUrl,
     config: &WebUrl,
-) -> Result<(), Fault<ProviderStep>>
+) -> Result<WellKnown, Fault<ProviderStep>>
     ensures { Answers result (spec.WellKnownOf raw.now base.now config.now) }
 {
     wellknown_by(alloc, &ReplyMemory::new(), raw, base, config)
@@ -118,24 +167,24 @@ fn wellknown_by(
     raw: &[u8],
     base: &WebUrl,
     config: &WebUrl,
-) -> Result<(), Fault<ProviderStep>>
+) -> Result<WellKnown, Fault<ProviderStep>>
     ensures { Answers result (spec.WellKnownOf raw.now base.now config.now) }
 {
     let mut buffer = memory.lend(alloc)?;
-    let read = reply_lists(alloc, raw, base, config, &mut buffer);
+    let read = file_of_reply(alloc, raw, base, config, &mut buffer);
     memory.take_back(raw, buffer);
     read
 }
 
 // The same, with what is read from.
 #[tactic(auto, unfolding(crate::specs::WellKnown::WellKnownOf))]
-fn reply_lists(
+fn file_of_reply(
     alloc: Global,
     raw: &[u8],
     base: &WebUrl,
     config: &WebUrl,
     buffer: &mut JsonBuffer,
-) -> Result<(), Fault<ProviderStep>>
+) -> Result<WellKnown, Fault<ProviderStep>>
     ensures { Answers result (spec.WellKnownOf raw.now base.now config.now) }
 {
     let mut values = match open_json(alloc, raw, buffer) {
@@ -143,8 +192,8 @@ fn reply_lists(
         Err(Fault::Step(step)) => return Err(Fault::Step(ProviderStep::WellKnownReply(step))),
         Err(Fault::NoRoom) => return Err(Fault::NoRoom),
     };
-    match whole_listed(&mut values) {
-        Ok(text) => lists(alloc, text, base, config),
+    match whole_named(&mut values) {
+        Ok(named) => form(alloc, &named, base, config),
         Err(_) => Err(Fault::Step(ProviderStep::WellKnownReply(ReplyStep::Json))),
     }
 }
@@ -156,13 +205,55 @@ pub fn wellknown_answer(
     raw: &[u8],
     base: &WebUrl,
     config: &WebUrl,
-) -> Result<Result<(), ProviderStep>, NoRoom>
+) -> Result<Result<WellKnown, ProviderStep>, NoRoom>
     ensures { IfOk result (λ said. said ≡ spec.WellKnownOf raw.now base.now config.now) }
 {
     match wellknown_by(alloc, memory, raw, base, config) {
-        Ok(()) => Ok(Ok(())),
+        Ok(file) => Ok(Ok(file)),
         Err(Fault::Step(step)) => Ok(Err(step)),
         Err(Fault::NoRoom) => Err(NoRoom),
+    }
+}
+
+// What a file says that names this: where both texts are there, its list is not looked at.
+fn form(
+    alloc: Global,
+    named: &Named<'_>,
+    base: &WebUrl,
+    config: &WebUrl,
+) -> Result<WellKnown, Fault<ProviderStep>>
+    ensures { (file : Data) → Names named.now file → Answers result (spec.form_of base.now config.now file) }
+{
+    match (named.accounts, named.login) {
+        (Member::Is(accounts), Member::Is(login)) => direct(alloc, base, accounts, login),
+        _ => lists(alloc, named.listed, base, config),
+    }
+}
+
+// The file names these endpoints.
+fn direct(
+    alloc: Global,
+    base: &WebUrl,
+    accounts: &str,
+    login: &str,
+) -> Result<WellKnown, Fault<ProviderStep>>
+    ensures { Answers result (spec.direct base.now accounts.now login.now) }
+{
+    let accounts = file_url(alloc, base, accounts)?;
+    match file_url(alloc, base, login) {
+        Ok(login) => Ok(WellKnown::Direct { accounts, login }),
+        Err(fault) => Err(fault),
+    }
+}
+
+// A URL that the file names.
+fn file_url(alloc: Global, base: &WebUrl, text: &str) -> Result<WebUrl, Fault<ProviderStep>>
+    ensures { Answers result (spec.file_url (joined_url base.now text.now)) }
+{
+    match base.join(alloc, text) {
+        Ok(url) => Ok(url),
+        Err(Fault::Step(_)) => Err(Fault::Step(ProviderStep::WellKnownShape)),
+        Err(Fault::NoRoom) => Err(Fault::NoRoom),
     }
 }
 
@@ -172,19 +263,19 @@ fn lists(
     listed: Option<&str>,
     base: &WebUrl,
     config: &WebUrl,
-) -> Result<(), Fault<ProviderStep>>
+) -> Result<WellKnown, Fault<ProviderStep>>
     ensures { Answers result (spec.listed base.now config.now (option_copied listed.entry)) }
 {
     let Some(text) = listed else {
         return Err(Fault::Step(ProviderStep::WellKnownShape));
     };
     if config.is_text(text) {
-        return Ok(());
+        return Ok(WellKnown::Listed);
     }
     match base.join(alloc, text) {
         Ok(url) => {
             if url.as_str() == config.as_str() {
-                Ok(())
+                Ok(WellKnown::Listed)
             } else {
                 Err(Fault::Step(ProviderStep::WellKnownOther))
             }

@@ -1,25 +1,26 @@
 -- What contracts see of the rules and the jar of a session.
 use Rattle.std.specs.Prelude.{ℕ, ◌+◌, List, [], ◌∷◌, Option, Some, None, if◌then◌else◌}
 use Rattle.fed_suffix.specs.Rule.{RuleSet}
-use Rattle.fed_jar.specs.Cookie.{StoredCookie, has_key, with_cookie}
+use Rattle.fed_jar.specs.Cookie.{StoredCookie, has_key}
+use Rattle.fed_jar.specs.Limit.{stored}
 
 pub record CookieParts : Type 0 where
   -- the public suffix rules
   pub rules : RuleSet
-  -- the cookies, in order of first storing
+  -- the cookies, in the order of the first storing since their key last went
   pub list : List StoredCookie
   -- how many new keys ever entered
   pub entered : ℕ
 
--- after a write, or as they were where nothing is written
-abbrev pub with_write : CookieParts → Option StoredCookie → CookieParts
-with_write parts None = parts
-with_write parts (Some cookie) = record parts {
-  list = with_cookie parts.list cookie;
+-- after a cookie is stored at this time, or as they were where none is
+abbrev pub with_stored : ℕ → CookieParts → Option StoredCookie → CookieParts
+with_stored now parts None = parts
+with_stored now parts (Some cookie) = record parts {
+  list = stored parts.rules now parts.list (Some cookie);
   entered = if has_key cookie parts.list then parts.entered else parts.entered + 1;
 }
 
--- after more writes
-abbrev pub with_writes : CookieParts → List StoredCookie → CookieParts
-with_writes parts [] = parts
-with_writes parts (cookie ∷ cookies) = with_writes (with_write parts (Some cookie)) cookies
+-- after more are stored
+abbrev pub with_all_stored : ℕ → CookieParts → List StoredCookie → CookieParts
+with_all_stored now parts [] = parts
+with_all_stored now parts (cookie ∷ cookies) = with_all_stored now (with_stored now parts (Some cookie)) cookies

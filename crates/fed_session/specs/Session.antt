@@ -46,7 +46,7 @@ pub record State : Type 0 where
   pub time : ℕ
   -- the public suffix rules
   pub rules : RuleSet
-  -- the cookies, in order of first storing
+  -- the cookies that stand, in the order of the first storing since their key last went
   pub cookies : List StoredCookie
   -- how many new keys of cookies ever entered
   pub entered : ℕ

@@ -5,7 +5,7 @@ ghost use Rattle.fed_jar.specs.Send.{jar_text};
 ghost use Rattle.fed_jar.specs.Store.{cookie_of};
 ghost use Rattle.fed_origin.specs.WebUrl.{scheme_of};
 ghost use Rattle.fed_provider.specs.WellKnown.{WellKnownUrlOf};
-ghost use Rattle.fed_session.specs.Cookies.{with_write};
+ghost use Rattle.fed_session.specs.Cookies.{with_stored};
 
 use fed_cookie::RawCookie;
 use fed_io::{Bytes, NoRoom};
@@ -102,7 +102,7 @@ impl Cookies {
     /// Stores the cookie of a Set-Cookie field of a page of the URL, unless it is ignored.
     pub(crate) fn store(&mut self, url: &WebUrl, now: u64, raw: RawCookie) -> Result<(), NoRoom>
         requires { self.old.entered < 2 ^ 64 - 1 }
-        ensures { OnOk result (self.new ≡ with_write self.old (cookie_of self.old.rules url.now now raw)) }
+        ensures { OnOk result (self.new ≡ with_stored now self.old (cookie_of self.old.rules url.now now raw)) }
     {
         self.jar.store(self.rules.suffixes(), url, now, raw)?;
         Ok(())

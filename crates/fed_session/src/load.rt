@@ -4,7 +4,7 @@ ghost use Rattle.fed_origin.specs.WebUrl.{origin_of};
 ghost use Rattle.fed_reply.specs.Fields.{values};
 ghost use Rattle.fed_script.specs.Used.{SaysKnown};
 ghost use Rattle.fed_trace.specs.Row.{cookies_from, have_cookies, set_cookies, set_cookie_name, set_logins, set_login_name};
-ghost use Rattle.fed_session.specs.Cookies.{with_writes};
+ghost use Rattle.fed_session.specs.Cookies.{with_all_stored};
 ghost use Rattle.fed_session.specs.StepParts.{with_statuses, logins_in, have_statuses, have_kept, have_flags};
 
 use crate::sight::Sight;
@@ -33,7 +33,8 @@ pub(crate) fn take_head(
     requires { sight.old.cookies.entered + length (set_cookies raw.now) < 2 ^ 64 }
     ensures { OnOk result (sight.new ≡ record sight.old {
       cookies =
-          with_writes sight.old.cookies (cookies_from sight.old.cookies.rules url.now sight.old.time (set_cookies raw.now));
+          with_all_stored sight.old.time sight.old.cookies
+          (cookies_from sight.old.cookies.rules url.now sight.old.time (set_cookies raw.now));
       login =
           with_statuses (origin_of url.now) (set_logins raw.now) sight.old.login;
     }) }
@@ -57,7 +58,7 @@ fn store_fields(alloc: Global, sight: &mut Sight, url: &WebUrl, head: &Reply) ->
     requires { sight.old.cookies.entered + length (values set_cookie_name head.now.fields) < 2 ^ 64 }
     ensures { OnOk result (sight.new ≡ record sight.old {
       cookies =
-          with_writes sight.old.cookies
+          with_all_stored sight.old.time sight.old.cookies
           (cookies_from sight.old.cookies.rules url.now sight.old.time (values set_cookie_name head.now.fields));
     }) }
 {
@@ -93,7 +94,7 @@ pub(crate) fn take_have(alloc: Global, sight: &mut Sight, have: &Have) -> Result
     requires room { sight.old.cookies.entered < 2 ^ 64 - 1 }
     ensures { OnOk result (sight.new ≡ record sight.old {
       cookies =
-          with_writes sight.old.cookies (have_cookies sight.old.cookies.rules sight.old.time have.now);
+          with_all_stored sight.old.time sight.old.cookies (have_cookies sight.old.cookies.rules sight.old.time have.now);
       login =
           have_statuses have.now sight.old.login;
       kept = have_kept have.now sight.old.kept;

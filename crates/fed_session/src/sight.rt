@@ -4,7 +4,7 @@ ghost use Rattle.fed_cookie.specs.SetCookie.{HasNoLineEnd};
 ghost use Rattle.fed_request.specs.Request.{TakesCookies};
 ghost use Rattle.fed_status.specs.Shared.{world_of};
 ghost use Rattle.fed_trace.specs.Row.{cookies_from};
-ghost use Rattle.fed_session.specs.Cookies.{with_writes};
+ghost use Rattle.fed_session.specs.Cookies.{with_all_stored};
 ghost use Rattle.fed_session.specs.StepParts.{cookies_of, world_in, CanApply, sight_by};
 
 use crate::cookies::Cookies;
@@ -97,7 +97,7 @@ impl Sight {
         requires { self.old.cookies.entered < 2 ^ 64 - 1 }
         ensures { OnOk result (self.new ≡ record self.old {
           cookies =
-              with_writes self.old.cookies (cookies_from self.old.cookies.rules url.now self.old.time (field.now ∷ []));
+              with_all_stored self.old.time self.old.cookies (cookies_from self.old.cookies.rules url.now self.old.time (field.now ∷ []));
         }) }
     {
         if let Some(raw) = read_set_cookie(alloc, field)? {

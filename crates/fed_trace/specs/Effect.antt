@@ -8,7 +8,7 @@ use Rattle.fed_origin.specs.declared.stage.Stage.TheVariants.{Ended}
 use Rattle.fed_origin.specs.declared.stage.Stage.TheVariants as stages
 use Rattle.fed_origin.specs.declared.status.LoginStatus.{LoginStatus}
 use Rattle.fed_origin.specs.declared.status.Triple.{Triple}
-use Rattle.fed_jar.specs.Cookie.{StoredCookie}
+use Rattle.fed_jar.specs.Changes.{CookieChange}
 use Rattle.fed_consent.specs.declared.table.ask.Ask.{Ask}
 use Rattle.fed_consent.specs.declared.table.dialog.Dialog.{Dialog}
 use Rattle.fed_consent.specs.declared.table.failure.Failure.{Failure}
@@ -24,8 +24,8 @@ pub data Effect : Type 0 where
   Page : (page : ℕ) → (origin : Origin) → Effect
   -- the page no longer stands
   Closed : (page : ℕ) → Effect
-  -- the cookie is written
-  Cookie : (cookie : StoredCookie) → Effect
+  -- a cookie stands from now on, or one is gone
+  Cookie : (change : CookieChange) → Effect
   -- the provider's origin has this status
   Login : (origin : Origin) → (status : LoginStatus) → Effect
   -- the call was taken
@@ -131,10 +131,10 @@ abbrev pub time_of : Effect → Option ℕ
 time_of (Time time) = Some time
 time_of _ = None
 
--- the cookie that an effect writes
-abbrev pub written_by : Effect → Option StoredCookie
-written_by (Cookie cookie) = Some cookie
-written_by _ = None
+-- what an effect says of cookies
+abbrev pub cookie_change : Effect → Option CookieChange
+cookie_change (Cookie change) = Some change
+cookie_change _ = None
 
 -- the call that an effect begins
 abbrev pub begun_by : Effect → Option ℕ

@@ -8,5 +8,6 @@ pub mod OfCall
 pub mod OfScript
 pub mod Records
 pub mod Row
+pub mod Standing
 pub mod Trace
 pub mod Windows

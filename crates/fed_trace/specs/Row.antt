@@ -14,7 +14,9 @@ use Rattle.fed_suffix.specs.Rule.{RuleSet}
 use Rattle.fed_cookie.specs.Fields.{set_cookie_of}
 use Rattle.fed_jar.specs.Cookie.{StoredCookie}
 use Rattle.fed_jar.specs.Store.{cookie_of}
-use Rattle.fed_jar.specs.Writes as jar
+use Rattle.fed_jar.specs.Changes.{CookieChange}
+use Rattle.fed_jar.specs.Limit.{changes_from}
+use Rattle.fed_jar.specs.Send.{jar_text}
 use Rattle.fed_reply.specs.declared.step.ReplyStep.{ReplyStep}
 use Rattle.fed_reply.specs.Fields.{values}
 use Rattle.fed_reply.specs.Parts.{ReplyParts}
@@ -42,16 +44,16 @@ use Rattle.fed_script.specs.declared.event.Header.{Header}
 use Rattle.fed_trace.specs.Effect.{Effect, Time, Page, Closed, Cookie, Login, Begin, Move, Sent, Dropped, Shown, Window, Kept, Flag}
 use Rattle.fed_trace.specs.Effect.{Result, Ignored}
 use Rattle.fed_trace.specs.Known.{world_at, is_begun, input_of, known_at}
-use Rattle.fed_trace.specs.Trace.{Row, Trace, page_at, gets, pending_of, now_at, writes, begun}
+use Rattle.fed_trace.specs.Trace.{Row, Trace, page_at, gets, pending_of, now_at, cookies, begun}
 use Rattle.fed_trace.specs.Windows.{windows_of}
 
 -- ---- what a call does
 
 -- the Cookie field of a request: the first two requests and that for links carry none
 abbrev pub cookies_with : Trace → Ask → List ℕ
-cookies_with T (asks.Accounts to) = jar.cookie_text T.header.rules to (now_at T) (writes T)
-cookies_with T (asks.Disconnect to client hint origin) = jar.cookie_text T.header.rules to (now_at T) (writes T)
-cookies_with T (asks.Assertion ask) = jar.cookie_text T.header.rules ask.to (now_at T) (writes T)
+cookies_with T (asks.Accounts to) = jar_text T.header.rules to (now_at T) (cookies T)
+cookies_with T (asks.Disconnect to client hint origin) = jar_text T.header.rules to (now_at T) (cookies T)
+cookies_with T (asks.Assertion ask) = jar_text T.header.rules ask.to (now_at T) (cookies T)
 cookies_with T _ = []
 
 -- what a call of this kind, of the page, does, among what all calls look at, with the cookies of its requests; where a pair loses its
@@ -119,11 +121,11 @@ brought_effects T (Some brought) =
 abbrev pub ends_of : List (ℕ × CallKind) → List Effect
 ends_of calls = map (λ call. Move call.1 call.0 Ended) calls
 
--- the cookie that a Set-Cookie value from this URL writes at this time, unless it is ignored
+-- the cookie that a Set-Cookie value from this URL stores at this time, unless it is ignored
 abbrev pub cookie_from : RuleSet → Parts → ℕ → List ℕ → Option StoredCookie
 cookie_from rules url now field = option_and_then (cookie_of rules url now) (set_cookie_of field)
 
--- the cookies that Set-Cookie values write, in their order
+-- the cookies that Set-Cookie values store, in their order
 abbrev pub cookies_from : RuleSet → Parts → ℕ → List (List ℕ) → List StoredCookie
 cookies_from rules url now fields = filter_map (cookie_from rules url now) fields
 
@@ -151,18 +153,22 @@ set_login_name = codes "set-login"
 abbrev pub set_logins : Option (List ℕ) → List LoginStatus
 set_logins raw = filter_map set_login_of (load_values set_login_name raw)
 
--- cookies are written
-abbrev pub cookie_effects : List StoredCookie → List Effect
-cookie_effects cookies = map Cookie cookies
+-- cookies are stored after what happened: each stands, and may make another of its party go, of which the next takes note
+abbrev pub stored_in : Trace → List StoredCookie → List CookieChange
+stored_in T new = changes_from T.header.rules (now_at T) (cookies T) new
+
+-- cookies come and go
+abbrev pub cookie_effects : List CookieChange → List Effect
+cookie_effects changes = map Cookie changes
 
 -- statuses of an origin are set
 abbrev pub login_effects : Origin → List LoginStatus → List Effect
 login_effects origin statuses = map (Login origin) statuses
 
--- a load: the page's pending calls end, then the page stands with its URL's origin, then cookies are written and statuses set
-abbrev pub load_effects : List (ℕ × CallKind) → ℕ → Parts → List StoredCookie → List LoginStatus → List Effect
-load_effects calls page url cookies statuses =
-    ends_of calls ++ (Page page (origin_of url) ∷ (cookie_effects cookies ++ login_effects (origin_of url) statuses))
+-- a load: the page's pending calls end, then the page stands with its URL's origin, then cookies come and go and statuses are set
+abbrev pub load_effects : List (ℕ × CallKind) → ℕ → Parts → List CookieChange → List LoginStatus → List Effect
+load_effects calls page url changes statuses =
+    ends_of calls ++ (Page page (origin_of url) ∷ (cookie_effects changes ++ login_effects (origin_of url) statuses))
 
 -- ---- a page that says that the user has signed in at its origin
 
@@ -208,6 +214,14 @@ abbrev pub have_cookies : RuleSet → ℕ → Have → List StoredCookie
 have_cookies rules now (haves.Cookie url field) = cookies_from rules url now (field ∷ [])
 have_cookies rules now _ = []
 
+-- what a load does to cookies
+abbrev pub load_changes : Trace → Parts → Option (List ℕ) → List CookieChange
+load_changes T url raw = stored_in T (cookies_from T.header.rules url (now_at T) (set_cookies raw))
+
+-- what a line of the kind `have` does to them
+abbrev pub have_changes : Trace → Have → List CookieChange
+have_changes T have = stored_in T (have_cookies T.header.rules (now_at T) have)
+
 -- the status, the permission or the flag that it says
 abbrev pub have_states : Have → List Effect
 have_states (haves.Cookie url field) = []
@@ -217,10 +231,10 @@ have_states (haves.Silent origin) = Flag origin true ∷ []
 
 -- the effects of an event after what happened
 abbrev pub effects_of : Trace → Event → List Effect
-effects_of T (events.Have have) = cookie_effects (have_cookies T.header.rules (now_at T) have) ++ have_states have
+effects_of T (events.Have have) = cookie_effects (have_changes T have) ++ have_states have
 effects_of T (At time) = Time time ∷ []
 effects_of T (Load page url raw) =
-    load_effects (pending_of T page) page url (cookies_from T.header.rules url (now_at T) (set_cookies raw)) (set_logins raw)
+    load_effects (pending_of T page) page url (load_changes T url raw) (set_logins raw)
 effects_of T (ClosePage page) = close_effects (pending_of T page) page (page_at T page)
 effects_of T (Get page call options) =
     begin_effects (world_at T) (cookies_with T) (page_at T page) (is_busy page (gets T)) page call (ToGet options)

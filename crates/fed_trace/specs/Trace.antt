@@ -13,10 +13,11 @@ use Rattle.fed_script.specs.declared.event.Event.{Event}
 use Rattle.fed_script.specs.declared.event.Header.{Header}
 use Rattle.fed_trace.specs.Keyed.{Change, entries_after, last_said}
 use Rattle.fed_jar.specs.Cookie.{StoredCookie}
-use Rattle.fed_jar.specs.Writes as jar
+use Rattle.fed_jar.specs.Changes.{CookieChange}
+use Rattle.fed_jar.specs.Changes as jar
 use Rattle.fed_trace.specs.Begun.{CallKind}
 use Rattle.fed_trace.specs.Effect.{Effect, PendingCall, last_of, page_change, login_change, kept_change, flag_change, call_change}
-use Rattle.fed_trace.specs.Effect.{get_change, stage_change, time_of, written_by, begun_by}
+use Rattle.fed_trace.specs.Effect.{get_change, stage_change, time_of, cookie_change, begun_by}
 
 pub record Row : Type 0 where
   pub line : ℕ
@@ -109,10 +110,10 @@ begun rows = all_said begun_by rows
 abbrev pub now_at : Trace → ℕ
 now_at T = unwrap_or (last_in time_of T.rows) T.header.now
 
--- the cookies that were written, in their order
-abbrev pub writes : Trace → List StoredCookie
-writes T = all_said written_by T.rows
+-- all that happened to cookies, in its order
+abbrev pub cookie_changes : Trace → List CookieChange
+cookie_changes T = all_said cookie_change T.rows
 
--- the cookies that no later write replaces, in order of first writing
+-- the cookies that stand, in the order of the first storing since their key last went
 abbrev pub cookies : Trace → List StoredCookie
-cookies T = jar.standing (writes T)
+cookies T = jar.standing (cookie_changes T)

@@ -40,9 +40,9 @@ fixed_cookies (asks.Metadata to client origin) cookies = cookies
 fixed_cookies (asks.Assertion ask) cookies = []
 fixed_cookies (asks.Disconnect to client hint origin) cookies = []
 
--- an effect without the cookies that it writes or sends
+-- an effect without the cookies that come, go or are sent
 abbrev pub but_cookies : Effect → Option Effect
-but_cookies (Cookie cookie) = None
+but_cookies (Cookie change) = None
 but_cookies (Sent kind call provider ask cookies) = Some (Sent kind call provider ask (fixed_cookies ask cookies))
 but_cookies effect = Some effect
 

@@ -4,12 +4,14 @@ use Rattle.std.specs.Map.{keys_of}
 use Rattle.url.specs.Parts.{Parts}
 use Rattle.fed_origin.specs.declared.origin.Origin.{Origin}
 use Rattle.fed_origin.specs.WebUrl.{host_of}
-use Rattle.fed_jar.specs.Writes as jar
+use Rattle.fed_jar.specs.Send.{jar_text}
+use Rattle.fed_jar.specs.Store.{part_of}
 use Rattle.fed_status.specs.Login.{status_of}
+use Rattle.fed_suffix.specs.Registrable.{party}
 use Rattle.fed_trace.specs.Begun.{of_get}
 use Rattle.fed_trace.specs.Effect.{Effect, Move, get_begun, is_window, key_change}
 use Rattle.fed_trace.specs.Keyed.{Change}
-use Rattle.fed_trace.specs.Trace.{Row, Trace, all_said, standing, now_at, page_at, gets, writes, logins}
+use Rattle.fed_trace.specs.Trace.{Row, Trace, all_said, standing, now_at, page_at, gets, cookies, logins}
 use Rattle.fed_twin.specs.Providers.{Providers, is_provider}
 use Rattle.fed_twin.specs.Script.{first_requests}
 use Rattle.fed_twin.specs.Seen.{told, view}
@@ -35,9 +37,12 @@ pub record SameLooks (p : Providers) (T U : Trace) : Type 0 where
   pub gets : gets T ≡ gets U
   pub begun : gets_begun T.rows ≡ gets_begun U.rows
   pub windows : gets_in_window T.rows ≡ gets_in_window U.rows
+  -- the cookies of a provider's party
+  pub parts : (host : List ℕ) → is_provider p host ≡ true
+      → part_of p.rules (party p.rules host) (cookies T) ≡ part_of p.rules (party p.rules host) (cookies U)
   -- the Cookie field of a request to a provider, at any time
   pub cookies : (to : Parts) (now : ℕ) → is_provider p (host_of to) ≡ true
-      → jar.cookie_text p.rules to now (writes T) ≡ jar.cookie_text p.rules to now (writes U)
+      → jar_text p.rules to now (cookies T) ≡ jar_text p.rules to now (cookies U)
   pub statuses : (origin : Origin) → is_provider p origin.host ≡ true → status_of (logins T) origin ≡ status_of (logins U) origin
   pub requests : first_requests T.rows ≡ first_requests U.rows
 

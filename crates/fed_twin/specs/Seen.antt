@@ -4,7 +4,7 @@ use Rattle.fed_origin.specs.declared.origin.Origin.{Origin}
 use Rattle.fed_origin.specs.declared.stage.Stage.{Stage}
 use Rattle.fed_origin.specs.declared.status.LoginStatus.{LoginStatus}
 use Rattle.fed_origin.specs.Origin.{is_trustworthy}
-use Rattle.fed_jar.specs.Cookie.{StoredCookie}
+use Rattle.fed_jar.specs.Changes.{CookieChange, domain_of}
 use Rattle.fed_consent.specs.declared.table.ask.Ask.{Ask}
 use Rattle.fed_consent.specs.declared.table.ask.Ask.TheVariants as asks
 use Rattle.fed_trace.specs.Begun.{kind_asked, of_get}
@@ -18,7 +18,7 @@ pub data Seen : Type 0 where
   -- the page stands, is trustworthy or not, and its origin where a provider has its party
   Page : (page : ℕ) → (trusted : Bool) → (origin : Option Origin) → Seen
   Closed : (page : ℕ) → Seen
-  Cookie : (cookie : StoredCookie) → Seen
+  Cookie : (change : CookieChange) → Seen
   Login : (origin : Origin) → (status : LoginStatus) → Seen
   Begin : (call page : ℕ) → Seen
   Move : (call : ℕ) → (stage : Stage) → Seen
@@ -47,7 +47,7 @@ abbrev pub seen : Providers → Effect → Option Seen
 seen p (does.Time time) = Some (Time time)
 seen p (does.Page page origin) = Some (Page page (is_trustworthy origin) (told_origin p origin))
 seen p (does.Closed page) = Some (Closed page)
-seen p (does.Cookie cookie) = if is_provider p cookie.domain then Some (Cookie cookie) else None
+seen p (does.Cookie change) = if is_provider p (domain_of change) then Some (Cookie change) else None
 seen p (does.Login origin status) = if is_provider p origin.host then Some (Login origin status) else None
 seen p (does.Begin begun) = of_get (kind_asked begun.options) (Some (Begin begun.call begun.page))
 seen p (does.Move kind call stage) = of_get kind (Some (Move call stage))

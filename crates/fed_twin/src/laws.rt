@@ -23,7 +23,7 @@ pub fn same_windows()
     ensures { SameWindows }
 {}
 
-/// Two scripts that differ only in cookies do the same, but for the cookies that are written and sent.
+/// Two scripts that differ only in cookies do the same, but for the cookies that come, go and are sent.
 pub fn two_jars()
     ensures { TwoJars }
 {}

@@ -22,6 +22,26 @@ const BOTH: &str = concat!(
     "{\"id\":\"u2\",\"name\":\"Bob\",\"email\":\"bob@idp.example\"}]}",
 );
 
+const DIRECT: &str = concat!(
+    "{\"accounts_endpoint\":\"https://accounts.idp.example/accounts\",",
+    "\"login_url\":\"https://accounts.idp.example/login\"}",
+);
+
+const TWO_DIRECT: &str = concat!(
+    "{\"accounts_endpoint\":\"https://login.two.example/accounts\",",
+    "\"login_url\":\"https://login.two.example/login\"}",
+);
+
+// It has the other form's member too, of a wrong kind, and names its endpoints last.
+const MIXED: &str = concat!(
+    "{\"provider_urls\":5,\"login_url\":\"//accounts.idp.example/login\",",
+    "\"accounts_endpoint\":\"//accounts.idp.example/accounts\"}",
+);
+
+// Its accounts endpoint is at the site's own host.
+const MOVED: &str =
+    "{\"accounts_endpoint\":\"/accounts\",\"login_url\":\"https://accounts.idp.example/login\"}";
+
 const LINKS: &str = "{\"privacy_policy_url\":\"https://rp.example/privacy\"}";
 
 fn choice(alloc: Global, provider: u32, id: &str) -> Result<Input, NoRoom> {
@@ -29,15 +49,22 @@ fn choice(alloc: Global, provider: u32, id: &str) -> Result<Input, NoRoom> {
     Ok(Input::Choose { provider, account })
 }
 
-// The well-known file of the provider at this place.
+// The well-known file of the provider at this place, which lists its configuration URL.
 fn file_of(place: u32) -> &'static str {
     if place == 1 { TWO_FILE } else { FILE }
+}
+
+// The one of it which names the endpoints that its configuration names.
+fn direct_file_of(place: u32) -> &'static str {
+    if place == 1 { TWO_DIRECT } else { DIRECT }
 }
 
 // The kind, the head and the body of the reply that a word names; any other word is the body of a good well-known reply.
 fn named(word: &str) -> (ReplyKind, &'static str, &str) {
     match word {
         "lost" => (ReplyKind::WellKnown, LOST, ""),
+        "mixed" => (ReplyKind::WellKnown, OK, MIXED),
+        "moved" => (ReplyKind::WellKnown, OK, MOVED),
         "config" => (ReplyKind::Config, OK, MEMBERS),
         "linked" => (ReplyKind::Config, OK, LINKED),
         "broken" => (ReplyKind::Config, OK, "{}"),
@@ -65,6 +92,15 @@ fn accounts(word: &str) -> Option<(&'static str, &'static str)> {
 fn reply_named(alloc: Global, place: u32, word: &str) -> Result<Input, NoRoom> {
     if word == "wellknown" {
         return reply(alloc, place, ReplyKind::WellKnown, OK, file_of(place));
+    }
+    if word == "direct" {
+        return reply(
+            alloc,
+            place,
+            ReplyKind::WellKnown,
+            OK,
+            direct_file_of(place),
+        );
     }
     match accounts(word) {
         Some((head, body)) => reply(alloc, place, ReplyKind::Accounts, head, body),

@@ -28,7 +28,17 @@ config | - | nothing | - | reading";
 const BOTH_FILES: &str = "wellknown plain | - | no-disconnect | - | ended
 plain wellknown | - | no-disconnect | - | ended
 wellknown config | - | asks | - | asserting
-config wellknown | - | asks | - | asserting";
+config wellknown | - | asks | - | asserting
+direct | - | nothing | - | reading
+direct config | - | asks | - | asserting
+config direct | - | asks | - | asserting
+direct plain | - | no-disconnect | - | ended
+elsewhere | - | nothing | - | reading
+elsewhere config | - | config-other | accounts_endpoint | ended
+config elsewhere | - | config-other | accounts_endpoint | ended
+elsewhere plain | - | config-other | accounts_endpoint | ended
+elsewhere broken | - | config-shape | - | ended
+direct wellknown | - | not-waited | - | reading";
 
 // The account that the provider names goes, else all of the pair.
 const DISCONNECTED: &str = "wellknown config u1 | u1 | disconnected | - | ended

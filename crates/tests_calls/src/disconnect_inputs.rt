@@ -1,5 +1,5 @@
 //! Inputs of the disconnect calls in tests, each named by a word.
-use crate::replies::{DENIED, FILE, LOST, MEMBERS, OK, SHARED, reply};
+use crate::replies::{DENIED, DIRECT, DIRECT_ELSEWHERE, FILE, LOST, MEMBERS, OK, SHARED, reply};
 use fed_consent::Input;
 use fed_io::{Items, NoRoom};
 use fed_origin::ReplyKind;
@@ -19,6 +19,8 @@ const WITH_DISCONNECT: &str = concat!(
 fn first(word: &str) -> (ReplyKind, &'static str, &'static str) {
     match word {
         "wellknown" => (ReplyKind::WellKnown, OK, FILE),
+        "direct" => (ReplyKind::WellKnown, OK, DIRECT),
+        "elsewhere" => (ReplyKind::WellKnown, OK, DIRECT_ELSEWHERE),
         "lost" => (ReplyKind::WellKnown, LOST, ""),
         "config" => (ReplyKind::Config, OK, WITH_DISCONNECT),
         "plain" => (ReplyKind::Config, OK, MEMBERS),

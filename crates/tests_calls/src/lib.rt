@@ -21,6 +21,8 @@ pub mod callers;
 #[cfg(test)]
 mod consent;
 #[cfg(test)]
+mod direct;
+#[cfg(test)]
 mod disconnect;
 #[cfg(test)]
 mod disconnect_inputs;

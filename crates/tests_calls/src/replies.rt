@@ -16,6 +16,14 @@ pub const LOST: &str = "HTTP/1.1 404 Not Found\r\nContent-Type: application/json
 
 pub const FILE: &str = "{\"provider_urls\":[\"https://accounts.idp.example/fedcm.json\"]}";
 
+// A file that names the endpoints, with which the configuration agrees.
+pub const DIRECT: &str =
+    r#"{"accounts_endpoint":"https://accounts.idp.example/accounts","login_url":"https://accounts.idp.example/login"}"#;
+
+// One with which it does not agree: the first text stands for a URL of the site's own host.
+pub const DIRECT_ELSEWHERE: &str =
+    r#"{"accounts_endpoint":"/accounts","login_url":"https://accounts.idp.example/login"}"#;
+
 pub const TWO_FILE: &str = "{\"provider_urls\":[\"https://login.two.example/fedcm.json\"]}";
 
 pub const MEMBERS: &str =

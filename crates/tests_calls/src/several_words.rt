@@ -114,24 +114,43 @@ pub fn begin_all(
     Ok(())
 }
 
-// A line: the inputs of a call with the providers `idp` and `two`, what it does at the last of them, and its stage then.
-fn follows(rt: &impl Abort, alloc: Global, browser: &Browser, line: &str) -> Result<(), Fail> {
+// A line: the inputs of a call with the providers that `names` names, what it does at the last of them, and its stage then.
+fn follows(
+    rt: &impl Abort,
+    alloc: Global,
+    names: &str,
+    browser: &Browser,
+    line: &str,
+) -> Result<(), Fail> {
     let (words, more) = parts(line)?;
     let (expected, stage) = parts(more)?;
-    let call = after(alloc, "idp two", words, browser)?;
+    let call = after(alloc, names, words, browser)?;
     stands(rt, &call, expected, stage, line);
     Ok(())
 }
 
-// That calls do as each of these lines says.
+// That calls with the providers `idp` and `two` do as each of these lines says.
 pub fn follow(rt: &impl Abort, alloc: Global, browser: &Browser, text: &str) -> Result<(), Fail> {
     for line in text.split('\n') {
-        follows(rt, alloc, browser, line)?;
+        follows(rt, alloc, "idp two", browser, line)?;
     }
     Ok(())
 }
 
-// The same, of lines that all go on with these inputs.
+// That calls with the one provider `idp` do.
+pub fn follow_one(
+    rt: &impl Abort,
+    alloc: Global,
+    browser: &Browser,
+    text: &str,
+) -> Result<(), Fail> {
+    for line in text.split('\n') {
+        follows(rt, alloc, "idp", browser, line)?;
+    }
+    Ok(())
+}
+
+// The same as of `follow`, of lines that all go on with these inputs.
 pub fn follow_on(
     rt: &impl Abort,
     alloc: Global,
@@ -141,7 +160,7 @@ pub fn follow_on(
 ) -> Result<(), Fail> {
     for line in text.split('\n') {
         let whole = format!(in alloc; "{first} {line}")?;
-        follows(rt, alloc, browser, whole.as_str())?;
+        follows(rt, alloc, "idp two", browser, whole.as_str())?;
     }
     Ok(())
 }

@@ -7,6 +7,8 @@ pub mod callers;
 #[cfg(test)]
 mod damage;
 #[cfg(test)]
+mod direct;
+#[cfg(test)]
 mod memory;
 #[cfg(test)]
 mod offers;

@@ -12,16 +12,18 @@ use std::test::Fail;
 /// The configuration URL of the provider.
 pub const CONFIG: &str = "https://accounts.idp.example/fedcm.json";
 
-const BASE: &str = "https://idp.example/.well-known/web-identity";
+/// The well-known URL of its site.
+pub const BASE: &str = "https://idp.example/.well-known/web-identity";
 
-// The name of a step.
-fn name(step: ProviderStep) -> &'static str {
+/// The name of a step.
+pub fn name(step: ProviderStep) -> &'static str {
     match step {
         ProviderStep::NoSite => "no site",
         ProviderStep::WellKnownReply(_) => "well-known reply",
         ProviderStep::WellKnownShape => "well-known shape",
         ProviderStep::WellKnownOther => "well-known other",
         ProviderStep::ConfigReply(_) => "config reply",
+        ProviderStep::ConfigOther(_) => "config other",
         ProviderStep::ConfigShape => "config shape",
         ProviderStep::EndpointOrigin(Endpoint::Accounts) => "accounts",
         ProviderStep::EndpointOrigin(Endpoint::Assertion) => "assertion",

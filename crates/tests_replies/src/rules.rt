@@ -2,7 +2,7 @@
 use crate::provider::{CONFIG, ok};
 use fed_io::NoRoom;
 use fed_origin::{ReplyKind, Scheme, WebUrl, slot_of};
-use fed_provider::Rules;
+use fed_provider::{Rules, WellKnown};
 use fed_suffix::Suffixes;
 use std::alloc::Global;
 use std::test::Fail;
@@ -23,7 +23,8 @@ fn ask(alloc: Global, rules: &mut Rules, config: &WebUrl) -> Result<(), NoRoom> 
 // What is kept of a well-known reply.
 fn file(rules: &Rules, config: &WebUrl, raw: &str) -> &'static str {
     match rules.file_said(config, raw.as_bytes()) {
-        Some(Ok(())) => "good",
+        Some(Ok(WellKnown::Listed)) => "listed",
+        Some(Ok(WellKnown::Direct { .. })) => "direct",
         Some(Err(_)) => "refused",
         None => "nothing",
     }
@@ -59,12 +60,12 @@ fn files_are_kept_by_url_and_bytes(rt: HostRuntime) -> Result<(), Fail> {
     ask(rt.alloc(), &mut rules, &first)?;
     ask(rt.alloc(), &mut rules, &second)?;
     learn(rt.alloc(), &mut rules, &first, list.as_str())?;
-    assert!(rt; file(&rules, &first, list.as_str()) == "good");
+    assert!(rt; file(&rules, &first, list.as_str()) == "listed");
     assert!(rt; file(&rules, &first, members.as_str()) == "nothing");
     assert!(rt; configuration(&rules, &first, list.as_str()) == "refused");
 
     learn(rt.alloc(), &mut rules, &first, members.as_str())?;
-    assert!(rt; file(&rules, &first, members.as_str()) == "refused");
+    assert!(rt; file(&rules, &first, members.as_str()) == "direct");
     assert!(rt;
         configuration(&rules, &first, members.as_str()) == "https://accounts.idp.example/l"
     );

@@ -112,6 +112,44 @@ WELL_KNOWN_REQUEST 1 3
 CONFIG_REQUEST 1 3
 END 3
 
+# A well-known file names the endpoints
+HEADER
+LOAD 1 https://rp.example/
+GET 1 1
+{"do":"reply","call":1,"to":"wellknown","text":"HTTP/1.1 200 OK\r\nContent-Type: application/json\r\n\r\n\
+{\"accounts_endpoint\":\"https://accounts.idp.example/accounts\",\"login_url\":\"https://accounts.idp.example/login\"}"}
+CONFIG_REPLY 1
+= done
+WELL_KNOWN_REQUEST 1 3
+CONFIG_REQUEST 1 3
+ACCOUNTS_REQUEST 1 5
+END 4
+
+# The configuration names another accounts endpoint
+HEADER
+LOAD 1 https://rp.example/
+GET 1 1
+{"do":"reply","call":1,"to":"wellknown","text":"HTTP/1.1 200 OK\r\nContent-Type: application/json\r\n\r\n\
+{\"accounts_endpoint\":\"/accounts\",\"login_url\":\"https://accounts.idp.example/login\"}"}
+CONFIG_REPLY 1
+= done
+WELL_KNOWN_REQUEST 1 3
+CONFIG_REQUEST 1 3
+{"call":1,"detail":"accounts_endpoint","line":5,"out":"result","page":1,"see":"NetworkError","step":"config-other"}
+END 4
+
+# A well-known file names one endpoint alone
+HEADER
+LOAD 1 https://rp.example/
+GET 1 1
+{"do":"reply","call":1,"to":"wellknown","text":"HTTP/1.1 200 OK\r\nContent-Type: application/json\r\n\r\n\
+{\"login_url\":\"https://accounts.idp.example/login\"}"}
+= done
+WELL_KNOWN_REQUEST 1 3
+CONFIG_REQUEST 1 3
+FAILED 1 4 1 well-known-shape
+END 3
+
 # First replies come in either order
 HEADER
 LOAD 1 https://rp.example/
@@ -153,6 +191,6 @@ LOAD 1 https://rp.example/
 
 #[test]
 fn calls(rt: HostRuntime) -> Result<(), Fail> {
-    assert_eq!(rt; first_wrong(rt.alloc(), "run", scenarios())?, ("", 11));
+    assert_eq!(rt; first_wrong(rt.alloc(), "run", scenarios())?, ("", 14));
     Ok(())
 }

@@ -4,6 +4,8 @@
 pub mod callers;
 pub mod laws;
 #[cfg(test)]
+mod limits;
+#[cfg(test)]
 mod lines;
 #[cfg(test)]
 mod pages;

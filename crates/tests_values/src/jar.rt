@@ -114,7 +114,13 @@ fn push_numbered(text: &mut Vec<u8>, alloc: Global, list: &[Numbered]) -> Result
     Ok(())
 }
 
-fn store_step(rt: &impl Abort, jar: &mut Filled, alloc: Global, step: &str) -> Result<(), Fail> {
+// Whether the field of a page is stored is what the step says.
+pub fn store_step(
+    rt: &impl Abort,
+    jar: &mut Filled,
+    alloc: Global,
+    step: &str,
+) -> Result<(), Fail> {
     let (url, more) = parts(step)?;
     let (field, answer) = parts(more)?;
     let is_stored = jar.store(alloc, url, field.as_bytes())?;

@@ -11,6 +11,8 @@ mod io;
 #[cfg(test)]
 mod jar;
 #[cfg(test)]
+mod limit;
+#[cfg(test)]
 mod lines;
 #[cfg(test)]
 mod links;

@@ -7,6 +7,7 @@ use Rattle.std.proofs.lemmas.Bool.{eqb-true}
 use Rattle.std.proofs.lemmas.Option.{same_Some}
 use Rattle.fed_origin.specs.declared.origin.Origin.{Origin}
 use Rattle.fed_origin.specs.declared.options.ProviderOptions.{ProviderOptions}
+use Rattle.fed_origin.specs.declared.stage.Endpoint.{Endpoint}
 use Rattle.fed_origin.specs.declared.stage.ReplyKind.{ReplyKind}
 use Rattle.fed_origin.specs.declared.stage.ReplyKind.TheVariants as kinds
 use Rattle.fed_origin.specs.declared.stage.Stage.TheVariants.{Reading}
@@ -16,8 +17,10 @@ use Rattle.fed_provider.specs.declared.first_replies.FirstReplies.{FirstReplies}
 use Rattle.fed_provider.specs.declared.first_replies.Heard.{Heard}
 use Rattle.fed_provider.specs.declared.first_replies.Heard.TheVariants as heards
 use Rattle.fed_provider.specs.declared.step.ProviderStep.{ProviderStep}
+use Rattle.fed_provider.specs.declared.wellknown.WellKnown.{WellKnown}
 use Rattle.fed_provider.specs.Config.{ConfigOf}
-use Rattle.fed_provider.specs.FirstReplies.{config_heard, reply_heard, wellknown_heard, wellknown_read}
+use Rattle.fed_provider.specs.FirstReplies.{by_agreement, config_heard, reply_heard, wellknown_heard, wellknown_read}
+use Rattle.fed_provider.specs.WellKnown.{agrees}
 use Rattle.fed_consent.specs.declared.table.input.Input.TheVariants.{Reply}
 use Rattle.fed_consent.specs.Outcomes.{is_ignored, only_place}
 use Rattle.fed_status.specs.Shared.{World}
@@ -85,19 +88,24 @@ reply_row world begun replies place kind raw one at =
 
 -- ---- what is known of it then
 
-wellknown_kept : (heard : Bool) (config : Option Config) (read : Result (Unit {0}) ProviderStep) (replies : FirstReplies)
-    → wellknown_heard heard config read ≡ heards.NotWaited replies → replies ≡ record { wellknown = heard; config = config }
-wellknown_kept true config read replies e = cc
-wellknown_kept false config (Err step) replies e = absurd (cc)
-wellknown_kept false None (Ok good) replies e = absurd (cc)
-wellknown_kept false (Some config) (Ok good) replies e = absurd (cc)
+-- two good files are awaited, whether they agree or not
+unawaited : (config : Config) (other : Option Endpoint) (replies : FirstReplies) → by_agreement config other ≡ heards.NotWaited replies → ⊥
+unawaited config None replies e = absurd (cc)
+unawaited config (Some endpoint) replies e = absurd (cc)
 
-config_kept : (heard : Bool) (config : Option Config) (read : Result Config ProviderStep) (replies : FirstReplies)
+wellknown_kept : (heard : Option WellKnown) (config : Option Config) (read : Result WellKnown ProviderStep) (replies : FirstReplies)
+    → wellknown_heard heard config read ≡ heards.NotWaited replies → replies ≡ record { wellknown = heard; config = config }
+wellknown_kept (Some file) config read replies e = cc
+wellknown_kept None config (Err step) replies e = absurd (cc)
+wellknown_kept None None (Ok file) replies e = absurd (cc)
+wellknown_kept None (Some config) (Ok file) replies e = absurd (unawaited config (agrees file config) replies e)
+
+config_kept : (heard : Option WellKnown) (config : Option Config) (read : Result Config ProviderStep) (replies : FirstReplies)
     → config_heard heard config read ≡ heards.NotWaited replies → replies ≡ record { wellknown = heard; config = config }
 config_kept heard (Some config) read replies e = cc
 config_kept heard None (Err step) replies e = absurd (cc)
-config_kept false None (Ok config) replies e = absurd (cc)
-config_kept true None (Ok config) replies e = absurd (cc)
+config_kept None None (Ok config) replies e = absurd (cc)
+config_kept (Some file) None (Ok config) replies e = absurd (unawaited config (agrees file config) replies e)
 
 heard_facts : (world : World) (begun : Begun) (replies : FirstReplies) (heard : Heard)
     → ((left : FirstReplies) → heard ≡ heards.NotWaited left → left ≡ replies)

@@ -36,6 +36,8 @@ pub enum FailStep {
     ConfigShape,
     /// An endpoint is no URL, or is not same-origin with the configuration URL.
     EndpointOrigin,
+    /// The configuration has another URL for an endpoint than the well-known file names.
+    ConfigOther,
     /// The reply with the accounts is refused.
     AccountsReply,
     /// The accounts are not what they should be.
@@ -106,6 +108,7 @@ impl FailStep {
             FailStep::ConfigReply => "config-reply",
             FailStep::ConfigShape => "config-shape",
             FailStep::EndpointOrigin => "endpoint-origin",
+            FailStep::ConfigOther => "config-other",
             FailStep::AccountsReply => "accounts-reply",
             FailStep::AccountsShape => "accounts-shape",
             FailStep::AccountsEmpty => "accounts-empty",
@@ -217,6 +220,10 @@ impl Failure {
             ProviderStep::ConfigShape => Failure::plain(FailStep::ConfigShape),
             ProviderStep::EndpointOrigin(endpoint) => Failure::detailed(
                 FailStep::EndpointOrigin,
+                Detail::Member(endpoint),
+            ),
+            ProviderStep::ConfigOther(endpoint) => Failure::detailed(
+                FailStep::ConfigOther,
                 Detail::Member(endpoint),
             ),
         }

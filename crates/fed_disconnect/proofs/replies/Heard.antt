@@ -1,5 +1,5 @@
 -- What a reply says of the first replies that were taken.
-use Rattle.std.proofs.Common.{◌≡◌, ℕ, Bool, true, false, List, Option, Some, None, Ok, Err, refl, sym, ap, ◌∙◌}
+use Rattle.std.proofs.Common.{◌≡◌, ℕ, Bool, false, List, Option, Some, None, Ok, Err, refl, sym, ap, ◌∙◌}
 use Rattle.std.specs.Prelude.{Result, unwrap_or}
 use Rattle.std.specs.List.{list_any}
 use Rattle.url.specs.Parts.{Parts}
@@ -14,7 +14,10 @@ use Rattle.fed_provider.specs.declared.first_replies.FirstReplies.{FirstReplies}
 use Rattle.fed_provider.specs.declared.first_replies.Heard.{Heard}
 use Rattle.fed_provider.specs.declared.first_replies.Heard.TheVariants as heard
 use Rattle.fed_provider.specs.declared.step.ProviderStep.{ProviderStep}
-use Rattle.fed_provider.specs.FirstReplies.{reply_heard, wellknown_heard, config_heard, wellknown_read}
+use Rattle.fed_provider.specs.FirstReplies.{by_agreement, reply_heard, wellknown_heard, config_heard, wellknown_read}
+use Rattle.fed_provider.specs.WellKnown.{agrees}
+use Rattle.fed_origin.specs.declared.stage.Endpoint.{Endpoint}
+use Rattle.fed_provider.specs.declared.wellknown.WellKnown.{WellKnown}
 use Rattle.fed_provider.specs.Config.{ConfigOf}
 use Rattle.fed_consent.specs.Outcomes.{is_ignored, only_place}
 use Rattle.fed_consent.specs.declared.table.input.Input.TheVariants.{Reply}
@@ -22,25 +25,30 @@ use Rattle.fed_status.specs.Shared.{World}
 use Rattle.fed_disconnect.specs.Facts.{DisconnectFacts, at_stage, facts_after, taken, with_input}
 use Rattle.fed_disconnect.specs.Rows.{by_heard, asks_disconnect}
 
+-- two good files are awaited, whether they agree or not
+unawaited : (config : Config) (other : Option Endpoint) (kept : FirstReplies) → by_agreement config other ≡ heard.NotWaited kept → ⊥
+unawaited config None kept e = absurd (cc)
+unawaited config (Some endpoint) kept e = absurd (cc)
+
 wellknown_not_waited : (rules : RuleSet) (url : Parts) (raw : List ℕ) (replies kept : FirstReplies)
     → reply_heard rules replies url kinds.WellKnown raw ≡ heard.NotWaited kept → replies ≡ kept
 wellknown_not_waited rules url raw replies kept h = go replies.wellknown refl replies.config refl (wellknown_read rules url raw) h
   where
-    go : (taken : Bool) → replies.wellknown ≡ taken → (config : Option Config) → replies.config ≡ config
-        → (read : Result (Unit {0}) ProviderStep)
+    go : (taken : Option WellKnown) → replies.wellknown ≡ taken → (config : Option Config) → replies.config ≡ config
+        → (read : Result WellKnown ProviderStep)
         → wellknown_heard taken config read ≡ heard.NotWaited kept → replies ≡ kept
-    go true is config is' read h =
-        let whole : record { wellknown = true; config = config } ≡ kept = cc in
-        ap (λ w. record { wellknown = w; config = replies.config }) is ∙ ap (λ c. record { wellknown = true; config = c }) is' ∙ whole
-    go false is config is' (Err step) h = absurd (cc)
-    go false is None is' (Ok u) h = absurd (cc)
-    go false is (Some config) is' (Ok u) h = absurd (cc)
+    go (Some file) is config is' read h =
+        let whole : record { wellknown = Some file; config = config } ≡ kept = cc in
+        ap (λ w. record { wellknown = w; config = replies.config }) is ∙ ap (λ c. record { wellknown = Some file; config = c }) is' ∙ whole
+    go None is config is' (Err step) h = absurd (cc)
+    go None is None is' (Ok u) h = absurd (cc)
+    go None is (Some config) is' (Ok u) h = absurd (unawaited config (agrees u config) kept h)
 
 config_not_waited : (rules : RuleSet) (url : Parts) (raw : List ℕ) (replies kept : FirstReplies)
     → reply_heard rules replies url kinds.Config raw ≡ heard.NotWaited kept → replies ≡ kept
 config_not_waited rules url raw replies kept h = go replies.wellknown refl replies.config refl (ConfigOf raw url) h
   where
-    go : (taken : Bool) → replies.wellknown ≡ taken → (config : Option Config) → replies.config ≡ config
+    go : (taken : Option WellKnown) → replies.wellknown ≡ taken → (config : Option Config) → replies.config ≡ config
         → (read : Result Config ProviderStep)
         → config_heard taken config read ≡ heard.NotWaited kept → replies ≡ kept
     go taken is (Some config) is' read h =
@@ -48,8 +56,8 @@ config_not_waited rules url raw replies kept h = go replies.wellknown refl repli
         ap (λ w. record { wellknown = w; config = replies.config }) is ∙ ap (λ c. record { wellknown = taken; config = c }) is'
         ∙ whole
     go taken is None is' (Err step) h = absurd (cc)
-    go false is None is' (Ok config) h = absurd (cc)
-    go true is None is' (Ok config) h = absurd (cc)
+    go None is None is' (Ok config) h = absurd (cc)
+    go (Some file) is None is' (Ok config) h = absurd (unawaited config (agrees file config) kept h)
 
 -- a reply that is not awaited leaves what was taken
 not_waited : (rules : RuleSet) (url : Parts) (kind : ReplyKind) (raw : List ℕ) (replies kept : FirstReplies)

@@ -28,9 +28,6 @@ is_key a b h =
 pub key_test : (a b c : StoredCookie) → SameKey a b → same_key a c ≡ same_key b c
 key_test a b c h = rw (h.name, h.domain, h.path) refl
 
-pub key_test' : (a b c : StoredCookie) → SameKey a b → same_key c a ≡ same_key c b
-key_test' a b c h = rw (h.name, h.domain, h.path) refl
-
 pub key_self : (a : StoredCookie) → same_key a a ≡ true
 key_self a = is_key a a (record { name = refl; domain = refl; path = refl })
 

@@ -49,13 +49,9 @@ tie_same : (d : Bool) (a b : ℕ) → a ≡ b → (not (ahead d a b) && not (ahe
 tie_same true a b e = grind (arith, nat_tests)
 tie_same false a b e = grind (arith, nat_tests)
 
-tie_other : (d : Bool) (a b : ℕ) → ahead d b a ≡ true → (not (ahead d a b) && not (ahead d b a)) ≡ false
+tie_other : (d : Bool) (a b : ℕ) → ahead d a b ≡ true → (not (ahead d a b) && not (ahead d b a)) ≡ false
 tie_other true a b e = grind (arith, nat_tests)
 tie_other false a b e = grind (arith, nat_tests)
-
-tie_other' : (d : Bool) (a b : ℕ) → ahead d a b ≡ true → (not (ahead d a b) && not (ahead d b a)) ≡ false
-tie_other' true a b e = grind (arith, nat_tests)
-tie_other' false a b e = grind (arith, nat_tests)
 
 three : (d : Bool) (a b : ℕ) → (a ≡ b) ⊎ ((ahead d b a ≡ true) ⊎ (ahead d a b ≡ true))
 three true a b = grind (arith, nat_tests)
@@ -97,7 +93,7 @@ none_ties : {X : Type 0} (d : Bool) (n : X → ℕ) (y : X) (m : ℕ) (xs : List
     → ahead d (n y) m ≡ true → filter (tie d n y) xs ≡ []
 none_ties d n y m [] all low = refl
 none_ties d n y m (x ∷ xs) all low =
-    filter_no (tie d n y) x xs (tie_other' d (n y) (n x) (far d (n x) m (n y) all.0 low)) ∙ none_ties d n y m xs all.1 low
+    filter_no (tie d n y) x xs (tie_other d (n y) (n x) (far d (n x) m (n y) all.0 low)) ∙ none_ties d n y m xs all.1 low
 
 all_below : {X : Type 0} (d : Bool) (n : X → ℕ) (a b : ℕ) (xs : List X) → ahead d a b ≡ false
     → AllByRecursion (λ x. ahead d (n x) a ≡ false) xs → AllByRecursion (λ x. ahead d (n x) b ≡ false) xs
@@ -289,6 +285,15 @@ pub filter_in_order : {X : Type 0} (d : Bool) (n : X → ℕ) (p : X → Bool) (
 filter_in_order d n p xs o =
     only_order d n (filter p (in_order (by d n) xs)) (filter p xs) (filter_ordered d n p _ (ordered d n xs)) o
     (λ z. filter_swap (tie d n z) p (in_order (by d n) xs) ∙ ap (filter p) (order_ties d n z xs) ∙ filter_swap p (tie d n z) xs)
+
+-- a filter of items in order is the items that pass, in order
+pub in_order_filter : {X : Type 0} (d : Bool) (n : X → ℕ) (p : X → Bool) (xs : List X)
+    → filter p (in_order (by d n) xs) ≡ in_order (by d n) (filter p xs)
+in_order_filter d n p xs =
+    only_order d n (filter p (in_order (by d n) xs)) (in_order (by d n) (filter p xs)) (filter_ordered d n p _ (ordered d n xs))
+    (ordered d n (filter p xs))
+    (λ z. filter_swap (tie d n z) p (in_order (by d n) xs) ∙ ap (filter p) (order_ties d n z xs) ∙ filter_swap p (tie d n z) xs
+    ∙ sym (order_ties d n z (filter p xs)))
 
 -- an item in the place of another in two lists that are alike but for it
 pub record Swapped {X : Type 0} (a b : X) (xs ys : List X) : Type 0 where

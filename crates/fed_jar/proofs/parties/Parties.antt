@@ -1,6 +1,6 @@
 -- What parties have to do with storing and sending.
 use Rattle.std.proofs.Common.{◌≡◌, ℕ, Bool, true, false, cond, ◌&&◌, List, [], ◌∷◌, Option, Some, None, unwrap_or, option_map, sym, refl}
-use Rattle.std.proofs.Common.{ap, ◌∙◌, rules}
+use Rattle.std.proofs.Common.{ap, ◌∙◌, not}
 use Rattle.std.specs.Prelude.{bytes_eq, filter, Result, Ok, Err, OnOk, OnErr}
 use Rattle.std.proofs.lemmas.Slice.Eq.{bytes_eq-Decides}
 use Rattle.url.specs.Parts.{Parts}
@@ -8,13 +8,13 @@ use Rattle.fed_origin.specs.WebUrl.{host_of}
 use Rattle.fed_suffix.specs.Rule.{RuleSet}
 use Rattle.fed_suffix.specs.Registrable.{registrable, party}
 use Rattle.fed_cookie.specs.SetCookie.{SetCookie}
-use Rattle.fed_jar.specs.Cookie.{StoredCookie, same_key, with_cookie, cookies_after, written}
+use Rattle.fed_jar.specs.Cookie.{StoredCookie, same_key, with_cookie}
 use Rattle.fed_jar.specs.Store.{are_same, is_within, host_only_of, scope_of, cookie_from, cookie_of, is_of_party}
-use Rattle.fed_jar.specs.Send.{is_sent, jar_text, cookies_sent, pairs_text, largest_first, path_length}
-use Rattle.fed_jar.specs.Writes.{cookies_at, cookie_text}
-use Rattle.fed_jar.specs.Laws.{TextIsOfWrites, TextIsOfParty, OtherPartsStay, OwnPartIsWritten, PartIsOfWrites, TextIsOfPartyWrites}
+use Rattle.fed_jar.specs.Send.{is_sent, jar_text, pairs_text, largest_first, path_length}
+use Rattle.fed_jar.specs.Changes.{CookieKey, CookieChange, Stored, Gone, is_key, without, changed, changed_by, standing}
+use Rattle.fed_jar.specs.Changes.{changes_party, changes_of_party}
+use Rattle.fed_jar.specs.Laws.{TextIsOfParty, OtherPartsStay, OwnPartIsChanged, PartIsOfChanges, TextIsOfPartyChanges}
 use Rattle.fed_jar.proofs.keys.Keys.{SameKey, key_is}
-use Rattle.fed_jar.proofs.writes.Writes.{jar_is_standing}
 
 both_true : (a b : Bool) → (a && b) ≡ true → (a ≡ true) × (b ≡ true)
 both_true true b e = (refl, e)
@@ -89,9 +89,10 @@ of_key : (rules : RuleSet) (name : List ℕ) (a b : StoredCookie) → SameKey a 
 of_key rules name a b h = ap (λ d. bytes_eq (party rules d) name) h.domain
 
 -- a write leaves the cookies that it is not among
-pub other_parts_stay : OtherPartsStay
-other_parts_stay rules name w [] out = ap (λ b. cond b (w ∷ []) []) out
-other_parts_stay rules name w (c ∷ cs) out = pick (same_key w c) refl (other_parts_stay rules name w cs out)
+other_stored : (rules : RuleSet) (name : List ℕ) (w : StoredCookie) (cs : List StoredCookie) → is_of_party rules name w ≡ false
+    → filter (is_of_party rules name) (with_cookie cs w) ≡ filter (is_of_party rules name) cs
+other_stored rules name w [] out = ap (λ b. cond b (w ∷ []) []) out
+other_stored rules name w (c ∷ cs) out = pick (same_key w c) refl (other_stored rules name w cs out)
   where
     pick : (b : Bool) → same_key w c ≡ b → filter (is_of_party rules name) (with_cookie cs w) ≡ filter (is_of_party rules name) cs
         → filter (is_of_party rules name) (cond b (w ∷ cs) (c ∷ with_cookie cs w)) ≡ filter (is_of_party rules name) (c ∷ cs)
@@ -101,19 +102,28 @@ other_parts_stay rules name w (c ∷ cs) out = pick (same_key w c) refl (other_p
         ∙ sym (ap (λ b. cond b (c ∷ filter (is_of_party rules name) cs) (filter (is_of_party rules name) cs)) out_too)
     pick false e h = ap (λ l. cond (is_of_party rules name c) (c ∷ l) l) h
 
--- what a field of a page writes leaves the cookies of every party but that of the page's host
-pub others_of : (rules : RuleSet) (url : Parts) (now : ℕ) (raw : SetCookie) (name : List ℕ) (cs : List StoredCookie)
-    → (name ≡ party rules (host_of url) → ⊥)
-    → filter (is_of_party rules name) (written cs (cookie_of rules url now raw)) ≡ filter (is_of_party rules name) cs
-unfolding cookie_from
-others_of rules url now raw name cs other = pick (scope_of rules url raw) refl
+-- the domain of a cookie that has the key
+pub domain_is : (key : CookieKey) (c : StoredCookie) → is_key key c ≡ true → key.domain ≡ c.domain
+domain_is key c e = equal_bytes _ _ (both_true _ _ (both_true _ _ e).1).0
+
+-- what goes leaves the cookies of another party
+other_gone : (rules : RuleSet) (name : List ℕ) (key : CookieKey) (cs : List StoredCookie)
+    → bytes_eq (party rules key.domain) name ≡ false
+    → filter (is_of_party rules name) (without cs key) ≡ filter (is_of_party rules name) cs
+other_gone rules name key [] out = refl
+other_gone rules name key (c ∷ cs) out = pick (is_key key c) refl (other_gone rules name key cs out)
   where
-    pick : (scope : Option Bool) → scope_of rules url raw ≡ scope
-        → filter (is_of_party rules name) (written cs (option_map (cookie_from url now raw) scope)) ≡ filter (is_of_party rules name) cs
-    pick None e = refl
-    pick (Some only) e =
-        other_parts_stay rules name (cookie_from url now raw only) cs
-        (of_other rules name (host_of url) (cookie_from url now raw only) (stored_party rules url raw only e) other)
+    pick : (b : Bool) → is_key key c ≡ b → filter (is_of_party rules name) (without cs key) ≡ filter (is_of_party rules name) cs
+        → filter (is_of_party rules name) (cond (not b) (c ∷ without cs key) (without cs key)) ≡ filter (is_of_party rules name) (c ∷ cs)
+    pick true e h =
+        let out_too : is_of_party rules name c ≡ false =
+        ap (λ d. bytes_eq (party rules d) name) (sym (domain_is key c e)) ∙ out in
+        h ∙ sym (ap (λ b. cond b (c ∷ filter (is_of_party rules name) cs) (filter (is_of_party rules name) cs)) out_too)
+    pick false e h = ap (λ l. cond (is_of_party rules name c) (c ∷ l) l) h
+
+pub other_parts_stay : OtherPartsStay
+other_parts_stay rules name (Stored w) cs out = other_stored rules name w cs out
+other_parts_stay rules name (Gone key) cs out = other_gone rules name key cs out
 
 -- the same of a call that may find no memory
 pub others_after : {E : Type 0} (r : Result Bool E) (q : StoredCookie → Bool) (old new after : List StoredCookie)
@@ -154,14 +164,25 @@ text_is_of_party rules url now a b same =
     let sent = filter_within (is_sent rules url now) (is_of_party rules (party rules (host_of url))) (sent_party rules url now) in
     ap (λ l. pairs_text (largest_first path_length l)) (sym (sent a) ∙ ap (filter (is_sent rules url now)) same ∙ sent b)
 
-pub text_is_of_writes : TextIsOfWrites
-unfolding jar_text cookie_text cookies_at
-text_is_of_writes rules url now writes = ap (λ cookies. pairs_text (cookies_sent rules url now cookies)) (jar_is_standing writes)
+-- two filters in either order
+filters_swap : (p q : StoredCookie → Bool) (cs : List StoredCookie) → filter p (filter q cs) ≡ filter q (filter p cs)
+filters_swap p q [] = refl
+filters_swap p q (c ∷ cs) = pick (p c) refl (q c) refl (filters_swap p q cs)
+  where
+    pick : (b : Bool) → p c ≡ b → (d : Bool) → q c ≡ d → filter p (filter q cs) ≡ filter q (filter p cs)
+        → filter p (cond d (c ∷ filter q cs) (filter q cs)) ≡ filter q (cond b (c ∷ filter p cs) (filter p cs))
+    pick true e true f h =
+        ap (λ b. cond b (c ∷ filter p (filter q cs)) (filter p (filter q cs))) e ∙ ap (λ l. c ∷ l) h
+        ∙ sym (ap (λ b. cond b (c ∷ filter q (filter p cs)) (filter q (filter p cs))) f)
+    pick true e false f h = h ∙ sym (ap (λ b. cond b (c ∷ filter q (filter p cs)) (filter q (filter p cs))) f)
+    pick false e true f h = ap (λ b. cond b (c ∷ filter p (filter q cs)) (filter p (filter q cs))) e ∙ h
+    pick false e false f h = h
 
 -- a cookie of the party is written among those of the party
-pub own_part_is_written : OwnPartIsWritten
-own_part_is_written rules name w [] own = ap (λ b. cond b (w ∷ []) []) own
-own_part_is_written rules name w (c ∷ cs) own = pick (same_key w c) refl (own_part_is_written rules name w cs own)
+own_stored : (rules : RuleSet) (name : List ℕ) (w : StoredCookie) (cs : List StoredCookie) → is_of_party rules name w ≡ true
+    → filter (is_of_party rules name) (with_cookie cs w) ≡ with_cookie (filter (is_of_party rules name) cs) w
+own_stored rules name w [] own = ap (λ b. cond b (w ∷ []) []) own
+own_stored rules name w (c ∷ cs) own = pick (same_key w c) refl (own_stored rules name w cs own)
   where
     kept : (b : Bool) → same_key w c ≡ false
         → cond b (c ∷ with_cookie (filter (is_of_party rules name) cs) w) (with_cookie (filter (is_of_party rules name) cs) w)
@@ -182,23 +203,31 @@ own_part_is_written rules name w (c ∷ cs) own = pick (same_key w c) refl (own_
         ∙ sym (ap (λ b. with_cookie (cond b (c ∷ theirs) theirs) w) own_too)
     pick false is ih = ap (λ l. cond (is_of_party rules name c) (c ∷ l) l) ih ∙ kept (is_of_party rules name c) is
 
--- the part of a party after any writes
-pub part_is_of_writes : PartIsOfWrites
-part_is_of_writes rules name cs [] = refl
-part_is_of_writes rules name cs (w ∷ ws) = part_is_of_writes rules name (with_cookie cs w) ws ∙ go (is_of_party rules name w) refl
-  where
-    go : (b : Bool) → is_of_party rules name w ≡ b
-        → cookies_after (filter (is_of_party rules name) (with_cookie cs w)) (filter (is_of_party rules name) ws)
-        ≡ cookies_after (filter (is_of_party rules name) cs) (cond b (w ∷ filter (is_of_party rules name) ws)
-        (filter (is_of_party rules name) ws))
-    go true is = ap (λ l. cookies_after l (filter (is_of_party rules name) ws)) (own_part_is_written rules name w cs is)
-    go false is = ap (λ l. cookies_after l (filter (is_of_party rules name) ws)) (other_parts_stay rules name w cs is)
+pub own_part_is_changed : OwnPartIsChanged
+own_part_is_changed rules name (Stored w) cs own = own_stored rules name w cs own
+own_part_is_changed rules name (Gone key) cs own = filters_swap (is_of_party rules name) (λ c. not (is_key key c)) cs
 
--- the Cookie field is a function of the writes of the party of the URL's host
-pub text_is_of_party_writes : TextIsOfPartyWrites
-text_is_of_party_writes rules url now a b same =
-    let name = party rules (host_of url) in
-    sym (text_is_of_writes rules url now a)
-    ∙ text_is_of_party rules url now (cookies_after [] a) (cookies_after [] b)
-    (part_is_of_writes rules name [] a ∙ ap (cookies_after []) same ∙ sym (part_is_of_writes rules name [] b))
-    ∙ text_is_of_writes rules url now b
+-- the part of a party after any changes
+pub part_is_of_changes : PartIsOfChanges
+part_is_of_changes rules name cs [] = refl
+part_is_of_changes rules name cs (x ∷ xs) = part_is_of_changes rules name (changed cs x) xs ∙ go (changes_party rules name x) refl
+  where
+    go : (b : Bool) → changes_party rules name x ≡ b
+        → changed_by (filter (is_of_party rules name) (changed cs x)) (filter (changes_party rules name) xs)
+        ≡ changed_by (filter (is_of_party rules name) cs) (cond b (x ∷ filter (changes_party rules name) xs)
+        (filter (changes_party rules name) xs))
+    go true is = ap (λ l. changed_by l (filter (changes_party rules name) xs)) (own_part_is_changed rules name x cs is)
+    go false is = ap (λ l. changed_by l (filter (changes_party rules name) xs)) (other_parts_stay rules name x cs is)
+
+-- the part of the cookies that stand is told by the changes of the party
+pub part_standing : (rules : RuleSet) (name : List ℕ) (a b : List CookieChange)
+    → changes_of_party rules name a ≡ changes_of_party rules name b
+    → filter (is_of_party rules name) (standing a) ≡ filter (is_of_party rules name) (standing b)
+unfolding standing
+part_standing rules name a b same =
+    part_is_of_changes rules name [] a ∙ ap (changed_by []) same ∙ sym (part_is_of_changes rules name [] b)
+
+-- the Cookie field is a function of the changes of the party of the URL's host
+pub text_is_of_party_changes : TextIsOfPartyChanges
+text_is_of_party_changes rules url now a b same =
+    text_is_of_party rules url now (standing a) (standing b) (part_standing rules (party rules (host_of url)) a b same)

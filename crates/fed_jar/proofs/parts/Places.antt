@@ -10,10 +10,13 @@ use Rattle.fed_suffix.specs.Rule.{RuleSet}
 use Rattle.fed_suffix.specs.Registrable.{registrable, party}
 use Rattle.fed_jar.specs.declared.numbered.Numbered.{Numbered}
 use Rattle.fed_jar.specs.declared.party_cookies.PartyCookies.{PartyCookies}
+use Rattle.fed_jar.specs.Changes.{CookieKey}
 use Rattle.fed_jar.specs.Cookie.{KeptCookie}
+use Rattle.fed_jar.specs.Limit.{gone_with}
 use Rattle.fed_jar.specs.Store.{IsOwn, IsKeptBy}
 use Rattle.fed_jar.specs.Send.{put_by, in_order}
 use Rattle.fed_jar.specs.Parts.{cookies_held, under, put_numbered, Lists, lists_of, list_under, put_under, all_kept, jar_of, IsPlace, AreOwn}
+use Rattle.fed_jar.specs.Parts.{numbered_cookies, dropped, drop_under, put_limited, store_under}
 use Rattle.fed_jar.proofs.parts.Kept.{same_text, text_same, text_comm}
 
 -- ---- the registrable domain by the party
@@ -106,25 +109,30 @@ away first name [] at all e = absurd (cc)
 away first name (l ∷ ls) zero all e = text_comm name first ∙ ap (bytes_eq first) (sym (alike l.0 name e)) ∙ all.0
 away first name (l ∷ ls) (suc at) all e = away first name ls at all.1 e
 
--- a cookie more in the list at the place
-pub put_at : {K S : Type 0} (text : K → List ℕ) (name : List ℕ) (new : Numbered) (m : IndexMap K PartyCookies S)
-    (es : List (K × PartyCookies)) (at : ℕ) (s t : PartyCookies) → IsDistinct bytes_eq (keys_of (lists_of text es))
+-- a cookie more in the list at the place, and one less
+pub changed_at : {K S : Type 0} (text : K → List ℕ) (name : List ℕ) (new : Numbered) (gone : Option CookieKey)
+    (m : IndexMap K PartyCookies S) (es : List (K × PartyCookies)) (at : ℕ) (s t : PartyCookies)
+    → IsDistinct bytes_eq (keys_of (lists_of text es))
     → IsPlace name (Some at) (lists_of text es) → slice_get (map (λ (e : K × PartyCookies). e.1) es) at ≡ Some s
-    → cookies_held t ≡ put_numbered (cookies_held s) new
-    → lists_of text (with_value_at (with_entries m es) at t).entries ≡ put_under name (lists_of text es) new
+    → cookies_held t ≡ dropped gone (put_numbered (cookies_held s) new)
+    → lists_of text (with_value_at (with_entries m es) at t).entries ≡ drop_under name (put_under name (lists_of text es) new) gone
 unfolding IsDistinct
-put_at text name new m [] at s t named e f keys = absurd (cc)
-put_at {K} {S} text name new m (l ∷ es) zero s t named e f keys =
+changed_at text name new gone m [] at s t named e f keys = absurd (cc)
+changed_at {K} {S} text name new gone m (l ∷ es) zero s t named e f keys =
+    let here : true ≡ bytes_eq name (text l.0) = sym (text_same name (text l.0) (sym (alike (text l.0) name e))) in
+    let put = put_numbered (cookies_held l.1) new in
     ap (λ (k : List Numbered). (text l.0, k) ∷ lists_of text es)
-    (keys ∙ ap (λ (u : PartyCookies). put_numbered (cookies_held u) new) (sym (alike l.1 s f)))
-    ∙ ap (λ b. cond b ((text l.0, put_numbered (cookies_held l.1) new) ∷ lists_of text es)
-    ((text l.0, cookies_held l.1) ∷ put_under name (lists_of text es) new))
-    (sym (text_same name (text l.0) (sym (alike (text l.0) name e))))
-put_at text name new m (l ∷ es) (suc at) s t named e f keys =
-    ap (λ rest. (text l.0, cookies_held l.1) ∷ rest) (put_at text name new m es at s t named.1 e f keys)
-    ∙ ap (λ b. cond b ((text l.0, put_numbered (cookies_held l.1) new) ∷ lists_of text es)
-    ((text l.0, cookies_held l.1) ∷ put_under name (lists_of text es) new))
-    (sym (away (text l.0) name (lists_of text es) at named.0 e))
+    (keys ∙ ap (λ (u : PartyCookies). dropped gone (put_numbered (cookies_held u) new)) (sym (alike l.1 s f)))
+    ∙ ap (λ b. cond b ((text l.0, dropped gone put) ∷ lists_of text es) ((text l.0, put) ∷ drop_under name (lists_of text es) gone)) here
+    ∙ ap (λ b. drop_under name (cond b ((text l.0, put) ∷ lists_of text es)
+    ((text l.0, cookies_held l.1) ∷ put_under name (lists_of text es) new)) gone) here
+changed_at text name new gone m (l ∷ es) (suc at) s t named e f keys =
+    let out : false ≡ bytes_eq name (text l.0) = sym (away (text l.0) name (lists_of text es) at named.0 e) in
+    let rest = put_under name (lists_of text es) new in
+    ap (λ rest. (text l.0, cookies_held l.1) ∷ rest) (changed_at text name new gone m es at s t named.1 e f keys)
+    ∙ ap (λ b. cond b ((text l.0, dropped gone (cookies_held l.1)) ∷ rest) ((text l.0, cookies_held l.1) ∷ drop_under name rest gone)) out
+    ∙ ap (λ b. drop_under name (cond b ((text l.0, put_numbered (cookies_held l.1) new) ∷ lists_of text es)
+    ((text l.0, cookies_held l.1) ∷ rest)) gone) out
 
 -- the lists stay where the one at the place does
 pub put_same : {K S : Type 0} (text : K → List ℕ) (m : IndexMap K PartyCookies S) (es : List (K × PartyCookies)) (at : ℕ)
@@ -151,6 +159,17 @@ set_at text name (l ∷ es) (suc at) s named e f =
     ap (λ b. option_map_or (λ list. list) (cond b (Some (cookies_held l.1)) (lookup (bytes_eq name) (lists_of text es))) [])
     (away (text l.0) name (lists_of text es) at named.0 e)
     ∙ set_at text name es at s named.1 e f
+
+-- a cookie is stored in the list at the place
+pub stored_at : {K S : Type 0} (text : K → List ℕ) (now : ℕ) (name : List ℕ) (new : Numbered) (m : IndexMap K PartyCookies S)
+    (es : List (K × PartyCookies)) (at : ℕ) (s t : PartyCookies) → IsDistinct bytes_eq (keys_of (lists_of text es))
+    → IsPlace name (Some at) (lists_of text es) → slice_get (map (λ (e : K × PartyCookies). e.1) es) at ≡ Some s
+    → cookies_held t ≡ put_limited now (cookies_held s) new
+    → lists_of text (with_value_at (with_entries m es) at t).entries ≡ store_under now name (lists_of text es) new
+stored_at text now name new m es at s t named e f keys =
+    changed_at text name new (gone_with now (numbered_cookies (cookies_held s)) new.cookie) m es at s t named e f keys
+    ∙ ap (λ list. drop_under name (put_under name (lists_of text es) new) (gone_with now (numbered_cookies list) new.cookie))
+    (sym (set_at text name es at s named e f))
 
 -- ---- cookies in the lists of their parties
 

@@ -1,8 +1,8 @@
 -- A cookie that is put into a jar's lists.
-use Rattle.std.proofs.Common.{◌≡◌, ℕ, ◌+◌, ◌<◌, ◌≤◌, Bool, true, false, cond, ◌||◌, List, [], ◌∷◌, ◌++◌, map, Some, None, sym, refl, ap}
+use Rattle.std.proofs.Common.{◌≡◌, ℕ, ◌+◌, ◌<◌, Bool, true, false, cond, ◌||◌, List, [], ◌∷◌, ◌++◌, map, Some, sym, refl, ap}
 use Rattle.std.proofs.Common.{◌∙◌}
 use Rattle.std.proofs.Common.{subst, arith, append_assoc, not}
-use Rattle.std.specs.Prelude.{Option, Result, Ok, Err, OnOk, OnErr, bytes_eq, filter, nat_le}
+use Rattle.std.specs.Prelude.{bytes_eq, filter, nat_le}
 use Rattle.std.specs.List.{list_any, AllByRecursion, IsDistinct}
 use Rattle.std.specs.Map.{keys_of, lookup}
 use Rattle.std.specs.Option.{option_map_or}
@@ -11,19 +11,18 @@ use Rattle.url.specs.Parts.{Parts}
 use Rattle.fed_origin.specs.WebUrl.{host_of}
 use Rattle.fed_suffix.specs.Rule.{RuleSet}
 use Rattle.fed_suffix.specs.Registrable.{party}
-use Rattle.fed_cookie.specs.SetCookie.{SetCookie}
 use Rattle.fed_jar.specs.declared.numbered.Numbered.{Numbered}
-use Rattle.fed_jar.specs.Cookie.{StoredCookie, KeptCookie, JarParts, cookies_of, cookies_in, is_under, kept_under, has_key, same_key}
-use Rattle.fed_jar.specs.Cookie.{with_kept, with_cookie, written, entered_after, jar_after, AreDistinct}
-use Rattle.fed_jar.specs.Store.{IsOwn, IsKeptBy, is_of_party, cookie_of}
+use Rattle.fed_jar.specs.Cookie.{StoredCookie, KeptCookie, cookies_of, is_under, kept_under, has_key, same_key}
+use Rattle.fed_jar.specs.Cookie.{with_kept, with_cookie, AreDistinct}
+use Rattle.fed_jar.specs.Store.{IsOwn, is_of_party}
 use Rattle.fed_jar.specs.Send.{jar_text}
-use Rattle.fed_jar.specs.Parts.{numbered_cookies, under, put_numbered, put_under, Lists, list_under, all_kept, kept_of, jar_of, Rises}
+use Rattle.fed_jar.specs.Parts.{numbered_cookies, under, put_numbered, put_under, Lists, list_under, all_kept, kept_of, Rises}
 use Rattle.fed_jar.specs.Parts.{AreLists}
 use Rattle.fed_jar.specs.Parts.{same_numbered, smallest_first, numbered_of}
 use Rattle.fed_jar.proofs.order.Order.{swapped_in_order, last_in_order}
 use Rattle.fed_jar.proofs.keys.Keys.{key_is, key_test, key_comm}
-use Rattle.fed_jar.proofs.writes.Writes.{distinct-with_cookie}
-use Rattle.fed_jar.proofs.parties.Parties.{written_party, filter_within, text_is_of_party}
+use Rattle.fed_jar.proofs.changes.Changes.{distinct-with_cookie}
+use Rattle.fed_jar.proofs.parties.Parties.{filter_within, text_is_of_party}
 use Rattle.fed_jar.proofs.parts.Lists.{put_last}
 use Rattle.fed_jar.proofs.parts.Kept.{same_text, text_same, text_comm, map_joined, cookies_under, has_key-numbered, part_of_kept}
 use Rattle.fed_jar.proofs.parts.Kept.{cookies_numbered}
@@ -204,7 +203,7 @@ kept_added name new ls after below absent r =
     ∙ ap (λ ks. ks ++ under name new ∷ []) (sym was)
     ∙ sym (with_kept_last (under name new) (kept_of ls) absent)
 
-own_listed : (name : List ℕ) (new : Numbered) (ls : Lists) (entered : ℕ) → AreLists ls entered
+pub own_listed : (name : List ℕ) (new : Numbered) (ls : Lists) (entered : ℕ) → AreLists ls entered
     → has_key new.cookie (cookies_of (kept_of ls)) ≡ has_key new.cookie (cookies_of (kept_under name (kept_of ls)))
     → has_key new.cookie (cookies_of (kept_of ls)) ≡ list_any (same_numbered new) (list_under name ls)
 own_listed name new ls entered are own =
@@ -355,23 +354,6 @@ AreLists-put name new ls entered are own next = record {
       (distinct-with_cookie new.cookie (cookies_of (kept_of ls)) are.apart);
 }
 
-next_after : (b has : Bool) (e : ℕ) → has ≡ b → cond (not b) (e + 1) e ≡ cond has e (e + 1)
-next_after true has e is = ap (λ t. cond t e (e + 1)) (sym is)
-next_after false has e is = ap (λ t. cond t e (e + 1)) (sym is)
-
--- the jar of the lists is the jar after the write
-pub jar_put : (name : List ℕ) (new : Numbered) (ls : Lists) (entered : ℕ) → AreLists ls new.number
-    → has_key new.cookie (cookies_of (kept_of ls)) ≡ has_key new.cookie (cookies_of (kept_under name (kept_of ls)))
-    → entered ≡ cond (not (list_any (same_numbered new) (list_under name ls))) (new.number + 1) new.number
-    → jar_of (put_under name ls new) entered ≡ jar_after name (jar_of ls new.number) (Some new.cookie)
-jar_put name new ls entered are own next =
-    let kept = kept_put name new ls are own in
-    let more : entered ≡ entered_after (jar_of ls new.number) new.cookie =
-    next
-    ∙ next_after (list_any (same_numbered new) (list_under name ls)) (has_key new.cookie (cookies_of (kept_of ls))) new.number
-    (own_listed name new ls new.number are own) in
-    λ i. record { kept = kept i; entered = more i }
-
 -- ---- what parties have to do with it
 
 -- a cookie of the party has its key among what is kept under the party, or nowhere
@@ -418,27 +400,6 @@ part_cookies rules name (k ∷ ks) own =
     pick true h = ap (λ l. k.cookie ∷ l) h
     pick false h = h
 
--- the list of the jar after a write
-pub cookies-jar_after : (name : List ℕ) (jar : JarParts) (write : Option StoredCookie)
-    → cookies_in (jar_after name jar write) ≡ written (cookies_in jar) write
-cookies-jar_after name jar None = refl
-cookies-jar_after name jar (Some cookie) = cookies-with_kept jar.kept (record { cookie = cookie; party = name; number = jar.entered })
-
--- a jar of which each cookie is kept under its party stays one
-IsKeptBy-jar_after : (rules : RuleSet) (name : List ℕ) (jar : JarParts) (write : Option StoredCookie) → IsKeptBy rules jar
-    → ((cookie : StoredCookie) → write ≡ Some cookie → party rules cookie.domain ≡ name) → IsKeptBy rules (jar_after name jar write)
-IsKeptBy-jar_after rules name jar None own of = own
-IsKeptBy-jar_after rules name jar (Some cookie) own of =
-    IsOwn-with_kept rules jar.kept (record { cookie = cookie; party = name; number = jar.entered }) own (sym (of cookie refl))
-
-pub stays_kept : {E : Type 0} (r : Result Bool E) (rules : RuleSet) (url : Parts) (now : ℕ) (raw : SetCookie) (old new : JarParts)
-    → OnOk r (new ≡ jar_after (party rules (host_of url)) old (cookie_of rules url now raw)) → OnErr r (new ≡ old) → IsKeptBy rules old
-    → IsKeptBy rules new
-stays_kept (Ok b) rules url now raw old new ok err own =
-    subst (IsKeptBy rules) (sym ok)
-    (IsKeptBy-jar_after rules (party rules (host_of url)) old (cookie_of rules url now raw) own (written_party rules url now raw))
-stays_kept (Err e) rules url now raw old new ok err own = subst (IsKeptBy rules) (sym err) own
-
 same_filter : (p : StoredCookie → Bool) (cs : List StoredCookie) → filter p (filter p cs) ≡ filter p cs
 same_filter p cs = filter_within p p (λ c e. e) cs
 
@@ -456,19 +417,3 @@ text_of_part rules url now ks own =
 pub no_lists : AreLists [] 0
 unfolding IsDistinct
 no_lists = record { named = tt; rises = tt; below = tt; apart = tt }
-
-at_most_next : (b : Bool) (n : ℕ) → cond b n (n + 1) ≤ n + 1
-at_most_next true n = omega arith
-at_most_next false n = omega arith
-
--- a write brings at most one new key
-pub entered_next : (name : List ℕ) (jar : JarParts) (write : Option StoredCookie) → (jar_after name jar write).entered ≤ jar.entered + 1
-entered_next name jar None = omega arith
-entered_next name jar (Some cookie) = at_most_next (has_key cookie (cookies_in jar)) jar.entered
-
--- the same of a call that may find no memory
-pub entered_stored : {E : Type 0} (r : Result Bool E) (name : List ℕ) (old new : JarParts) (write : Option StoredCookie)
-    → OnOk r (new ≡ jar_after name old write) → OnErr r (new ≡ old) → new.entered ≤ old.entered + 1
-entered_stored (Ok b) name old new write ok err =
-    subst (λ (j : JarParts). j.entered ≤ old.entered + 1) (sym ok) (entered_next name old write)
-entered_stored (Err e) name old new write ok err = subst (λ (j : JarParts). j.entered ≤ old.entered + 1) (sym err) (omega arith)

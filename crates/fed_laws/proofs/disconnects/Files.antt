@@ -6,6 +6,7 @@ use Rattle.std.specs.Prelude.{Result as Answer, Ok, Err}
 use Rattle.std.specs.Option.{option_or}
 use Rattle.std.specs.List.{list_any}
 use Rattle.url.specs.Parts.{Parts}
+use Rattle.fed_origin.specs.declared.stage.Endpoint.{Endpoint}
 use Rattle.fed_origin.specs.declared.stage.ReplyKind.{ReplyKind}
 use Rattle.fed_origin.specs.declared.stage.ReplyKind.TheVariants as kinds
 use Rattle.fed_origin.specs.declared.stage.Stage.TheVariants.{Reading}
@@ -15,8 +16,11 @@ use Rattle.fed_provider.specs.declared.first_replies.FirstReplies.{FirstReplies}
 use Rattle.fed_provider.specs.declared.first_replies.Heard.{Heard}
 use Rattle.fed_provider.specs.declared.first_replies.Heard.TheVariants as heard
 use Rattle.fed_provider.specs.declared.step.ProviderStep.{ProviderStep}
+use Rattle.fed_provider.specs.declared.step.ProviderStep.TheVariants.{ConfigOther}
+use Rattle.fed_provider.specs.declared.wellknown.WellKnown.{WellKnown}
 use Rattle.fed_provider.specs.Config.{ConfigOf}
-use Rattle.fed_provider.specs.FirstReplies.{config_heard, reply_heard, wellknown_heard, wellknown_read}
+use Rattle.fed_provider.specs.FirstReplies.{by_agreement, config_heard, reply_heard, wellknown_heard, wellknown_read}
+use Rattle.fed_provider.specs.WellKnown.{agrees}
 use Rattle.fed_status.specs.Shared.{World}
 use Rattle.fed_consent.specs.declared.table.failure.Failure.{Failure}
 use Rattle.fed_consent.specs.declared.table.input.Input.{Input}
@@ -32,10 +36,10 @@ use Rattle.fed_laws.specs.Cause.{FilesAreGood, config_brought, first_by, first_i
 
 -- ---- what came
 
--- a well-known file that was taken is the first that came, and names the configuration URL
-abbrev pub WellKnownIs : RuleSet → Parts → Bool → Option (List ℕ) → Type 0
-WellKnownIs rules url false came = came ≡ None
-WellKnownIs rules url true came = (raw : List ℕ) × (came ≡ Some raw) × (wellknown_read rules url raw ≡ Ok tt)
+-- a well-known file that was taken is the first that came
+abbrev pub WellKnownIs : RuleSet → Parts → Option WellKnown → Option (List ℕ) → Type 0
+WellKnownIs rules url None came = came ≡ None
+WellKnownIs rules url (Some said) came = (raw : List ℕ) × (came ≡ Some raw) × (wellknown_read rules url raw ≡ Ok said)
 
 -- a configuration that was taken is in the first reply that came
 abbrev pub ConfigIs : Parts → Option Config → Option (List ℕ) → Type 0
@@ -64,9 +68,9 @@ came_apart first brought none = ap (option_or first) none ∙ option_or-none fir
 came_now : (first brought : Option (List ℕ)) (raw : List ℕ) → first ≡ None → brought ≡ Some raw → option_or first brought ≡ Some raw
 came_now first brought raw none is = ap (λ o. option_or o brought) none ∙ is
 
-wellknown_stays : (rules : RuleSet) (url : Parts) (first brought : Option (List ℕ)) → WellKnownIs rules url true first
-    → WellKnownIs rules url true (option_or first brought)
-wellknown_stays rules url first brought is = (is.0, ap (λ o. option_or o brought) is.1, is.2)
+wellknown_stays : (rules : RuleSet) (url : Parts) (said : WellKnown) (first brought : Option (List ℕ))
+    → WellKnownIs rules url (Some said) first → WellKnownIs rules url (Some said) (option_or first brought)
+wellknown_stays rules url said first brought is = (is.0, ap (λ o. option_or o brought) is.1, is.2)
 
 config_stays : (url : Parts) (config : Config) (first brought : Option (List ℕ)) → ConfigIs url (Some config) first
     → ConfigIs url (Some config) (option_or first brought)
@@ -102,48 +106,60 @@ module _ (rules : RuleSet) (url : Parts) (call : ℕ) (since : List Row) (event 
   abbrev Heard_of : FirstReplies → Heard → Type 0
   Heard_of replies h = Hearing rules url call since event replies h
 
+  -- both files came and are good: they agree, or the call fails
+  heard_both : (replies : FirstReplies) (config : Config) (other : Option Endpoint)
+      → (other ≡ None → (files : FilesAreGood rules url call since event) × (config ≡ files.config))
+      → Heard_of replies (by_agreement config other)
+  heard_both replies config None good = let both = good refl in Completes both.0 (ap heard.Both both.1)
+  heard_both replies config (Some endpoint) good = Refuses (ConfigOther endpoint) refl
+
   -- a well-known reply, by what was taken before
-  heard_wellknown : (wellknown : Bool) (config : Option Config)
+  heard_wellknown : (wellknown : Option WellKnown) (config : Option Config)
       → input_to call event ≡ Some (inputs.Reply only_place kinds.WellKnown raw)
       → FilesIn rules url (record { wellknown = wellknown; config = config }) call since
       → Heard_of (record { wellknown = wellknown; config = config }) (wellknown_heard wellknown config (wellknown_read rules url raw))
-  heard_wellknown true config is files =
+  heard_wellknown (Some said) config is files =
       Declines _ refl
       (record {
-        wellknown_is = wellknown_stays rules url _ _ files.wellknown_is;
+        wellknown_is = wellknown_stays rules url said _ _ files.wellknown_is;
         config_is = subst (ConfigIs url config) (sym (came_apart _ _ (ap config_brought is))) files.config_is;
       })
-  heard_wellknown false None is files = go (wellknown_read rules url raw) refl
+  heard_wellknown None None is files = go (wellknown_read rules url raw) refl
     where
-      go : (read : Answer (Unit {0}) ProviderStep) → wellknown_read rules url raw ≡ read
-          → Heard_of (record { wellknown = false; config = None }) (wellknown_heard false None read)
+      go : (read : Answer WellKnown ProviderStep) → wellknown_read rules url raw ≡ read
+          → Heard_of (record { wellknown = None; config = None }) (wellknown_heard None None read)
       go (Err step) reads = Refuses step refl
-      go (Ok good) reads =
+      go (Ok said) reads =
           Hears _ refl
           (record {
             wellknown_is = (raw, came_now _ _ raw files.wellknown_is (ap wellknown_brought is), reads);
             config_is = came_apart _ _ (ap config_brought is) ∙ files.config_is;
           })
-  heard_wellknown false (Some config) is files = go (wellknown_read rules url raw) refl
+  heard_wellknown None (Some config) is files = go (wellknown_read rules url raw) refl
     where
-      go : (read : Answer (Unit {0}) ProviderStep) → wellknown_read rules url raw ≡ read
-          → Heard_of (record { wellknown = false; config = Some config }) (wellknown_heard false (Some config) read)
+      go : (read : Answer WellKnown ProviderStep) → wellknown_read rules url raw ≡ read
+          → Heard_of (record { wellknown = None; config = Some config }) (wellknown_heard None (Some config) read)
       go (Err step) reads = Refuses step refl
-      go (Ok good) reads =
-          Completes
-          (record {
-            wellknown = raw;
-            wellknown_came = came_now _ _ raw files.wellknown_is (ap wellknown_brought is);
-            names_it = reads;
-            file = files.config_is.0;
-            file_came = came_apart _ _ (ap config_brought is) ∙ files.config_is.1;
-            config = config;
-            holds = files.config_is.2;
-            not_before = inl files.wellknown_is;
-          }) refl
+      go (Ok said) reads =
+          heard_both _ config (agrees said config)
+          (λ agree. (
+            record {
+              wellknown = raw;
+              wellknown_came = came_now _ _ raw files.wellknown_is (ap wellknown_brought is);
+              said = said;
+              names_it = reads;
+              file = files.config_is.0;
+              file_came = came_apart _ _ (ap config_brought is) ∙ files.config_is.1;
+              config = config;
+              holds = files.config_is.2;
+              agree = agree;
+              not_before = inl files.wellknown_is;
+            },
+            refl,
+          ))
 
   -- a configuration reply
-  heard_config : (wellknown : Bool) (config : Option Config)
+  heard_config : (wellknown : Option WellKnown) (config : Option Config)
       → input_to call event ≡ Some (inputs.Reply only_place kinds.Config raw)
       → FilesIn rules url (record { wellknown = wellknown; config = config }) call since
       → Heard_of (record { wellknown = wellknown; config = config }) (config_heard wellknown config (ConfigOf raw url))
@@ -153,10 +169,10 @@ module _ (rules : RuleSet) (url : Parts) (call : ℕ) (since : List Row) (event 
         wellknown_is = subst (WellKnownIs rules url wellknown) (sym (came_apart _ _ (ap wellknown_brought is))) files.wellknown_is;
         config_is = config_stays url config _ _ files.config_is;
       })
-  heard_config false None is files = go (ConfigOf raw url) refl
+  heard_config None None is files = go (ConfigOf raw url) refl
     where
       go : (read : Answer Config ProviderStep) → ConfigOf raw url ≡ read
-          → Heard_of (record { wellknown = false; config = None }) (config_heard false None read)
+          → Heard_of (record { wellknown = None; config = None }) (config_heard None None read)
       go (Err step) reads = Refuses step refl
       go (Ok config) reads =
           Hears _ refl
@@ -164,23 +180,28 @@ module _ (rules : RuleSet) (url : Parts) (call : ℕ) (since : List Row) (event 
             wellknown_is = came_apart _ _ (ap wellknown_brought is) ∙ files.wellknown_is;
             config_is = (raw, came_now _ _ raw files.config_is (ap config_brought is), reads);
           })
-  heard_config true None is files = go (ConfigOf raw url) refl
+  heard_config (Some said) None is files = go (ConfigOf raw url) refl
     where
       go : (read : Answer Config ProviderStep) → ConfigOf raw url ≡ read
-          → Heard_of (record { wellknown = true; config = None }) (config_heard true None read)
+          → Heard_of (record { wellknown = Some said; config = None }) (config_heard (Some said) None read)
       go (Err step) reads = Refuses step refl
       go (Ok config) reads =
-          Completes
-          (record {
-            wellknown = files.wellknown_is.0;
-            wellknown_came = came_apart _ _ (ap wellknown_brought is) ∙ files.wellknown_is.1;
-            names_it = files.wellknown_is.2;
-            file = raw;
-            file_came = came_now _ _ raw files.config_is (ap config_brought is);
-            config = config;
-            holds = reads;
-            not_before = inr files.config_is;
-          }) refl
+          heard_both _ config (agrees said config)
+          (λ agree. (
+            record {
+              wellknown = files.wellknown_is.0;
+              wellknown_came = came_apart _ _ (ap wellknown_brought is) ∙ files.wellknown_is.1;
+              said = said;
+              names_it = files.wellknown_is.2;
+              file = raw;
+              file_came = came_now _ _ raw files.config_is (ap config_brought is);
+              config = config;
+              holds = reads;
+              agree = agree;
+              not_before = inr files.config_is;
+            },
+            refl,
+          ))
 
   -- a reply of any kind
   heard_by : (kind : ReplyKind) (replies : FirstReplies) → input_to call event ≡ Some (inputs.Reply only_place kind raw)

@@ -29,9 +29,9 @@ use Rattle.fed_trace.specs.Call.{OfDisconnect, input_row}
 use Rattle.fed_trace.specs.Effect.{Effect, Flag, Kept, Login, Sent}
 use Rattle.fed_trace.specs.Known.{input_to, is_begun, known_at, world_at}
 use Rattle.fed_trace.specs.OfCall.{Has}
-use Rattle.fed_trace.specs.Row.{call_effects, close_effects, cookies_from, cookies_with, effects_of, have_cookies, input_effects, is_busy}
-use Rattle.fed_trace.specs.Row.{moves, outcome_effects, set_cookies, set_logins}
-use Rattle.fed_trace.specs.Trace.{Trace, gets, now_at, page_at, pending_of}
+use Rattle.fed_trace.specs.Row.{call_effects, close_effects, cookies_with, effects_of, have_changes, input_effects, is_busy}
+use Rattle.fed_trace.specs.Row.{load_changes, moves, outcome_effects, set_logins}
+use Rattle.fed_trace.specs.Trace.{Trace, gets, page_at, pending_of}
 use Rattle.fed_trace.specs.Windows.{windows_of}
 use Rattle.fed_trace.proofs.calls.Pending.{load_silent}
 use Rattle.fed_trace.proofs.calls.Resumed.{idpclose_silent}
@@ -248,7 +248,7 @@ module _ (kind : CallKind) (call provider : ℕ) (ask : Ask) (cookies : List ℕ
     pub sender : (T : Trace) (event : Event) → Has (effects_of T event) request → Sender T event call ask cookies
     sender T (events.Have have) has =
         unnamed _ (have_silent names (record { cookie = λ c. refl; login = λ o s. refl; kept = λ t k. refl; flag = λ o k. refl })
-        (have_cookies T.header.rules (now_at T) have) have) has
+        (have_changes T have) have) has
     sender T (At time) has = unnamed _ (refl, tt) has
     sender T (Prevent page) has =
         unnamed _ (says_silent names (λ origin. Flag origin true) (λ o. refl) (λ w. refl) (page_at T page)) has
@@ -257,7 +257,7 @@ module _ (kind : CallKind) (call provider : ℕ) (ask : Ask) (cookies : List ℕ
     sender T (Load page url raw) has =
         unnamed _
         (load_silent names (λ n c. refl) (λ p o. refl) (λ c. refl) (λ o s. refl) (pending_of T page) page url
-        (cookies_from T.header.rules url (now_at T) (set_cookies raw)) (set_logins raw)) has
+        (load_changes T url raw) (set_logins raw)) has
     sender T (ClosePage page) has = unnamed _ (closes (pending_of T page) page (page_at T page)) has
     sender T (Get page to options) has =
         unnamed _

@@ -38,9 +38,9 @@ use Rattle.fed_trace.specs.Call.{OfDisconnect, input_row}
 use Rattle.fed_trace.specs.Effect.{Cookie, Effect, Flag, Kept, Login, Move, Result, kept_change, key_change}
 use Rattle.fed_trace.specs.Known.{input_to, is_begun, known_at, world_at}
 use Rattle.fed_trace.specs.OfCall.{Has}
-use Rattle.fed_trace.specs.Row.{IsRun, cookie_effects, cookies_from, cookies_with, effects_of, have_cookies, have_states, input_effects}
-use Rattle.fed_trace.specs.Row.{is_busy, outcome_effects, set_cookies, set_logins}
-use Rattle.fed_trace.specs.Trace.{Trace, gets, kept, now_at, page_at, pending_of}
+use Rattle.fed_trace.specs.Row.{IsRun, cookie_effects, cookies_with, effects_of, have_changes, have_states, input_effects}
+use Rattle.fed_trace.specs.Row.{is_busy, load_changes, outcome_effects, set_logins}
+use Rattle.fed_trace.specs.Trace.{Trace, gets, kept, page_at, pending_of}
 use Rattle.fed_trace.specs.Windows.{windows_of}
 use Rattle.fed_trace.proofs.calls.Pending.{load_silent}
 use Rattle.fed_trace.proofs.calls.Resumed.{idpclose_silent}
@@ -352,13 +352,13 @@ by_have : (T : Trace) (have : Have) (triple : Triple) (stays : Bool) → Has (ef
 by_have T have triple stays has = go have refl
   where
     cookies : List Effect
-    cookies = cookie_effects (have_cookies T.header.rules (now_at T) have)
+    cookies = cookie_effects (have_changes T have)
 
     never : (h : Have) → have ≡ h → AllSilent kept_change (have_states h) → Explained T (events.Have have) triple stays
     never h is silent =
         unchanged (effects_of T (events.Have have)) triple stays
         (silent_append kept_change cookies (have_states have)
-        (silent_map kept_change Cookie (λ c. refl) (have_cookies T.header.rules (now_at T) have))
+        (silent_map kept_change Cookie (λ c. refl) (have_changes T have))
         (subst (λ x. AllSilent kept_change (have_states x)) (sym is) silent)) has
 
     go : (h : Have) → have ≡ h → Explained T (events.Have have) triple stays
@@ -394,8 +394,8 @@ explained T (SetStatus page status) triple stays run has =
     unchanged _ triple stays (says_silent kept_change (λ origin. Login origin status) (λ o. refl) (λ w. refl) (page_at T page)) has
 explained T (Load page url raw) triple stays run has =
     unchanged _ triple stays
-    (load_silent kept_change (λ n c. refl) (λ p o. refl) (λ c. refl) (λ o s. refl) (pending_of T page) page url
-    (cookies_from T.header.rules url (now_at T) (set_cookies raw)) (set_logins raw)) has
+    (load_silent kept_change (λ n c. refl) (λ p o. refl) (λ c. refl) (λ o s. refl) (pending_of T page) page url (load_changes T url raw)
+    (set_logins raw)) has
 explained T (ClosePage page) triple stays run has = unchanged _ triple stays (close_leaves (pending_of T page) page (page_at T page)) has
 explained T (Get page call options) triple stays run has =
     unchanged _ triple stays

@@ -7,6 +7,7 @@ use Rattle.std.specs.List.{filter_map, cons_option, list_any}
 use Rattle.url.specs.Parts.{Parts}
 use Rattle.fed_origin.specs.declared.options.ProviderOptions.{ProviderOptions}
 use Rattle.fed_origin.specs.declared.origin.Origin.{Origin}
+use Rattle.fed_origin.specs.declared.stage.Endpoint.{Endpoint}
 use Rattle.fed_origin.specs.declared.stage.ReplyKind.{ReplyKind}
 use Rattle.fed_origin.specs.declared.stage.ReplyKind.TheVariants as kinds
 use Rattle.fed_origin.specs.declared.stage.Stage.{Stage}
@@ -18,8 +19,10 @@ use Rattle.fed_origin.specs.WebUrl.{origin_of}
 use Rattle.fed_provider.specs.declared.config.Config.{Config as Configuration}
 use Rattle.fed_provider.specs.declared.first_replies.FirstReplies.{FirstReplies}
 use Rattle.fed_provider.specs.declared.step.ProviderStep.{ProviderStep}
+use Rattle.fed_provider.specs.declared.wellknown.WellKnown.{WellKnown}
 use Rattle.fed_provider.specs.Config.{ConfigOf}
-use Rattle.fed_provider.specs.FirstReplies.{wellknown_heard, config_heard, wellknown_read}
+use Rattle.fed_provider.specs.FirstReplies.{by_agreement, wellknown_heard, config_heard, wellknown_read}
+use Rattle.fed_provider.specs.WellKnown.{agrees}
 use Rattle.fed_accounts.specs.declared.account.Account.{Account}
 use Rattle.fed_accounts.specs.declared.step.AccountsStep.{AccountsStep}
 use Rattle.fed_token.specs.declared.step.TokenStep.{TokenStep}
@@ -119,23 +122,35 @@ Says g q kind raw (Both config) = Hears g q kind raw (Some config)
 Says g q kind raw (NoneFits failure) = WasAwaited g × (kind ≡ kinds.Accounts)
 Says g q kind raw (Fit config accounts) = Lists g q kind raw config accounts
 
-heard_wellknown : (q : ProviderOptions) (raw : List ℕ) (r : FirstReplies) (heard : Bool) (config : Option Configuration)
-    (read : Answer (Unit {0}) ProviderStep) → r.config ≡ config
-    → Says (Some (progress_is.Reading r)) q kinds.WellKnown raw (came_heard (wellknown_heard heard config read))
-heard_wellknown q raw r true config read is = tt
-heard_wellknown q raw r false None (Err step) is = (record { was = progress_is.Reading r; is = refl; awaited = refl }, refl)
-heard_wellknown q raw r false (Some config) (Err step) is = (record { was = progress_is.Reading r; is = refl; awaited = refl }, refl)
-heard_wellknown q raw r false None (Ok u) is = ByWellKnown r refl refl (sym is)
-heard_wellknown q raw r false (Some config) (Ok u) is = ByWellKnown r refl refl (sym is)
+was_reading : (r : FirstReplies) → WasAwaited (Some (progress_is.Reading r))
+was_reading r = record { was = progress_is.Reading r; is = refl; awaited = refl }
 
-heard_config : (q : ProviderOptions) (raw : List ℕ) (r : FirstReplies) (heard : Bool) (config : Option Configuration)
+-- both files are good: where they differ the provider is refused
+heard_both : (q : ProviderOptions) (raw : List ℕ) (r : FirstReplies) (kind : ReplyKind) (config : Configuration) (other : Option Endpoint)
+    → is_file kind ≡ true → Hears (Some (progress_is.Reading r)) q kind raw (Some config)
+    → Says (Some (progress_is.Reading r)) q kind raw (came_heard (by_agreement config other))
+heard_both q raw r kind config None file hears = hears
+heard_both q raw r kind config (Some endpoint) file hears = (was_reading r, file)
+
+heard_wellknown : (q : ProviderOptions) (raw : List ℕ) (r : FirstReplies) (heard : Option WellKnown) (config : Option Configuration)
+    (read : Answer WellKnown ProviderStep) → r.config ≡ config
+    → Says (Some (progress_is.Reading r)) q kinds.WellKnown raw (came_heard (wellknown_heard heard config read))
+heard_wellknown q raw r (Some file) config read is = tt
+heard_wellknown q raw r None None (Err step) is = (was_reading r, refl)
+heard_wellknown q raw r None (Some config) (Err step) is = (was_reading r, refl)
+heard_wellknown q raw r None None (Ok file) is = ByWellKnown r refl refl (sym is)
+heard_wellknown q raw r None (Some config) (Ok file) is =
+    heard_both q raw r kinds.WellKnown config (agrees file config) refl (ByWellKnown r refl refl (sym is))
+
+heard_config : (q : ProviderOptions) (raw : List ℕ) (r : FirstReplies) (heard : Option WellKnown) (config : Option Configuration)
     (read : Answer Configuration ProviderStep) → ConfigOf raw q.config ≡ read
     → Says (Some (progress_is.Reading r)) q kinds.Config raw (came_heard (config_heard heard config read))
 heard_config q raw r heard (Some config) read is = tt
-heard_config q raw r false None (Err step) is = (record { was = progress_is.Reading r; is = refl; awaited = refl }, refl)
-heard_config q raw r true None (Err step) is = (record { was = progress_is.Reading r; is = refl; awaited = refl }, refl)
-heard_config q raw r false None (Ok config) is = ByConfig r config refl refl refl is
-heard_config q raw r true None (Ok config) is = ByConfig r config refl refl refl is
+heard_config q raw r None None (Err step) is = (was_reading r, refl)
+heard_config q raw r (Some file) None (Err step) is = (was_reading r, refl)
+heard_config q raw r None None (Ok config) is = ByConfig r config refl refl refl is
+heard_config q raw r (Some file) None (Ok config) is =
+    heard_both q raw r kinds.Config config (agrees file config) refl (ByConfig r config refl refl refl is)
 
 says_read : (q : ProviderOptions) (raw : List ℕ) (config : Configuration) (read : Answer (List Account) AccountsStep)
     → accounts_of raw q ≡ read

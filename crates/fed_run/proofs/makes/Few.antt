@@ -39,9 +39,9 @@ use Rattle.fed_trace.specs.Effect.{Effect, Login, Sent, Move, Flag, Ignored}
 use Rattle.fed_trace.specs.Known.{world_at, is_begun, known_at}
 use Rattle.fed_trace.specs.Records.{record_of, records_of, records, records_in}
 use Rattle.fed_trace.specs.Row.{call_effects, moves, outcome_effects, standing_call, begin_effects, is_busy, input_effects, effects_of, row_of}
-use Rattle.fed_trace.specs.Row.{close_effects, ends_of, cookies_with, cookies_from, have_cookies, set_cookies, set_logins, resume_effects}
+use Rattle.fed_trace.specs.Row.{close_effects, ends_of, cookies_with, have_changes, load_changes, set_logins, resume_effects}
 use Rattle.fed_trace.specs.Row.{waiting_effects, standing_resumes, idpclose_effects, page_says, standing_says, with_event}
-use Rattle.fed_trace.specs.Trace.{Trace, page_at, gets, pending_of, now_at}
+use Rattle.fed_trace.specs.Trace.{Trace, page_at, gets, pending_of}
 use Rattle.fed_trace.specs.Windows.{is_origin, open_windows, provider_of, windows_of}
 use Rattle.fed_trace.proofs.calls.Pending.{ends_silent, load_silent}
 use Rattle.fed_trace.proofs.calls.Resumed.{Resuming, Rests, Refuses, AsksAgain, resuming}
@@ -283,11 +283,11 @@ few_records T line event named = go event named
     go (events.Have have) named =
         few _ many (few_of_silent line _ (have_silent (record_of line)
         (record { cookie = λ c. refl; login = λ o s. refl; kept = λ t k. refl; flag = λ o k. refl })
-        (have_cookies T.header.rules (now_at T) have) have))
+        (have_changes T have) have))
     go (events.At time) named = few _ many (lit≤ tt)
     go (events.Load page url raw) named =
         few _ many (few_of_silent line _ (load_silent (record_of line) (λ n c. refl) (λ p o. refl) (λ c. refl) (λ o s. refl)
-        (pending_of T page) page url (cookies_from T.header.rules url (now_at T) (set_cookies raw)) (set_logins raw)))
+        (pending_of T page) page url (load_changes T url raw) (set_logins raw)))
     go (events.ClosePage page) named = few _ many (few_closed line (pending_of T page) page (page_at T page))
     go (events.Get page call options) named =
         few _ many (few_begun line (world_at T) (cookies_with T) (page_at T page) (is_busy page (gets T)) page call (ToGet options) named)

@@ -1,4 +1,4 @@
--- The rules and the jar of a session after writes, and how many a reply can have.
+-- The rules and the jar of a session after cookies are stored, and how many a reply can have.
 use Rattle.std.proofs.Common.{◌≡◌, ℕ, suc, ◌+◌, ◌≤◌, Bool, true, false, cond, List, [], ◌∷◌, Option, Some, None, map, length, refl, sym, ap}
 use Rattle.std.proofs.Common.{◌∙◌, subst, arith}
 use Rattle.std.specs.Prelude.{filter, nat_le, Ok, Err}
@@ -14,51 +14,65 @@ use Rattle.fed_reply.specs.Fields.{values, fields_of, is_word}
 use Rattle.fed_reply.specs.Reply.{HeadOf, FrontOf, is_taken_head, taken_head, reply_with}
 use Rattle.fed_reply.specs.Steps.{with_ok}
 use Rattle.fed_reply.proofs.head.Values.{values_found}
-use Rattle.fed_jar.specs.Cookie.{StoredCookie, JarParts, cookies_in, cookies_after, has_key, jar_after}
-use Rattle.fed_jar.proofs.parts.Put.{cookies-jar_after}
+use Rattle.fed_suffix.specs.Registrable.{party}
+use Rattle.fed_jar.specs.Cookie.{StoredCookie, JarParts, cookies_in, has_key}
+use Rattle.fed_jar.specs.Changes.{changed_by}
+use Rattle.fed_jar.specs.Limit.{changes_with, changes_from, stored, jar_after}
+use Rattle.fed_jar.specs.Store.{IsKeptBy}
+use Rattle.fed_jar.proofs.changes.Changes.{changed_in_turn}
+use Rattle.fed_jar.proofs.limit.Limit.{jar_is_changed}
 use Rattle.fed_script.specs.declared.event.Have.{Have}
 use Rattle.fed_script.specs.declared.event.Have.TheVariants as haves
 use Rattle.fed_trace.specs.Row.{load_values, values_in, cookie_from, cookies_from, have_cookies, set_cookies, set_cookie_name}
-use Rattle.fed_session.specs.Cookies.{CookieParts, with_write, with_writes}
+use Rattle.fed_session.specs.Cookies.{CookieParts, with_stored, with_all_stored}
 
--- what is seen of the rules and a jar after a write
-pub seen_after : (rules : RuleSet) (name : List ℕ) (jar new : JarParts) (write : Option StoredCookie) → new ≡ jar_after name jar write
+-- what is seen of the rules and a jar after a cookie of the party is stored
+pub seen_after : (rules : RuleSet) (now : ℕ) (name : List ℕ) (jar new : JarParts) (cookie : Option StoredCookie) → IsKeptBy rules jar
+    → ((c : StoredCookie) → cookie ≡ Some c → party rules c.domain ≡ name) → new ≡ jar_after now name jar cookie
     → ◌≡◌ {A = CookieParts} (record { rules = rules; list = cookies_in new; entered = new.entered })
-    (with_write (record { rules = rules; list = cookies_in jar; entered = jar.entered }) write)
-seen_after rules name jar new write is =
-    ap (λ (j : JarParts). record { rules = rules; list = cookies_in j; entered = j.entered }) is ∙ go write
+    (with_stored now (record { rules = rules; list = cookies_in jar; entered = jar.entered }) cookie)
+seen_after rules now name jar new cookie kept of is =
+    ap (λ (j : JarParts). record { rules = rules; list = cookies_in j; entered = j.entered }) is ∙ go cookie of
   where
-    go : (write : Option StoredCookie)
+    go : (cookie : Option StoredCookie) → ((c : StoredCookie) → cookie ≡ Some c → party rules c.domain ≡ name)
         → ◌≡◌ {A = CookieParts}
-        (record { rules = rules; list = cookies_in (jar_after name jar write); entered = (jar_after name jar write).entered })
-        (with_write (record { rules = rules; list = cookies_in jar; entered = jar.entered }) write)
-    go None = refl
-    go (Some cookie) =
-        let list = cookies-jar_after name jar (Some cookie) in
-        λ i. record { rules = rules; list = list i; entered = cond (has_key cookie (cookies_in jar)) jar.entered (jar.entered + 1) }
+        (record { rules = rules; list = cookies_in (jar_after now name jar cookie); entered = (jar_after now name jar cookie).entered })
+        (with_stored now (record { rules = rules; list = cookies_in jar; entered = jar.entered }) cookie)
+    go None of = refl
+    go (Some c) of =
+        let list : cookies_in (jar_after now name jar (Some c)) ≡ stored rules now (cookies_in jar) (Some c) =
+        subst (λ n. cookies_in (jar_after now n jar (Some c)) ≡ stored rules now (cookies_in jar) (Some c)) (of c refl)
+        (jar_is_changed rules now jar c kept) in
+        λ i. record { rules = rules; list = list i; entered = cond (has_key c (cookies_in jar)) jar.entered (jar.entered + 1) }
 
-pub list_after : (parts : CookieParts) (writes : List StoredCookie) → (with_writes parts writes).list ≡ cookies_after parts.list writes
-list_after parts [] = refl
-list_after parts (w ∷ writes) = list_after (with_write parts (Some w)) writes
+pub list_after : (now : ℕ) (parts : CookieParts) (new : List StoredCookie)
+    → (with_all_stored now parts new).list ≡ changed_by parts.list (changes_from parts.rules now parts.list new)
+list_after now parts [] = refl
+list_after now parts (c ∷ new) =
+    let here = changes_with parts.rules now parts.list c in
+    list_after now (with_stored now parts (Some c)) new
+    ∙ sym (changed_in_turn parts.list here (changes_from parts.rules now (changed_by parts.list here) new))
 
-pub rules_after : (parts : CookieParts) (writes : List StoredCookie) → (with_writes parts writes).rules ≡ parts.rules
-rules_after parts [] = refl
-rules_after parts (w ∷ writes) = rules_after (with_write parts (Some w)) writes
+pub rules_after : (now : ℕ) (parts : CookieParts) (new : List StoredCookie) → (with_all_stored now parts new).rules ≡ parts.rules
+rules_after now parts [] = refl
+rules_after now parts (c ∷ new) = rules_after now (with_stored now parts (Some c)) new
 
 at_most : (b : Bool) (n : ℕ) → cond b n (n + 1) ≤ n + 1
 at_most true n = omega arith
 at_most false n = omega arith
 
--- a write brings at most one new key
-pub entered_write : (parts : CookieParts) (write : Option StoredCookie) → (with_write parts write).entered ≤ parts.entered + 1
-entered_write parts None = omega arith
-entered_write parts (Some w) = at_most (has_key w parts.list) parts.entered
+-- a cookie brings at most one new key
+pub entered_stored : (now : ℕ) (parts : CookieParts) (cookie : Option StoredCookie)
+    → (with_stored now parts cookie).entered ≤ parts.entered + 1
+entered_stored now parts None = omega arith
+entered_stored now parts (Some c) = at_most (has_key c parts.list) parts.entered
 
-pub entered_after : (parts : CookieParts) (writes : List StoredCookie) → (with_writes parts writes).entered ≤ parts.entered + length writes
-entered_after parts [] = omega arith
-entered_after parts (w ∷ writes) =
-    let rest = entered_after (with_write parts (Some w)) writes in
-    let first = at_most (has_key w parts.list) parts.entered in
+pub entered_after : (now : ℕ) (parts : CookieParts) (new : List StoredCookie)
+    → (with_all_stored now parts new).entered ≤ parts.entered + length new
+entered_after now parts [] = omega arith
+entered_after now parts (c ∷ new) =
+    let rest = entered_after now (with_stored now parts (Some c)) new in
+    let first = at_most (has_key c parts.list) parts.entered in
     omega (arith, rest, first)
 
 -- a filter is no longer than what it is of
@@ -121,10 +135,10 @@ few_loaded name (Some raw) = few_values name raw
 
 -- ---- what a step can bring
 
-pub room_after : (parts : CookieParts) (writes : List StoredCookie) (n : ℕ) → n ≡ (with_writes parts writes).entered → length writes ≤ 128
-    → n ≤ parts.entered + 128
-room_after parts writes n is few =
-    let more = entered_after parts writes in
+pub room_after : (now : ℕ) (parts : CookieParts) (new : List StoredCookie) (n : ℕ) → n ≡ (with_all_stored now parts new).entered
+    → length new ≤ 128 → n ≤ parts.entered + 128
+room_after now parts new n is few =
+    let more = entered_after now parts new in
     omega (arith, is, more, few)
 
 pub few_have : (rules : RuleSet) (now : ℕ) (have : Have) → length (have_cookies rules now have) ≤ 128

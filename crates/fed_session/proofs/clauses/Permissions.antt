@@ -11,7 +11,7 @@ use Rattle.fed_origin.specs.declared.stage.Stage.{Stage}
 use Rattle.fed_origin.specs.declared.status.Triple.{Triple}
 use Rattle.fed_origin.specs.Origin.{is_trustworthy, same_origin}
 use Rattle.fed_origin.specs.Status.{same_triple}
-use Rattle.fed_jar.specs.Cookie.{StoredCookie}
+use Rattle.fed_jar.specs.Changes.{CookieChange}
 use Rattle.fed_status.specs.Kept.{triples_of_pair, without_each}
 use Rattle.fed_status.specs.Shared.{World}
 use Rattle.fed_status.proofs.removals.PairGoes.{without_pair-each}
@@ -192,7 +192,7 @@ outcome_flags world cookies kind call page outcome es =
 -- ---- events without a call
 
 -- what a line of the kind `have` says of permissions
-pub have_keeps : (cookies : List StoredCookie) (have : Have) (es : List (Triple × ⊤))
+pub have_keeps : (cookies : List CookieChange) (have : Have) (es : List (Triple × ⊤))
     → keys_of (entries_after same_triple kept_change (cookie_effects cookies ++ have_states have) es) ≡ have_kept have (keys_of es)
 have_keeps cookies have es =
     ap keys_of (entries_after-append same_triple kept_change (cookie_effects cookies) (have_states have) es
@@ -207,7 +207,7 @@ have_keeps cookies have es =
     go (haves.Cookie url field) = refl
 
 -- and of flags
-pub have_marks : (cookies : List StoredCookie) (have : Have) (es : List (Origin × ⊤))
+pub have_marks : (cookies : List CookieChange) (have : Have) (es : List (Origin × ⊤))
     → keys_of (entries_after same_origin flag_change (cookie_effects cookies ++ have_states have) es) ≡ have_flags have (keys_of es)
 have_marks cookies have es =
     ap keys_of (entries_after-append same_origin flag_change (cookie_effects cookies) (have_states have) es

@@ -3,13 +3,12 @@ use Rattle.std.proofs.Common.{◌≡◌, refl, ap, ◌∙◌}
 use Rattle.url.specs.Parts.{Parts}
 use Rattle.fed_jar.specs.Send.{jar_text}
 use Rattle.fed_consent.specs.declared.table.ask.Ask.{Ask}
-use Rattle.fed_jar.specs.Writes as jar
 use Rattle.fed_consent.specs.declared.table.ask.Ask.TheVariants as asks
 use Rattle.fed_trace.specs.Row.{cookies_with}
 use Rattle.fed_session.specs.Session.{State, Stands}
 use Rattle.fed_session.specs.StepParts.{sight_of, cookies_of}
 use Rattle.fed_session.specs.declared.sight.Sight.{Sight}
-use Rattle.fed_trace.specs.Trace.{Trace, now_at, writes}
+use Rattle.fed_trace.specs.Trace.{Trace, now_at, cookies}
 
 -- the parts of a session are those of what is seen in it
 pub record Sees (s : State) (sight : Sight) : Type 0 where
@@ -33,10 +32,9 @@ sees s sight is =
       flags = ap (λ (x : Sight). x.flags) is;
     }
 
--- what a jar gives is what was written
+-- what a jar gives is what the cookies that stand give
 jar_same : (s : State) (T : Trace) (to : Parts) → Stands s T
-    → jar_text s.rules to s.time s.cookies ≡ jar.cookie_text T.header.rules to (now_at T) (writes T)
-unfolding jar_text jar.cookie_text jar.cookies_at
+    → jar_text s.rules to s.time s.cookies ≡ jar_text T.header.rules to (now_at T) (cookies T)
 jar_same s T to h =
     ap (λ r. jar_text r to s.time s.cookies) h.rules ∙ ap (λ t. jar_text T.header.rules to t s.cookies) h.time
     ∙ ap (jar_text T.header.rules to (now_at T)) h.cookies

@@ -8,7 +8,7 @@ use Rattle.fed_origin.specs.declared.origin.Origin.{Origin}
 use Rattle.fed_origin.specs.declared.status.LoginStatus.{LoginStatus}
 use Rattle.fed_origin.specs.Origin.{same_origin}
 use Rattle.fed_origin.specs.WebUrl.{origin_of}
-use Rattle.fed_jar.specs.Cookie.{StoredCookie}
+use Rattle.fed_jar.specs.Changes.{CookieChange}
 use Rattle.fed_status.specs.Login.{Logins, with_status}
 use Rattle.fed_trace.specs.Effect.{PendingCall, Page, login_change}
 use Rattle.fed_trace.specs.Keyed.{entries_after}
@@ -30,7 +30,7 @@ pub statuses_are_set : (origin : Origin) (statuses : List LoginStatus) (logins :
 statuses_are_set origin [] logins = refl
 statuses_are_set origin (status ∷ statuses) logins = statuses_are_set origin statuses (with_status logins origin status)
 
-pub load_sets : (calls : List (ℕ × CallKind)) (page : ℕ) (url : Parts) (cookies : List StoredCookie) (statuses : List
+pub load_sets : (calls : List (ℕ × CallKind)) (page : ℕ) (url : Parts) (cookies : List CookieChange) (statuses : List
     LoginStatus) (logins : Logins)
     → entries_after same_origin login_change (load_effects calls page url cookies statuses) logins
     ≡ with_statuses (origin_of url) statuses logins

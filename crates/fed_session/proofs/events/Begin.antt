@@ -19,7 +19,7 @@ use Rattle.fed_origin.specs.declared.stage.Stage.TheVariants.{Reading, Gathering
 use Rattle.fed_origin.specs.Origin.{is_trustworthy, same_origin}
 use Rattle.fed_origin.specs.Status.{same_triple}
 use Rattle.fed_origin.specs.WebUrl.{scheme_of}
-use Rattle.fed_jar.specs.Cookie.{cookies_after}
+use Rattle.fed_jar.specs.Changes.{changed_by}
 use Rattle.fed_provider.specs.declared.step.ProviderStep.{ProviderStep}
 use Rattle.fed_provider.specs.WellKnown.{WellKnownUrlOf}
 use Rattle.fed_status.specs.Flags.{has_flag}
@@ -43,7 +43,7 @@ use Rattle.fed_script.specs.declared.event.Event.{Event}
 use Rattle.fed_trace.specs.Begun.{Begun, CallKind, GetCall, DisconnectCall, CallOptions, ToGet, ToDisconnect, is_get, kind_asked}
 use Rattle.fed_trace.specs.Call.{Known, OfGet, OfDisconnect, kind_of, at_stage, fresh, known_first, first_row, started}
 use Rattle.fed_trace.specs.Effect.{PendingCall, pending_from, Begin, Ignored, last_of, page_change, login_change, kept_change, flag_change}
-use Rattle.fed_trace.specs.Effect.{call_change, stage_change, begun_by, begins, written_by, time_of, loaded_change, is_window}
+use Rattle.fed_trace.specs.Effect.{call_change, stage_change, begun_by, begins, cookie_change, time_of, loaded_change, is_window}
 use Rattle.fed_trace.specs.Keyed.{entries_after, last_said}
 use Rattle.fed_trace.specs.Known.{world_at, known_by, known_at}
 use Rattle.fed_trace.specs.Records.{records_of}
@@ -122,7 +122,7 @@ owes_ignored s s' T line event why h is inputs sight tabs =
     (kept_still s s' T event h (subst (AllSilent kept_change) (sym is) (refl, tt)) seen.kept)
     (flags_still s s' T event h (subst (AllSilent flag_change) (sym is) (refl, tt)) seen.flags)
     (seen.time ∙ sym (ap (λ xs. unwrap_or (last_of time_of xs) s.time) is))
-    (seen.cookies ∙ sym (ap (λ xs. cookies_after s.cookies (filter_map written_by xs)) is))
+    (seen.cookies ∙ sym (ap (λ xs. changed_by s.cookies (filter_map cookie_change xs)) is))
     (seen.login ∙ sym (ap (λ xs. entries_after same_origin login_change xs s.login) is))
     tabs
 
@@ -285,11 +285,11 @@ owes_taken s s' T line event b outcome stage h effects inputs moved closed sets 
                 (λ c p f. refl) (λ w. refl) (λ n c s. refl) world (cookies_with T) kind b.call b.page outcome,
           ))));
       cookies =
-          seen.cookies ∙ ap (cookies_after s.cookies) (sym
-          (said_silent written_by (effects_of T event) (silent_is written_by (effects_of T event) (Begin b ∷ does) effects (
+          seen.cookies ∙ ap (changed_by s.cookies) (sym
+          (said_silent cookie_change (effects_of T event) (silent_is cookie_change (effects_of T event) (Begin b ∷ does) effects (
             refl,
-            outcome_silent written_by (λ n c p a k. refl) (λ c d. refl) (λ c p f. refl) (λ c p u. refl) (λ o s. refl) (λ t k. refl) (λ o k. refl)
-                (λ c p f. refl) (λ w. refl) (λ n c s. refl) world (cookies_with T) kind b.call b.page outcome,
+            outcome_silent cookie_change (λ n c p a k. refl) (λ c d. refl) (λ c p f. refl) (λ c p u. refl) (λ o s. refl) (λ t k. refl)
+                (λ o k. refl) (λ c p f. refl) (λ w. refl) (λ n c s. refl) world (cookies_with T) kind b.call b.page outcome,
           ))));
       login =
           seen.login ∙ stays.login ∙ sym (ap (λ xs. entries_after same_origin login_change xs s.login) effects

@@ -13,7 +13,8 @@ use Rattle.fed_origin.specs.Status.{same_triple}
 use Rattle.fed_origin.specs.WebUrl.{origin_of}
 use Rattle.fed_origin.specs.declared.stage.Stage.TheVariants.{Ended}
 use Rattle.fed_origin.specs.declared.status.LoginStatus.{LoginStatus}
-use Rattle.fed_jar.specs.Cookie.{cookies_after}
+use Rattle.fed_jar.specs.Changes.{changed_by}
+use Rattle.fed_jar.specs.Limit.{changes_from}
 use Rattle.fed_status.specs.Login.{Logins}
 use Rattle.fed_table.specs.Lists.{has, all_without_calls, with_key, emptied}
 use Rattle.fed_script.specs.declared.event.Event.{Event}
@@ -24,16 +25,16 @@ use Rattle.fed_script.specs.declared.event.Event.TheVariants as events
 use Rattle.fed_script.specs.declared.event.Have.TheVariants as haves
 use Rattle.fed_trace.specs.Effect.{Effect, Page, Closed, Login, Flag, Move, Ignored, page_change, login_change}
 use Rattle.fed_trace.specs.Effect.{kept_change, flag_change}
-use Rattle.fed_trace.specs.Effect.{call_change, stage_change, begun_by, begins, written_by, time_of, loaded_change}
+use Rattle.fed_trace.specs.Effect.{call_change, stage_change, begun_by, begins, cookie_change, time_of, loaded_change}
 use Rattle.fed_trace.specs.Keyed.{entries_after, last_said}
 use Rattle.fed_trace.specs.Known.{known_in, known_at}
 use Rattle.fed_trace.specs.Records.{record_of, records_of}
-use Rattle.fed_trace.specs.Row.{effects_of, with_event, cookies_from, have_cookies, have_states, set_cookies, set_logins, cookie_effects}
-use Rattle.fed_trace.specs.Row.{login_effects, ends_of, load_effects, close_effects, page_says}
+use Rattle.fed_trace.specs.Row.{effects_of, with_event, cookies_from, have_cookies, have_changes, load_changes, have_states, set_cookies}
+use Rattle.fed_trace.specs.Row.{set_logins, cookie_effects, login_effects, ends_of, load_effects, close_effects, page_says}
 use Rattle.fed_trace.specs.Begun.{CallKind}
 use Rattle.fed_trace.specs.Call.{Known}
 use Rattle.fed_session.specs.Session.{State, Stands, windows, numbers_in, item_known, pending_call, pending_calls}
-use Rattle.fed_session.specs.Cookies.{with_writes}
+use Rattle.fed_session.specs.Cookies.{with_all_stored}
 use Rattle.fed_session.specs.StepParts.{sight_of, cookies_kept, with_statuses, have_statuses, have_kept, have_flags, flags_set}
 use Rattle.fed_session.specs.StepParts.{close_records}
 use Rattle.fed_session.specs.Tabs.{Ends, Closes}
@@ -47,7 +48,7 @@ use Rattle.fed_trace.proofs.keyed.Keyed.{distinct_standing, lookup-standing}
 use Rattle.fed_trace.proofs.keyed.Keyed.{entries_after-append}
 use Rattle.fed_trace.proofs.happens.Ends.{last_said_front, ends_apart, ends_hit}
 use Rattle.fed_trace.proofs.calls.Pending.{is_among, others, ended, ends_silent, load_rest_silent, load_silent, load_pages, load_calls}
-use Rattle.fed_trace.proofs.calls.Pending.{load_writes, written_then, set_after}
+use Rattle.fed_trace.proofs.calls.Pending.{load_changed, changed_then, set_after}
 use Rattle.fed_session.proofs.clauses.Cookies.{list_after, rules_after}
 use Rattle.fed_session.proofs.clauses.Permissions.{have_keeps, have_marks, page_marks}
 use Rattle.fed_session.proofs.clauses.Sight.{sees}
@@ -55,7 +56,7 @@ use Rattle.fed_session.proofs.clauses.Statuses.{load_sets}
 use Rattle.fed_trace.proofs.effects.Silent.{AllSilent, entries_silent, said_silent, last_silent}
 use Rattle.fed_session.proofs.stands.Stands.{Owes, owes_aside, kept_still, flags_still, stands_held}
 use Rattle.fed_trace.proofs.known.Known.{said_of, known_moved, known_same, over}
-use Rattle.fed_trace.proofs.events.Aside.{IsAside, states_write_none, have_silent, says_silent, close_silent}
+use Rattle.fed_trace.proofs.events.Aside.{IsAside, states_change_none, have_silent, says_silent, close_silent}
 
 -- ---- what is there from the start
 
@@ -68,7 +69,7 @@ have_sets (haves.Cookie url field) logins = refl
 
 pub owes_have : (s s' : State) (T : Trace) (line : ℕ) (have : Have) → Stands s T
     → sight_of s' ≡ record (sight_of s) {
-      cookies = with_writes (cookies_kept s) (have_cookies s.rules s.time have);
+      cookies = with_all_stored s.time (cookies_kept s) (have_cookies s.rules s.time have);
       login =
           have_statuses have s.login;
       kept = have_kept have s.kept;
@@ -77,9 +78,11 @@ pub owes_have : (s s' : State) (T : Trace) (line : ℕ) (have : Have) → Stands
     → s'.tabs ≡ s.tabs → Owes s s' T line (events.Have have)
 owes_have s s' T line have h sight tabs =
     let seen = sees s' _ sight in
-    let found = have_cookies T.header.rules (now_at T) have in
-    let same : have_cookies s.rules s.time have ≡ found =
-    ap (λ r. have_cookies r s.time have) h.rules ∙ ap (λ t. have_cookies T.header.rules t have) h.time in
+    let found = have_changes T have in
+    let same : changes_from s.rules s.time s.cookies (have_cookies s.rules s.time have) ≡ found =
+    ap (λ r. changes_from r s.time s.cookies (have_cookies r s.time have)) h.rules
+    ∙ ap (λ t. changes_from T.header.rules t s.cookies (have_cookies T.header.rules t have)) h.time
+    ∙ ap (λ cs. changes_from T.header.rules (now_at T) cs (have_cookies T.header.rules (now_at T) have)) h.cookies in
     owes_aside s s' T line (events.Have have) h
     (record {
       pages =
@@ -98,13 +101,13 @@ owes_have s s' T line have h sight tabs =
           (record { cookie = λ c. refl; login = λ o s. refl; kept = λ t k. refl; flag = λ o k. refl }) found have;
       inputs = λ q k. refl;
     })
-    (seen.rules ∙ rules_after (cookies_kept s) (have_cookies s.rules s.time have))
+    (seen.rules ∙ rules_after s.time (cookies_kept s) (have_cookies s.rules s.time have))
     (seen.kept ∙ ap (have_kept have) h.kept ∙ sym (have_keeps found have (standing same_triple kept_change T.rows)))
     (seen.flags ∙ ap (have_flags have) h.flags ∙ sym (have_marks found have (standing same_origin flag_change T.rows)))
     (seen.time ∙ sym (ap (λ o. unwrap_or o s.time) (last_silent time_of (cookie_effects found ++ have_states have)
     (have_silent time_of (record { cookie = λ c. refl; login = λ o s. refl; kept = λ t k. refl; flag = λ o k. refl }) found have))))
-    (seen.cookies ∙ list_after (cookies_kept s) (have_cookies s.rules s.time have)
-    ∙ ap (cookies_after s.cookies) (same ∙ sym (written_then found (have_states have) (states_write_none have))))
+    (seen.cookies ∙ list_after s.time (cookies_kept s) (have_cookies s.rules s.time have)
+    ∙ ap (changed_by s.cookies) (same ∙ sym (changed_then found (have_states have) (states_change_none have))))
     (seen.login ∙ sym (set_after found (have_states have) s.login ∙ have_sets have s.login))
     tabs
 
@@ -167,8 +170,8 @@ owes_status s s' T line page status h sight login tabs =
     (flags_still s s' T (SetStatus page status) h (says_silent flag_change says (λ o. refl) (λ w. refl) o) seen.flags)
     (seen.time ∙ sym (ap (λ x. unwrap_or x s.time)
     (last_silent time_of (page_says o says) (says_silent time_of says (λ o. refl) (λ w. refl) o))))
-    (seen.cookies ∙ ap (cookies_after s.cookies) (sym
-    (said_silent written_by (page_says o says) (says_silent written_by says (λ o. refl) (λ w. refl) o))))
+    (seen.cookies ∙ ap (changed_by s.cookies) (sym
+    (said_silent cookie_change (page_says o says) (says_silent cookie_change says (λ o. refl) (λ w. refl) o))))
     (login ∙ ap (λ x. entries_after same_origin login_change (page_says x says) s.login) (page_kept s T page h))
     tabs
 
@@ -190,8 +193,8 @@ owes_prevent s s' T line page h sight flags tabs =
     ∙ sym (page_marks o (standing same_origin flag_change T.rows)))
     (seen.time ∙ sym (ap (λ x. unwrap_or x s.time)
     (last_silent time_of (page_says o says) (says_silent time_of says (λ o. refl) (λ w. refl) o))))
-    (seen.cookies ∙ ap (cookies_after s.cookies) (sym
-    (said_silent written_by (page_says o says) (says_silent written_by says (λ o. refl) (λ w. refl) o))))
+    (seen.cookies ∙ ap (changed_by s.cookies) (sym
+    (said_silent cookie_change (page_says o says) (says_silent cookie_change says (λ o. refl) (λ w. refl) o))))
     (seen.login ∙ sym (entries_silent same_origin login_change (page_says o says) s.login
     (says_silent login_change says (λ o. refl) (λ w. refl) o)))
     tabs
@@ -267,7 +270,7 @@ ends_owe s s' T line event page standing listed rest h ends effects calls stages
 
 pub owes_load : (s s' : State) (T : Trace) (line page : ℕ) (url : Parts) (raw : Option (List ℕ)) → Stands s T
     → sight_of s' ≡ record (sight_of s) {
-      cookies = with_writes (cookies_kept s) (cookies_from s.rules url s.time (set_cookies raw));
+      cookies = with_all_stored s.time (cookies_kept s) (cookies_from s.rules url s.time (set_cookies raw));
       login =
           with_statuses (origin_of url) (set_logins raw) s.login;
     }
@@ -276,10 +279,12 @@ pub owes_load : (s s' : State) (T : Trace) (line page : ℕ) (url : Parts) (raw 
     → Owes s s' T line (Load page url raw)
 owes_load s s' T line page url raw h sight ends =
     let seen = sees s' _ sight in
-    let found = cookies_from T.header.rules url (now_at T) (set_cookies raw) in
+    let found = load_changes T url raw in
     let statuses = set_logins raw in
-    let same : cookies_from s.rules url s.time (set_cookies raw) ≡ found =
-    ap (λ r. cookies_from r url s.time (set_cookies raw)) h.rules ∙ ap (λ t. cookies_from T.header.rules url t (set_cookies raw)) h.time in
+    let same : changes_from s.rules s.time s.cookies (cookies_from s.rules url s.time (set_cookies raw)) ≡ found =
+    ap (λ r. changes_from r s.time s.cookies (cookies_from r url s.time (set_cookies raw))) h.rules
+    ∙ ap (λ t. changes_from T.header.rules t s.cookies (cookies_from T.header.rules url t (set_cookies raw))) h.time
+    ∙ ap (λ cs. changes_from T.header.rules (now_at T) cs (cookies_from T.header.rules url (now_at T) (set_cookies raw))) h.cookies in
     let es = pending T in
     let calls = calls_of page es in
     let rest = Page page (origin_of url) ∷ (cookie_effects found ++ login_effects (origin_of url) statuses) in
@@ -290,7 +295,7 @@ owes_load s s' T line page url raw h sight ends =
     (load_silent begun_by (λ n c. refl) (λ p o. refl) (λ c. refl) (λ o s. refl) calls page url found statuses)
     (λ q. load_silent (begins q) (λ n c. refl) (λ p o. refl) (λ c. refl) (λ o s. refl) calls page url found statuses) (λ q k. refl) in
     record {
-      rules = seen.rules ∙ rules_after (cookies_kept s) (cookies_from s.rules url s.time (set_cookies raw));
+      rules = seen.rules ∙ rules_after s.time (cookies_kept s) (cookies_from s.rules url s.time (set_cookies raw));
       kept =
           kept_still s s' T (Load page url raw) h (load_silent kept_change (λ n c. refl) (λ p o. refl) (λ c. refl) (λ o s. refl) calls
           page
@@ -304,8 +309,8 @@ owes_load s s' T line page url raw h sight ends =
           (last_silent time_of (load_effects calls page url found statuses)
           (load_silent time_of (λ n c. refl) (λ p o. refl) (λ c. refl) (λ o s. refl) calls page url found statuses)));
       cookies =
-          seen.cookies ∙ list_after (cookies_kept s) (cookies_from s.rules url s.time (set_cookies raw))
-          ∙ ap (cookies_after s.cookies) (same ∙ sym (load_writes calls page url found statuses));
+          seen.cookies ∙ list_after s.time (cookies_kept s) (cookies_from s.rules url s.time (set_cookies raw))
+          ∙ ap (changed_by s.cookies) (same ∙ sym (load_changed calls page url found statuses));
       login = seen.login ∙ sym (load_sets calls page url found statuses s.login);
       pages =
           ends.pages ∙ ap (λ os. insert_entry nat_eq os page (origin_of url)) h.pages
@@ -348,8 +353,8 @@ owes_close_standing s s' T line page origin found h sight ends =
           seen.time ∙ sym (ap (λ o. unwrap_or o s.time)
           (last_silent time_of (effects_of T (ClosePage page)) (silent time_of (λ n c. refl) (λ p. refl))));
       cookies =
-          seen.cookies ∙ ap (cookies_after s.cookies) (sym
-          (said_silent written_by (effects_of T (ClosePage page)) (silent written_by (λ n c. refl) (λ p. refl))));
+          seen.cookies ∙ ap (changed_by s.cookies) (sym
+          (said_silent cookie_change (effects_of T (ClosePage page)) (silent cookie_change (λ n c. refl) (λ p. refl))));
       login =
           seen.login ∙ sym (entries_silent same_origin login_change (effects_of T (ClosePage page)) s.login
           (silent login_change (λ n c. refl) (λ p. refl)));
@@ -399,7 +404,7 @@ owes_close_absent s s' T line page none h sight tabs =
     seen.rules (kept_still s s' T (ClosePage page) h (silent kept_change refl) seen.kept)
     (flags_still s s' T (ClosePage page) h (silent flag_change refl) seen.flags)
     (seen.time ∙ sym (ap (λ o. unwrap_or o s.time) (last_silent time_of (effects_of T (ClosePage page)) (silent time_of refl))))
-    (seen.cookies ∙ ap (cookies_after s.cookies) (sym (said_silent written_by (effects_of T (ClosePage page)) (silent written_by refl))))
+    (seen.cookies ∙ ap (changed_by s.cookies) (sym (said_silent cookie_change (effects_of T (ClosePage page)) (silent cookie_change refl))))
     (seen.login ∙ sym (entries_silent same_origin login_change (effects_of T (ClosePage page)) s.login (silent login_change refl)))
     tabs
   where

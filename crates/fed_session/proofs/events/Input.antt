@@ -12,7 +12,7 @@ use Rattle.fed_origin.specs.declared.stage.Stage.{Stage}
 use Rattle.fed_origin.specs.declared.stage.Stage.TheVariants.{Ended}
 use Rattle.fed_origin.specs.Origin.{same_origin}
 use Rattle.fed_origin.specs.Status.{same_triple}
-use Rattle.fed_jar.specs.Cookie.{cookies_after}
+use Rattle.fed_jar.specs.Changes.{changed_by}
 use Rattle.fed_status.specs.Shared.{World}
 use Rattle.fed_consent.specs.declared.table.ask.Ask.{Ask}
 use Rattle.fed_consent.specs.declared.table.input.Input.{Input}
@@ -25,7 +25,7 @@ use Rattle.fed_script.specs.declared.event.Event.TheVariants as events
 use Rattle.fed_table.specs.Lists.{has, all_without, stands_in}
 use Rattle.fed_trace.specs.Call.{Known, kind_of, page_of, stage_of, at_stage, with_input, input_row, known_after}
 use Rattle.fed_trace.specs.Effect.{PendingCall, Ignored, last_of, page_change, login_change, kept_change, flag_change, call_change}
-use Rattle.fed_trace.specs.Effect.{stage_change, begun_by, begins, written_by, time_of, loaded_change, is_ignored, is_window}
+use Rattle.fed_trace.specs.Effect.{stage_change, begun_by, begins, cookie_change, time_of, loaded_change, is_ignored, is_window}
 use Rattle.fed_trace.specs.Keyed.{entries_after, last_said}
 use Rattle.fed_trace.specs.Known.{world_at, is_begun, input_of, for_call, input_to, with_said, known_in, known_by, known_at}
 use Rattle.fed_trace.specs.Records.{records_of}
@@ -126,7 +126,7 @@ owes_refused s s' T line event call why h is sight stays none =
     (kept_still s s' T event h (subst (AllSilent kept_change) (sym is) (refl, tt)) seen.kept)
     (flags_still s s' T event h (subst (AllSilent flag_change) (sym is) (refl, tt)) seen.flags)
     (seen.time ∙ sym (ap (λ xs. unwrap_or (last_of time_of xs) s.time) is))
-    (seen.cookies ∙ sym (ap (λ xs. cookies_after s.cookies (filter_map written_by xs)) is))
+    (seen.cookies ∙ sym (ap (λ xs. changed_by s.cookies (filter_map cookie_change xs)) is))
     (seen.login ∙ sym (ap (λ xs. entries_after same_origin login_change xs s.login) is))
     stays.pages stays.listed stays.gets stays.taken stays.waiting
     (λ q. stays.known q ∙ same_known q (nat_eq call q) refl)
@@ -383,10 +383,10 @@ owes_pending s s' T line event call input known outcome h brings sets effects fo
           (outcome_silent time_of (λ n c p a k. refl) (λ c d. refl) (λ c p f. refl) (λ c p u. refl) (λ o s. refl) (λ t k. refl) (λ o k. refl)
           (λ c p f. refl) (λ w. refl) (λ n c s. refl) (world_at T) (cookies_with T) kind call page outcome))));
       cookies =
-          seen.cookies ∙ ap (cookies_after s.cookies) (sym
-          (said_silent written_by (effects_of T event) (silent_is written_by (effects_of T event) does effects
-          (outcome_silent written_by (λ n c p a k. refl) (λ c d. refl) (λ c p f. refl) (λ c p u. refl) (λ o s. refl) (λ t k. refl) (λ o k. refl)
-          (λ c p f. refl) (λ w. refl) (λ n c s. refl) (world_at T) (cookies_with T) kind call page outcome))));
+          seen.cookies ∙ ap (changed_by s.cookies) (sym
+          (said_silent cookie_change (effects_of T event) (silent_is cookie_change (effects_of T event) does effects
+          (outcome_silent cookie_change (λ n c p a k. refl) (λ c d. refl) (λ c p f. refl) (λ c p u. refl) (λ o s. refl) (λ t k. refl)
+          (λ o k. refl) (λ c p f. refl) (λ w. refl) (λ n c s. refl) (world_at T) (cookies_with T) kind call page outcome))));
       login =
           seen.login ∙ sym (ap (λ xs. entries_after same_origin login_change xs s.login) effects
           ∙ outcome_logins (world_at T) (cookies_with T) kind call page outcome s.login);

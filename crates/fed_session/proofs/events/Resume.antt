@@ -10,7 +10,7 @@ use Rattle.fed_origin.specs.declared.origin.Origin.{Origin}
 use Rattle.fed_origin.specs.declared.stage.Stage.TheVariants.{Window}
 use Rattle.fed_origin.specs.Origin.{is_trustworthy, same_origin}
 use Rattle.fed_provider.specs.declared.config.Config.{Config}
-use Rattle.fed_jar.specs.Cookie.{cookies_after}
+use Rattle.fed_jar.specs.Changes.{changed_by}
 use Rattle.fed_status.specs.Shared.{World}
 use Rattle.fed_consent.specs.declared.table.ask.Ask.{Ask}
 use Rattle.fed_consent.specs.declared.table.input.Input.TheVariants.{Resume}
@@ -26,7 +26,7 @@ use Rattle.fed_trace.specs.declared.out.Out.{Out}
 use Rattle.fed_trace.specs.Begun.{GetCall}
 use Rattle.fed_trace.specs.Call.{Known, OfGet, at_stage, with_input}
 use Rattle.fed_trace.specs.Effect.{Effect, Ignored, last_of, page_change, login_change, kept_change, flag_change, call_change, stage_change}
-use Rattle.fed_trace.specs.Effect.{begun_by, begins, written_by, time_of, loaded_change}
+use Rattle.fed_trace.specs.Effect.{begun_by, begins, cookie_change, time_of, loaded_change}
 use Rattle.fed_trace.specs.Keyed.{last_said}
 use Rattle.fed_trace.specs.Known.{world_at, known_at}
 use Rattle.fed_trace.specs.OfCall.{asked, given, dropped}
@@ -353,8 +353,8 @@ module _ (s s' : State) (T : Trace) (line page : ℕ) (h : Stands s T) (sight : 
             seen.time ∙ sym (ap (λ o. unwrap_or o s.time) (last_silent time_of effects
             (silent time_of (record { ignored = λ w. refl; sent = λ n c p t k. refl; move = λ n c. refl }))));
         cookies =
-            seen.cookies ∙ ap (cookies_after s.cookies) (sym (said_silent written_by effects
-            (silent written_by (record { ignored = λ w. refl; sent = λ n c p t k. refl; move = λ n c. refl }))));
+            seen.cookies ∙ ap (changed_by s.cookies) (sym (said_silent cookie_change effects
+            (silent cookie_change (record { ignored = λ w. refl; sent = λ n c p t k. refl; move = λ n c. refl }))));
         login =
             seen.login ∙ sym (entries_silent same_origin login_change effects s.login
             (silent login_change (record { ignored = λ w. refl; sent = λ n c p t k. refl; move = λ n c. refl })));

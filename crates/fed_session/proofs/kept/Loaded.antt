@@ -7,7 +7,7 @@ use Rattle.indexmap.specs.IndexMap.{insert_entry}
 use Rattle.url.specs.Parts.{Parts}
 use Rattle.fed_origin.specs.declared.status.LoginStatus.{LoginStatus}
 use Rattle.fed_origin.specs.WebUrl.{origin_of}
-use Rattle.fed_jar.specs.Cookie.{StoredCookie}
+use Rattle.fed_jar.specs.Changes.{CookieChange}
 use Rattle.fed_table.specs.Lists.{all_without, with_last, with_key, emptied}
 use Rattle.fed_trace.specs.Begun.{CallKind}
 use Rattle.fed_trace.specs.Effect.{Effect, Time, Page, Closed, Cookie, Login, Begin, Move, Sent, Dropped, Shown, Window, Kept, Flag, Result}
@@ -43,7 +43,7 @@ loads_silent [] h = tt
 loads_silent (e ∷ es) h = (load_none e h.0, loads_silent es h.1)
 
 -- a load
-pub load_loads : (calls : List (ℕ × CallKind)) (page : ℕ) (url : Parts) (cookies : List StoredCookie) (statuses : List LoginStatus)
+pub load_loads : (calls : List (ℕ × CallKind)) (page : ℕ) (url : Parts) (cookies : List CookieChange) (statuses : List LoginStatus)
     (es : List (ℕ × ⊤))
     → entries_after nat_eq loaded_change (load_effects calls page url cookies statuses) es ≡ insert_entry nat_eq es page tt
 load_loads calls page url cookies statuses es =

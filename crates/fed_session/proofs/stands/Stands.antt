@@ -1,5 +1,5 @@
 -- A session that stands for a trace stands for it with one event more.
-use Rattle.std.proofs.Common.{◌≡◌, ℕ, true, nat_eq, ◌+◌, List, [], ◌∷◌, ◌++◌, refl, sym, ap, subst, ◌∙◌, arith}
+use Rattle.std.proofs.Common.{◌≡◌, ℕ, true, nat_eq, ◌+◌, List, [], ◌++◌, refl, sym, ap, subst, ◌∙◌, arith}
 use Rattle.std.proofs.Common.{append-nil}
 use Rattle.std.specs.Prelude.{unwrap_or}
 use Rattle.std.specs.Option.{option_to_list}
@@ -7,20 +7,20 @@ use Rattle.std.specs.Map.{lookup, keys_of}
 use Rattle.std.specs.List.{filter_map}
 use Rattle.fed_origin.specs.Origin.{same_origin}
 use Rattle.fed_origin.specs.Status.{same_triple}
-use Rattle.fed_jar.specs.Cookie.{StoredCookie, with_cookie, cookies_after}
-use Rattle.fed_jar.proofs.writes.Writes.{jar_is_standing}
+use Rattle.fed_jar.specs.Changes.{CookieChange, changed_by}
+use Rattle.fed_jar.proofs.changes.Changes.{changed_in_turn}
 use Rattle.fed_script.specs.declared.event.Event.{Event}
 use Rattle.fed_script.specs.declared.event.Header.{Header}
-use Rattle.fed_jar.specs.Writes as jar
+use Rattle.fed_jar.specs.Changes as jar
 use Rattle.fed_table.specs.Table.{page_calls}
 use Rattle.fed_trace.specs.Effect.{last_of, page_change, login_change, kept_change, flag_change, call_change, stage_change, begun_by}
-use Rattle.fed_trace.specs.Effect.{begins, written_by, time_of, loaded_change}
+use Rattle.fed_trace.specs.Effect.{begins, cookie_change, time_of, loaded_change}
 use Rattle.fed_trace.specs.Keyed.{entries_after}
 use Rattle.fed_trace.specs.Known.{known_at}
 use Rattle.fed_trace.specs.Row.{effects_of, with_event, IsNew}
 use Rattle.fed_session.specs.Session.{State, TabsParts, Stands, windows, item_known, pending_call, pending_calls, no_table}
 use Rattle.fed_session.specs.StepParts.{sight_of}
-use Rattle.fed_trace.specs.Trace.{Trace, pages, pending, last_in, writes, standing}
+use Rattle.fed_trace.specs.Trace.{Trace, pages, pending, last_in, cookie_changes, standing}
 use Rattle.fed_trace.proofs.keyed.Keyed.{unwrap_or-option_or}
 use Rattle.fed_trace.proofs.effects.Silent.{AllSilent, entries_silent, said_silent, last_silent, last_said_silent}
 use Rattle.fed_trace.proofs.known.Known.{known_same}
@@ -33,15 +33,10 @@ use Rattle.fed_session.proofs.waits.Windows.{windows_still}
 
 -- ---- one event more
 
-written_in_turn : (cs xs ys : List StoredCookie) → cookies_after cs (xs ++ ys) ≡ cookies_after (cookies_after cs xs) ys
-written_in_turn cs [] ys = refl
-written_in_turn cs (x ∷ xs) ys = written_in_turn (with_cookie cs x) xs ys
-
--- the cookies after more writes
-cookies_grow : (before more : List StoredCookie) → cookies_after (jar.standing before) more ≡ jar.standing (before ++ more)
-cookies_grow before more =
-    ap (λ cs. cookies_after cs more) (sym (jar_is_standing before)) ∙ sym (written_in_turn [] before more)
-    ∙ jar_is_standing (before ++ more)
+-- the cookies after more changes
+cookies_grow : (before more : List CookieChange) → changed_by (jar.standing before) more ≡ jar.standing (before ++ more)
+unfolding jar.standing
+cookies_grow before more = sym (changed_in_turn [] before more)
 
 -- what a step owes to the trace, but for the count, by the effects of its event
 pub record Owes (s s' : State) (T : Trace) (line : ℕ) (event : Event) : Type 0 where
@@ -49,7 +44,7 @@ pub record Owes (s s' : State) (T : Trace) (line : ℕ) (event : Event) : Type 0
   pub kept : s'.kept ≡ keys_of (entries_after same_triple kept_change (effects_of T event) (standing same_triple kept_change T.rows))
   pub flags : s'.flags ≡ keys_of (entries_after same_origin flag_change (effects_of T event) (standing same_origin flag_change T.rows))
   pub time : s'.time ≡ unwrap_or (last_of time_of (effects_of T event)) s.time
-  pub cookies : s'.cookies ≡ cookies_after s.cookies (filter_map written_by (effects_of T event))
+  pub cookies : s'.cookies ≡ changed_by s.cookies (filter_map cookie_change (effects_of T event))
   pub login : s'.login ≡ entries_after same_origin login_change (effects_of T event) s.login
   pub pages : s'.tabs.pages ≡ entries_after nat_eq page_change (effects_of T event) (pages T)
   pub loaded : keys_of s'.tabs.table.pages
@@ -78,8 +73,8 @@ stands_after s s' T line event h new alive steps o =
           ∙ sym (unwrap_or-option_or (last_of time_of effects) (last_in time_of T.rows) T.header.now);
       rules = o.rules ∙ h.rules;
       cookies =
-          o.cookies ∙ ap (λ cs. cookies_after cs (filter_map written_by effects)) h.cookies
-          ∙ cookies_grow (writes T) (filter_map written_by effects);
+          o.cookies ∙ ap (λ cs. changed_by cs (filter_map cookie_change effects)) h.cookies
+          ∙ cookies_grow (cookie_changes T) (filter_map cookie_change effects);
       login = o.login ∙ ap (entries_after same_origin login_change effects) h.login;
       kept = o.kept;
       flags = o.flags;
@@ -104,6 +99,7 @@ pub stands_new : (s : State) (header : Header) → s.alive ≡ true → s.steps 
     }
     → s.tabs ≡ record { pages = []; gets = []; taken = []; table = no_table }
     → Stands s (record { header = header; rows = [] })
+unfolding jar.standing
 stands_new s header alive steps sight tabs =
     let seen = sees s _ sight in
     record {
@@ -112,7 +108,7 @@ stands_new s header alive steps sight tabs =
       steps = steps;
       time = seen.time;
       rules = seen.rules;
-      cookies = seen.cookies ∙ jar_is_standing [];
+      cookies = seen.cookies;
       login = seen.login;
       kept = seen.kept;
       flags = seen.flags;
@@ -151,7 +147,7 @@ pub owes_as_known : (s s' : State) (T : Trace) (line : ℕ) (event : Event) → 
     → s'.kept ≡ keys_of (entries_after same_triple kept_change (effects_of T event) (standing same_triple kept_change T.rows))
     → s'.flags ≡ keys_of (entries_after same_origin flag_change (effects_of T event) (standing same_origin flag_change T.rows))
     → s'.time ≡ unwrap_or (last_of time_of (effects_of T event)) s.time
-    → s'.cookies ≡ cookies_after s.cookies (filter_map written_by (effects_of T event))
+    → s'.cookies ≡ changed_by s.cookies (filter_map cookie_change (effects_of T event))
     → s'.login ≡ entries_after same_origin login_change (effects_of T event) s.login
     → s'.tabs.pages ≡ s.tabs.pages → s'.tabs.table.pages ≡ s.tabs.table.pages → s'.tabs.gets ≡ s.tabs.gets
     → s'.tabs.taken ≡ s.tabs.taken → s'.tabs.table.waits ≡ s.tabs.table.waits
@@ -189,7 +185,7 @@ pub owes_aside : (s s' : State) (T : Trace) (line : ℕ) (event : Event) → Sta
     → s'.kept ≡ keys_of (entries_after same_triple kept_change (effects_of T event) (standing same_triple kept_change T.rows))
     → s'.flags ≡ keys_of (entries_after same_origin flag_change (effects_of T event) (standing same_origin flag_change T.rows))
     → s'.time ≡ unwrap_or (last_of time_of (effects_of T event)) s.time
-    → s'.cookies ≡ cookies_after s.cookies (filter_map written_by (effects_of T event))
+    → s'.cookies ≡ changed_by s.cookies (filter_map cookie_change (effects_of T event))
     → s'.login ≡ entries_after same_origin login_change (effects_of T event) s.login
     → s'.tabs ≡ s.tabs → Owes s s' T line event
 owes_aside s s' T line event h aside rules kept_now flags_now time written login tabs =

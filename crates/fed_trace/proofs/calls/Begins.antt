@@ -7,7 +7,7 @@ use Rattle.std.specs.Prelude.{Option, ⊤}
 use Rattle.std.specs.List.{list_any, filter_map}
 use Rattle.fed_origin.specs.declared.origin.Origin.{Origin}
 use Rattle.fed_origin.specs.Origin.{is_trustworthy}
-use Rattle.fed_jar.specs.Cookie.{StoredCookie}
+use Rattle.fed_jar.specs.Changes.{CookieChange}
 use Rattle.fed_script.specs.declared.event.Event.{Event}
 use Rattle.fed_script.specs.declared.event.Event.TheVariants.{At, Load, ClosePage, Get, Abort, Reply, Prevent, SetStatus, Disconnect}
 use Rattle.fed_script.specs.declared.event.Have.{Have}
@@ -19,9 +19,9 @@ use Rattle.fed_disconnect.specs.Facts.{disconnect_options}
 use Rattle.fed_trace.specs.Begun.{CallKind, ToGet, ToDisconnect}
 use Rattle.fed_trace.specs.Effect.{Effect, Closed, Cookie, Login, Flag, begun_by}
 use Rattle.fed_trace.specs.Known.{world_at, is_begun, known_at}
-use Rattle.fed_trace.specs.Row.{effects_of, cookies_with, cookies_from, have_cookies, have_states, set_cookies, set_logins, cookie_effects}
+use Rattle.fed_trace.specs.Row.{effects_of, cookies_with, load_changes, have_changes, have_states, set_logins, cookie_effects}
 use Rattle.fed_trace.specs.Row.{ends_of, close_effects, standing_says, page_says, is_busy, IsNew, IsRun}
-use Rattle.fed_trace.specs.Trace.{Row, Trace, begun, pending_of, page_at, now_at, gets}
+use Rattle.fed_trace.specs.Trace.{Row, Trace, begun, pending_of, page_at, gets}
 use Rattle.fed_trace.specs.Windows.{windows_of}
 use Rattle.fed_trace.proofs.calls.Resumed.{idpclose_silent}
 use Rattle.fed_trace.proofs.calls.Pending.{BeginsAtMost, ends_silent, load_silent, call_begins, input_begins_none}
@@ -61,7 +61,7 @@ states_begin_none (haves.Login origin status) = (refl, tt)
 states_begin_none (haves.Kept triple) = (refl, tt)
 states_begin_none (haves.Silent origin) = (refl, tt)
 
-have_begins_none : (cookies : List StoredCookie) (have : Have) → AllSilent begun_by (cookie_effects cookies ++ have_states have)
+have_begins_none : (cookies : List CookieChange) (have : Have) → AllSilent begun_by (cookie_effects cookies ++ have_states have)
 have_begins_none cookies have =
     silent_append begun_by (cookie_effects cookies) (have_states have) (silent_map begun_by Cookie (λ c. refl) cookies)
     (states_begin_none have)
@@ -90,11 +90,11 @@ new_call _ = None
 pub event_begins : (T : Trace) (event : Event)
     → (AllSilent begun_by (effects_of T event)) ⊎ ((call : ℕ) × (new_call event ≡ Some call)
     × BeginsAtMost call (effects_of T event))
-event_begins T (events.Have have) = inl (have_begins_none (have_cookies T.header.rules (now_at T) have) have)
+event_begins T (events.Have have) = inl (have_begins_none (have_changes T have) have)
 event_begins T (At time) = inl (refl, tt)
 event_begins T (Load page url raw) =
     inl (load_silent begun_by (λ n c. refl) (λ p o. refl) (λ c. refl) (λ o s. refl) (pending_of T page) page url
-    (cookies_from T.header.rules url (now_at T) (set_cookies raw)) (set_logins raw))
+    (load_changes T url raw) (set_logins raw))
 event_begins T (ClosePage page) = inl (close_begins_none (pending_of T page) page (page_at T page))
 event_begins T (Prevent page) = inl (says_begin_none (page_at T page) (λ origin. Flag origin true) (λ o. refl))
 event_begins T (SetStatus page status) = inl (says_begin_none (page_at T page) (λ origin. Login origin status) (λ o. refl))

@@ -15,7 +15,7 @@ use Rattle.fed_origin.specs.declared.stage.Stage.TheVariants.{Ended}
 use Rattle.fed_origin.specs.declared.status.LoginStatus.{LoginStatus}
 use Rattle.fed_origin.specs.Origin.{is_trustworthy, same_origin}
 use Rattle.fed_origin.specs.WebUrl.{origin_of}
-use Rattle.fed_jar.specs.Cookie.{StoredCookie}
+use Rattle.fed_jar.specs.Changes.{CookieChange}
 use Rattle.fed_status.specs.Login.{Logins}
 use Rattle.fed_status.specs.Shared.{World}
 use Rattle.fed_consent.specs.declared.table.failure.Failure.{Failure}
@@ -28,7 +28,7 @@ use Rattle.fed_consent.specs.Outcomes.{Outcome}
 use Rattle.fed_trace.specs.Begun.{Begun, CallKind, CallOptions, kind_asked}
 use Rattle.fed_trace.specs.Call.{Known, kind_of, page_of, first_row, input_row}
 use Rattle.fed_trace.specs.Effect.{Effect, PendingCall, Page, Cookie, Login, Move, Sent, Dropped, Shown, Result, Ignored}
-use Rattle.fed_trace.specs.Effect.{page_change, login_change, call_change, begun_by, written_by, Kept, Window, Flag}
+use Rattle.fed_trace.specs.Effect.{page_change, login_change, call_change, begun_by, cookie_change, Kept, Window, Flag}
 use Rattle.fed_trace.specs.Keyed.{entries_after}
 use Rattle.fed_trace.specs.Row.{ends_of, cookie_effects, login_effects, load_effects, standing_call, begin_effects, outcome_effects}
 use Rattle.fed_trace.specs.Row.{call_effects, moves, input_effects}
@@ -122,15 +122,15 @@ ends_silent said h calls = silent_map said (λ call. Move call.1 call.0 Ended) (
 -- ---- loads
 
 -- what follows the page's place in a load says nothing of what is no cookie and no status
-pub load_rest_silent : {A : Type 0} (said : Effect → Option A) → ((cookie : StoredCookie) → said (Cookie cookie) ≡ None)
+pub load_rest_silent : {A : Type 0} (said : Effect → Option A) → ((cookie : CookieChange) → said (Cookie cookie) ≡ None)
     → ((origin : Origin) (status : LoginStatus) → said (Login origin status) ≡ None)
-    → (cookies : List StoredCookie) (origin : Origin) (statuses : List LoginStatus)
+    → (cookies : List CookieChange) (origin : Origin) (statuses : List LoginStatus)
     → AllSilent said (cookie_effects cookies ++ login_effects origin statuses)
 load_rest_silent said cookie login cookies origin statuses =
     silent_append said (cookie_effects cookies) (login_effects origin statuses) (silent_map said Cookie cookie cookies)
     (silent_map said (Login origin) (login origin) statuses)
 
-pub load_pages : (calls : List (ℕ × CallKind)) (page : ℕ) (url : Parts) (cookies : List StoredCookie) (statuses : List
+pub load_pages : (calls : List (ℕ × CallKind)) (page : ℕ) (url : Parts) (cookies : List CookieChange) (statuses : List
     LoginStatus) (es : List (ℕ × Origin))
     → entries_after nat_eq page_change (load_effects calls page url cookies statuses) es ≡ insert_entry nat_eq es page (origin_of url)
 load_pages calls page url cookies statuses es =
@@ -141,7 +141,7 @@ load_pages calls page url cookies statuses es =
     ∙ entries_silent nat_eq page_change rest (insert_entry nat_eq es page (origin_of url))
     (load_rest_silent page_change (λ c. refl) (λ o s. refl) cookies (origin_of url) statuses)
 
-pub load_calls : (page : ℕ) (url : Parts) (cookies : List StoredCookie) (statuses : List LoginStatus) (es : List (ℕ × PendingCall))
+pub load_calls : (page : ℕ) (url : Parts) (cookies : List CookieChange) (statuses : List LoginStatus) (es : List (ℕ × PendingCall))
     → AreDistinct es
     → entries_after nat_eq call_change (load_effects (calls_of page es) page url cookies statuses) es ≡ others page es
 load_calls page url cookies statuses es h =
@@ -154,38 +154,39 @@ load_calls page url cookies statuses es h =
 -- a load is silent on what ends, pages, cookies and statuses do not say
 pub load_silent : {A : Type 0} (said : Effect → Option A) → ((kind : CallKind) (call : ℕ) → said (Move kind call Ended) ≡ None)
     → ((page : ℕ) (origin : Origin) → said (Page page origin) ≡ None)
-    → ((cookie : StoredCookie) → said (Cookie cookie) ≡ None)
+    → ((cookie : CookieChange) → said (Cookie cookie) ≡ None)
     → ((origin : Origin) (status : LoginStatus) → said (Login origin status) ≡ None)
-    → (calls : List (ℕ × CallKind)) (page : ℕ) (url : Parts) (cookies : List StoredCookie) (statuses : List LoginStatus)
+    → (calls : List (ℕ × CallKind)) (page : ℕ) (url : Parts) (cookies : List CookieChange) (statuses : List LoginStatus)
     → AllSilent said (load_effects calls page url cookies statuses)
 load_silent said move page_is cookie login calls page url cookies statuses =
     silent_append said (ends_of calls) (Page page (origin_of url)
     ∷ (cookie_effects cookies ++ login_effects (origin_of url) statuses)) (ends_silent said move calls)
     (page_is page (origin_of url), load_rest_silent said cookie login cookies (origin_of url) statuses)
 
--- the cookies that effects of cookies write
-pub cookies_are_written : (cookies : List StoredCookie) → filter_map written_by (cookie_effects cookies) ≡ cookies
-cookies_are_written [] = refl
-cookies_are_written (c ∷ cookies) = ap (λ cs. c ∷ cs) (cookies_are_written cookies)
+-- what effects of cookies say of cookies
+pub changes_are_said : (cookies : List CookieChange) → filter_map cookie_change (cookie_effects cookies) ≡ cookies
+changes_are_said [] = refl
+changes_are_said (c ∷ cookies) = ap (λ cs. c ∷ cs) (changes_are_said cookies)
 
--- cookies, and then what writes none
-pub written_then : (cookies : List StoredCookie) (effects : List Effect) → AllSilent written_by effects
-    → filter_map written_by (cookie_effects cookies ++ effects) ≡ cookies
-written_then cookies effects h =
-    filter_map-append written_by (cookie_effects cookies) effects
-    ∙ ap (λ xs. filter_map written_by (cookie_effects cookies) ++ xs) (said_silent written_by effects h)
-    ∙ append-nil (filter_map written_by (cookie_effects cookies)) ∙ cookies_are_written cookies
+-- cookies, and then what says nothing of them
+pub changed_then : (cookies : List CookieChange) (effects : List Effect) → AllSilent cookie_change effects
+    → filter_map cookie_change (cookie_effects cookies ++ effects) ≡ cookies
+changed_then cookies effects h =
+    filter_map-append cookie_change (cookie_effects cookies) effects
+    ∙ ap (λ xs. filter_map cookie_change (cookie_effects cookies) ++ xs) (said_silent cookie_change effects h)
+    ∙ append-nil (filter_map cookie_change (cookie_effects cookies)) ∙ changes_are_said cookies
 
-pub load_writes : (calls : List (ℕ × CallKind)) (page : ℕ) (url : Parts) (cookies : List StoredCookie) (statuses : List LoginStatus)
-    → filter_map written_by (load_effects calls page url cookies statuses) ≡ cookies
-load_writes calls page url cookies statuses =
+pub load_changed : (calls : List (ℕ × CallKind)) (page : ℕ) (url : Parts) (cookies : List CookieChange) (statuses : List LoginStatus)
+    → filter_map cookie_change (load_effects calls page url cookies statuses) ≡ cookies
+load_changed calls page url cookies statuses =
     let rest = Page page (origin_of url) ∷ (cookie_effects cookies ++ login_effects (origin_of url) statuses) in
-    filter_map-append written_by (ends_of calls) rest
-    ∙ ap (λ xs. xs ++ filter_map written_by rest) (said_silent written_by (ends_of calls) (ends_silent written_by (λ n c. refl) calls))
-    ∙ written_then cookies (login_effects (origin_of url) statuses) (silent_map written_by (Login (origin_of url)) (λ s. refl) statuses)
+    filter_map-append cookie_change (ends_of calls) rest
+    ∙ ap (λ xs. xs ++ filter_map cookie_change rest)
+    (said_silent cookie_change (ends_of calls) (ends_silent cookie_change (λ n c. refl) calls))
+    ∙ changed_then cookies (login_effects (origin_of url) statuses) (silent_map cookie_change (Login (origin_of url)) (λ s. refl) statuses)
 
 -- cookies, and then statuses
-pub set_after : (cookies : List StoredCookie) (effects : List Effect) (logins : Logins)
+pub set_after : (cookies : List CookieChange) (effects : List Effect) (logins : Logins)
     → entries_after same_origin login_change (cookie_effects cookies ++ effects) logins
     ≡ entries_after same_origin login_change effects logins
 set_after cookies effects logins =

@@ -10,7 +10,7 @@ use Rattle.fed_origin.specs.declared.origin.Origin.{Origin}
 use Rattle.fed_origin.specs.declared.stage.Stage.TheVariants.{Ended}
 use Rattle.fed_origin.specs.declared.status.LoginStatus.{LoginStatus}
 use Rattle.fed_origin.specs.declared.status.Triple.{Triple}
-use Rattle.fed_jar.specs.Cookie.{StoredCookie}
+use Rattle.fed_jar.specs.Changes.{CookieChange}
 use Rattle.fed_script.specs.declared.event.Event.TheVariants.{Load}
 use Rattle.fed_script.specs.declared.event.Have.{Have}
 use Rattle.fed_consent.specs.declared.table.why.Why.{Why}
@@ -18,10 +18,10 @@ use Rattle.fed_consent.specs.declared.table.why.Why.TheVariants.{NoPage, PageIns
 use Rattle.fed_script.specs.declared.event.Event.TheVariants as events
 use Rattle.fed_script.specs.declared.event.Have.TheVariants as haves
 use Rattle.fed_trace.specs.Effect.{page_change, call_change, stage_change, begun_by, begins, Effect, Closed}
-use Rattle.fed_trace.specs.Effect.{Cookie, Login, Kept, Flag, Move, Ignored, written_by}
-use Rattle.fed_trace.specs.Row.{effects_of, cookies_from, have_cookies, have_states, set_cookies, set_logins, cookie_effects, ends_of}
+use Rattle.fed_trace.specs.Effect.{Cookie, Login, Kept, Flag, Move, Ignored, cookie_change}
+use Rattle.fed_trace.specs.Row.{effects_of, load_changes, have_changes, have_states, set_logins, cookie_effects, ends_of}
 use Rattle.fed_trace.specs.Row.{load_effects, page_says, standing_says}
-use Rattle.fed_trace.specs.Trace.{Trace, pending_of, now_at}
+use Rattle.fed_trace.specs.Trace.{Trace, pending_of}
 use Rattle.fed_trace.specs.Records.{record_of, records_of}
 use Rattle.fed_trace.proofs.effects.Silent.{AllSilent, said_silent, silent_map, silent_append}
 use Rattle.fed_trace.proofs.calls.Pending.{ends_silent, load_silent}
@@ -39,9 +39,9 @@ pub record IsAside (T : Trace) (line : ℕ) (event : Event) : Type 0 where
 
 -- ---- what is silent
 
--- nothing is said of what is written, set, kept or marked
+-- nothing is said of cookies, and of what is set, kept or marked
 pub record IsPlain {A : Type 0} (said : Effect → Option A) : Type 0 where
-  pub cookie : (cookie : StoredCookie) → said (Cookie cookie) ≡ None
+  pub cookie : (cookie : CookieChange) → said (Cookie cookie) ≡ None
   pub login : (origin : Origin) (status : LoginStatus) → said (Login origin status) ≡ None
   pub kept : (triple : Triple) (stays : Bool) → said (Kept triple stays) ≡ None
   pub flag : (origin : Origin) (stays : Bool) → said (Flag origin stays) ≡ None
@@ -53,16 +53,16 @@ states_silent said plain (haves.Kept triple) = (plain.kept triple true, tt)
 states_silent said plain (haves.Silent origin) = (plain.flag origin true, tt)
 
 pub have_silent : {A : Type 0} (said : Effect → Option A) → IsPlain said
-    → (cookies : List StoredCookie) (have : Have) → AllSilent said (cookie_effects cookies ++ have_states have)
+    → (cookies : List CookieChange) (have : Have) → AllSilent said (cookie_effects cookies ++ have_states have)
 have_silent said plain cookies have =
     silent_append said (cookie_effects cookies) (have_states have) (silent_map said Cookie plain.cookie cookies)
     (states_silent said plain have)
 
-pub states_write_none : (have : Have) → AllSilent written_by (have_states have)
-states_write_none (haves.Cookie url field) = tt
-states_write_none (haves.Login origin status) = (refl, tt)
-states_write_none (haves.Kept triple) = (refl, tt)
-states_write_none (haves.Silent origin) = (refl, tt)
+pub states_change_none : (have : Have) → AllSilent cookie_change (have_states have)
+states_change_none (haves.Cookie url field) = tt
+states_change_none (haves.Login origin status) = (refl, tt)
+states_change_none (haves.Kept triple) = (refl, tt)
+states_change_none (haves.Silent origin) = (refl, tt)
 
 pub says_silent : {A : Type 0} (said : Effect → Option A) (says : Origin → Effect)
     → ((origin : Origin) → said (says origin) ≡ None)
@@ -85,7 +85,7 @@ close_silent said move closed calls page =
 
 pub have_records : (T : Trace) (line : ℕ) (have : Have) → [] ≡ records_of line (effects_of T (events.Have have))
 have_records T line have =
-    let found = have_cookies T.header.rules (now_at T) have in
+    let found = have_changes T have in
     sym (said_silent (record_of line) (cookie_effects found
     ++ have_states have) (have_silent (record_of line)
     (record { cookie = λ c. refl; login = λ o s. refl; kept = λ t k. refl; flag = λ o k. refl }) found have))
@@ -93,7 +93,7 @@ have_records T line have =
 pub load_records : (T : Trace) (line page : ℕ) (url : Parts) (raw : Option (List ℕ))
     → [] ≡ records_of line (effects_of T (Load page url raw))
 load_records T line page url raw =
-    let found = cookies_from T.header.rules url (now_at T) (set_cookies raw) in
+    let found = load_changes T url raw in
     sym (said_silent (record_of line) (load_effects (pending_of T page) page url found (set_logins raw))
     (load_silent (record_of line) (λ n c. refl) (λ p o. refl) (λ c. refl) (λ o s. refl) (pending_of T page) page url found
     (set_logins raw)))

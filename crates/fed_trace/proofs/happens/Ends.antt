@@ -26,9 +26,9 @@ use Rattle.fed_trace.specs.Effect.{Effect, Time, Page, Closed, Begin, Move, Igno
 use Rattle.fed_trace.specs.Effect.{stage_change, begins}
 use Rattle.fed_trace.specs.Keyed.{Change, last_said, says}
 use Rattle.fed_trace.specs.Known.{world_at, is_begun, input_to, known_at}
-use Rattle.fed_trace.specs.Row.{effects_of, cookies_with, cookies_from, outcome_effects, input_effects, ends_of, close_effects}
-use Rattle.fed_trace.specs.Row.{cookie_effects, login_effects, set_cookies, set_logins}
-use Rattle.fed_trace.specs.Trace.{Trace, page_at, pending, pending_of, now_at}
+use Rattle.fed_trace.specs.Row.{effects_of, cookies_with, load_changes, outcome_effects, input_effects, ends_of, close_effects}
+use Rattle.fed_trace.specs.Row.{cookie_effects, login_effects, set_logins}
+use Rattle.fed_trace.specs.Trace.{Trace, page_at, pending, pending_of}
 use Rattle.fed_trace.specs.Windows.{windows_of}
 use Rattle.fed_trace.proofs.calls.Pending.{is_among, ends_silent, load_rest_silent}
 use Rattle.fed_trace.proofs.events.Aside.{IsPlain}
@@ -297,7 +297,7 @@ happens_ends T event q page rest effects stage pending begins_none asks gives dr
 
 pub happens_load : (T : Trace) (page : ℕ) (url : Parts) (raw : Option (List ℕ)) (q : ℕ) → Happens T (Load page url raw) q
 happens_load T page url raw q =
-    let found = cookies_from T.header.rules url (now_at T) (set_cookies raw) in
+    let found = load_changes T url raw in
     let statuses = set_logins raw in
     let origin = origin_of url in
     happens_ends T (Load page url raw) q page (Page page origin ∷ (cookie_effects found ++ login_effects origin statuses)) refl

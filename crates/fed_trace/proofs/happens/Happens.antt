@@ -26,10 +26,10 @@ use Rattle.fed_trace.specs.Effect.{stage_change, begins}
 use Rattle.fed_trace.specs.Effect.{is_ignored}
 use Rattle.fed_trace.specs.Keyed.{last_said, says}
 use Rattle.fed_trace.specs.Known.{world_at, is_begun, input_to, with_said, known_at}
-use Rattle.fed_trace.specs.Row.{effects_of, cookies_with, cookies_from, outcome_effects, standing_call, begin_effects, input_effects}
-use Rattle.fed_trace.specs.Row.{is_busy, ends_of, close_effects, cookie_effects, login_effects, have_cookies, have_states, page_says}
-use Rattle.fed_trace.specs.Row.{set_cookies, set_logins}
-use Rattle.fed_trace.specs.Trace.{Trace, page_at, pending_of, now_at, gets}
+use Rattle.fed_trace.specs.Row.{effects_of, cookies_with, load_changes, outcome_effects, standing_call, begin_effects, input_effects}
+use Rattle.fed_trace.specs.Row.{is_busy, ends_of, close_effects, cookie_effects, login_effects, have_changes, have_states, page_says}
+use Rattle.fed_trace.specs.Row.{set_logins}
+use Rattle.fed_trace.specs.Trace.{Trace, page_at, pending_of, gets}
 use Rattle.fed_trace.specs.Windows.{windows_of}
 use Rattle.fed_trace.proofs.calls.Resumed.{idpclose_silent}
 use Rattle.fed_trace.proofs.effects.Outcome.{last_said_after}
@@ -180,7 +180,7 @@ happens_says T event q page says effects stage pending begins_none asks gives dr
 
 pub happens : (T : Trace) (event : Event) (q : ℕ) → Happens T event q
 happens T (events.Have have) q =
-    let found = have_cookies T.header.rules (now_at T) have in
+    let found = have_changes T have in
     left T (events.Have have) q
     (quiet_silent q (cookie_effects found
     ++ have_states have) (have_silent stage_change dull_stage.plain found have) (have_silent call_change dull_call.plain found have)
@@ -265,7 +265,7 @@ close_pages calls page q (Some origin) ne =
 
 pub pages_left : (T : Trace) (event : Event) (q : ℕ) → replaces q event ≡ false → last_said nat_eq page_change q (effects_of T event) ≡ None
 pages_left T (events.Have have) q h =
-    let found = have_cookies T.header.rules (now_at T) have in
+    let found = have_changes T have in
     last_said_silent nat_eq page_change q (cookie_effects found ++ have_states have) (have_silent page_change dull_page.plain found have)
 pages_left T (At time) q h = refl
 pages_left T (Prevent page) q h =
@@ -275,7 +275,7 @@ pages_left T (SetStatus page status) q h =
     last_said_silent nat_eq page_change q (page_says (page_at T page) (λ origin. Login origin status))
     (says_silent page_change (λ origin. Login origin status) (λ o. refl) dull_page.ignored (page_at T page))
 pages_left T (Load page url raw) q h =
-    let found = cookies_from T.header.rules url (now_at T) (set_cookies raw) in
+    let found = load_changes T url raw in
     let rest = cookie_effects found ++ login_effects (origin_of url) (set_logins raw) in
     last_said_after nat_eq page_change q (ends_of (pending_of T page)) (Page page (origin_of url)
     ∷ rest) (ends_silent page_change (λ n c. refl) (pending_of T page))

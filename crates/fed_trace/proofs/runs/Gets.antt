@@ -29,9 +29,9 @@ use Rattle.fed_trace.specs.Effect.{Kept, Flag, Result, Ignored, is_ignored, last
 use Rattle.fed_trace.specs.Keyed.{entries_after}
 use Rattle.fed_trace.specs.Known.{world_at, is_begun, input_to, with_said, known_in, known_at}
 use Rattle.fed_trace.specs.Row.{effects_of, cookies_with, outcome_effects, call_effects, moves, input_effects, begin_effects, standing_call}
-use Rattle.fed_trace.specs.Row.{is_busy, ends_of, cookie_effects, login_effects, have_cookies, have_states, cookies_from, set_cookies}
+use Rattle.fed_trace.specs.Row.{is_busy, ends_of, cookie_effects, login_effects, have_changes, have_states, load_changes}
 use Rattle.fed_trace.specs.Row.{set_logins, page_says, close_effects, IsNew, IsRun}
-use Rattle.fed_trace.specs.Trace.{Row, Trace, calls_of, begun, pending, pending_of, gets, page_at, stage_at, now_at, last_value, standing}
+use Rattle.fed_trace.specs.Trace.{Row, Trace, calls_of, begun, pending, pending_of, gets, page_at, stage_at, last_value, standing}
 use Rattle.fed_trace.specs.Windows.{windows_of}
 use Rattle.fed_trace.proofs.keyed.Keyed.{IsAbsent, AreDistinct, entries_after-append, distinct_standing, lookup-standing}
 use Rattle.fed_trace.proofs.keyed.Keyed.{lookup-insert_entry}
@@ -221,7 +221,7 @@ keeps_close T page (Some origin) =
 
 keeps_row : (T : Trace) (event : Event) → IsNew T.rows event → Keeps (pending T) (effects_of T event)
 keeps_row T (events.Have have) new =
-    let found = have_cookies T.header.rules (now_at T) have in
+    let found = have_changes T have in
     keeps_silent (pending T) (cookie_effects found ++ have_states have)
     (have_silent call_change (record { cookie = λ c. refl; login = λ o s. refl; kept = λ t k. refl; flag = λ o k. refl }) found have)
     (have_silent get_change (record { cookie = λ c. refl; login = λ o s. refl; kept = λ t k. refl; flag = λ o k. refl }) found have)
@@ -235,7 +235,7 @@ keeps_row T (events.SetStatus page status) new =
     (says_silent call_change (λ origin. Login origin status) (λ o. refl) (λ w. refl) (page_at T page))
     (says_silent get_change (λ origin. Login origin status) (λ o. refl) (λ w. refl) (page_at T page))
 keeps_row T (events.Load page url raw) new =
-    let found = cookies_from T.header.rules url (now_at T) (set_cookies raw) in
+    let found = load_changes T url raw in
     let origin = origin_of url in
     keeps_ends page (pending T) (Page page origin
     ∷ (cookie_effects found ++ login_effects origin (set_logins raw))) (distinct_standing call_change T.rows)

@@ -25,9 +25,9 @@ use Rattle.fed_trace.specs.OfCall.{replaces}
 use Rattle.fed_trace.specs.Effect.{Effect, Page, Closed, Ignored, last_of, stage_change, begins}
 use Rattle.fed_trace.specs.Keyed.{last_said}
 use Rattle.fed_trace.specs.Known.{world_at, is_begun, input_to, facts_at, known_by}
-use Rattle.fed_trace.specs.Row.{effects_of, with_event, cookies_with, call_effects, moves, ends_of, close_effects, cookies_from}
-use Rattle.fed_trace.specs.Row.{cookie_effects, login_effects, set_cookies, set_logins}
-use Rattle.fed_trace.specs.Trace.{Trace, page_at, stage_at, pending_of, now_at}
+use Rattle.fed_trace.specs.Row.{effects_of, with_event, cookies_with, call_effects, moves, ends_of, close_effects, load_changes}
+use Rattle.fed_trace.specs.Row.{cookie_effects, login_effects, set_logins}
+use Rattle.fed_trace.specs.Trace.{Trace, page_at, stage_at, pending_of}
 use Rattle.fed_trace.proofs.calls.Pending.{is_among, ends_silent, load_rest_silent}
 use Rattle.fed_trace.proofs.effects.Silent.{AllSilent, last_silent, silent_append, goes_silent}
 use Rattle.fed_trace.proofs.happens.Disconnects.{Turn, Gives, GivesNone, sets_login, disconnect_turn}
@@ -104,7 +104,7 @@ facts_end T line event q page rest effects stage begun same =
 pub facts_load : (T : Trace) (line page : ℕ) (url : Parts) (raw : Option (List ℕ)) (q : ℕ)
     → EndsThere T line (Load page url raw) page q
 facts_load T line page url raw q =
-    let found = cookies_from T.header.rules url (now_at T) (set_cookies raw) in
+    let found = load_changes T url raw in
     let statuses = set_logins raw in
     facts_end T line (Load page url raw) q page
     (Page page (origin_of url) ∷ (cookie_effects found ++ login_effects (origin_of url) statuses)) refl

@@ -6,7 +6,7 @@ use Rattle.std.proofs.lemmas.List.Elements.{filter_map-append}
 use Rattle.std.specs.List.{filter_map, cons_option, list_any, flat_map}
 use Rattle.url.specs.Parts.{Parts}
 use Rattle.fed_origin.specs.WebUrl.{host_of}
-use Rattle.fed_jar.specs.Writes as jar
+use Rattle.fed_jar.specs.Send.{jar_text}
 use Rattle.fed_consent.specs.declared.table.ask.Ask.{Ask}
 use Rattle.fed_consent.specs.declared.table.ask.Ask.TheVariants as asks
 use Rattle.fed_consent.specs.declared.table.effect.Effect.{Effect as CallEffect}
@@ -18,7 +18,7 @@ use Rattle.fed_trace.specs.Effect as effects
 use Rattle.fed_trace.specs.Effect.{Effect}
 use Rattle.fed_trace.specs.Known.{world_at}
 use Rattle.fed_trace.specs.Row.{call_effects, cookies_with, moves, outcome_effects}
-use Rattle.fed_trace.specs.Trace.{Trace, now_at, writes}
+use Rattle.fed_trace.specs.Trace.{Trace, now_at, cookies}
 use Rattle.fed_trace.proofs.happens.Says.{outcome_asks}
 use Rattle.fed_twin.specs.Script.{names}
 use Rattle.fed_twin.specs.Providers.{Providers, is_provider}
@@ -171,9 +171,9 @@ cookies_agree p T U h =
       wellknown = λ to. refl;
       config = λ to. refl;
       accounts = λ to known.
-          ap (λ r. jar.cookie_text r to (now_at T) (writes T)) h.rules
-          ∙ ap (λ n. jar.cookie_text p.rules to n (writes T)) (now_same p T U h.now h.seen)
-          ∙ text_same p T U to (now_at U) known h.seen ∙ ap (λ r. jar.cookie_text r to (now_at U) (writes U)) (sym h.rules');
+          ap (λ r. jar_text r to (now_at T) (cookies T)) h.rules
+          ∙ ap (λ n. jar_text p.rules to n (cookies T)) (now_same p T U h.now h.seen)
+          ∙ text_same p T U to (now_at U) known h.seen ∙ ap (λ r. jar_text r to (now_at U) (cookies U)) (sym h.rules');
     }
 
 pub worlds_agree : (p : Providers) (T U : Trace) → SameWorlds p T U → AgreeWorlds p (world_at T) (world_at U)

@@ -7,6 +7,7 @@ use Rattle.std.specs.List.{filter_map, cons_option, list_any, find, AllByRecursi
 use Rattle.url.specs.Parts.{Parts}
 use Rattle.fed_origin.specs.declared.options.ProviderOptions.{ProviderOptions}
 use Rattle.fed_origin.specs.declared.origin.Origin.{Origin}
+use Rattle.fed_origin.specs.declared.stage.Endpoint.{Endpoint}
 use Rattle.fed_origin.specs.declared.stage.ReplyKind.{ReplyKind}
 use Rattle.fed_origin.specs.declared.stage.ReplyKind.TheVariants as kinds
 use Rattle.fed_origin.specs.declared.stage.Stage.{Stage}
@@ -20,7 +21,9 @@ use Rattle.fed_provider.specs.declared.first_replies.FirstReplies.{FirstReplies}
 use Rattle.fed_provider.specs.declared.first_replies.Heard.TheVariants as heards
 use Rattle.fed_provider.specs.declared.step.ProviderStep.{ProviderStep}
 use Rattle.fed_provider.specs.Config.{ConfigOf}
-use Rattle.fed_provider.specs.FirstReplies.{reply_heard, wellknown_heard, config_heard, wellknown_read}
+use Rattle.fed_provider.specs.declared.wellknown.WellKnown.{WellKnown}
+use Rattle.fed_provider.specs.FirstReplies.{by_agreement, reply_heard, wellknown_heard, config_heard, wellknown_read}
+use Rattle.fed_provider.specs.WellKnown.{agrees}
 use Rattle.fed_accounts.specs.declared.account.Account.{Account}
 use Rattle.fed_accounts.specs.declared.step.AccountsStep.{AccountsStep}
 use Rattle.fed_status.specs.Login.{status_of}
@@ -87,19 +90,25 @@ OwnCame p (Waits replies) = IfSome replies.config (IsOwn p)
 OwnCame p (Both config) = IsOwn p config
 OwnCame p _ = ⊤
 
-own_wellknown : (p : Providers) (heard : Bool) (config : Option Configuration) → IfSome config (IsOwn p)
-    → (read : Answer (Unit {0}) ProviderStep) → OwnCame p (came_heard (wellknown_heard heard config read))
-own_wellknown p true config known read = tt
-own_wellknown p false config known (Err step) = tt
-own_wellknown p false None known (Ok u) = tt
-own_wellknown p false (Some c) known (Ok u) = known
+-- two good files, whether they agree or not
+own_agreement : (p : Providers) (config : Configuration) → IsOwn p config → (other : Option Endpoint)
+    → OwnCame p (came_heard (by_agreement config other))
+own_agreement p config known None = known
+own_agreement p config known (Some endpoint) = tt
 
-own_read : (p : Providers) (heard : Bool) (config : Option Configuration) (read : Answer Configuration ProviderStep)
+own_wellknown : (p : Providers) (heard : Option WellKnown) (config : Option Configuration) → IfSome config (IsOwn p)
+    → (read : Answer WellKnown ProviderStep) → OwnCame p (came_heard (wellknown_heard heard config read))
+own_wellknown p (Some file) config known read = tt
+own_wellknown p None config known (Err step) = tt
+own_wellknown p None None known (Ok file) = tt
+own_wellknown p None (Some c) known (Ok file) = own_agreement p c known (agrees file c)
+
+own_read : (p : Providers) (heard : Option WellKnown) (config : Option Configuration) (read : Answer Configuration ProviderStep)
     → ((c : Configuration) → read ≡ Ok c → IsOwn p c) → OwnCame p (came_heard (config_heard heard config read))
 own_read p heard (Some config) read own = tt
 own_read p heard None (Err step) own = tt
-own_read p false None (Ok c) own = own c refl
-own_read p true None (Ok c) own = own c refl
+own_read p None None (Ok c) own = own c refl
+own_read p (Some file) None (Ok c) own = own_agreement p c (own c refl) (agrees file c)
 
 own_heard : (p : Providers) (rules : RuleSet) (replies : FirstReplies) (url : Parts) → IfSome replies.config (IsOwn p)
     → is_provider p (host_of url) ≡ true → (kind : ReplyKind) (raw : List ℕ)

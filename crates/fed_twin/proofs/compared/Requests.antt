@@ -34,9 +34,9 @@ use Rattle.fed_trace.specs.Effect.{is_window, key_change, window_change}
 use Rattle.fed_trace.specs.Keyed.{changed, entries_after}
 use Rattle.fed_trace.specs.Known.{world_at, is_begun, known_at}
 use Rattle.fed_trace.specs.Row.{effects_of, call_effects, moves, outcome_effects, standing_call, begin_effects, is_busy, input_effects}
-use Rattle.fed_trace.specs.Row.{ends_of, cookies_with, cookies_from, have_cookies, close_effects, set_cookies, set_logins, with_event}
+use Rattle.fed_trace.specs.Row.{ends_of, cookies_with, load_changes, have_changes, close_effects, set_logins, with_event}
 use Rattle.fed_trace.specs.Row.{resume_effects, waiting_effects, standing_resumes, idpclose_effects}
-use Rattle.fed_trace.specs.Trace.{Trace, standing, page_at, gets, pending_of, now_at}
+use Rattle.fed_trace.specs.Trace.{Trace, standing, page_at, gets, pending_of}
 use Rattle.fed_trace.specs.Windows.{is_origin, open_windows, provider_of, windows_of}
 use Rattle.fed_trace.proofs.calls.Pending.{ends_silent, load_silent}
 use Rattle.fed_trace.proofs.calls.Resumed.{Resuming, Rests, Refuses, AsksAgain, idpclose_silent, resuming}
@@ -281,12 +281,12 @@ few_wait : (T : Trace) (event : Event) (ws : List (ℕ × ⊤)) → FewWait ws (
 few_wait T (events.Have have) ws =
     none_wait (effects_of T (events.Have have))
     (have_silent opened_by (record { cookie = λ c. refl; login = λ o s. refl; kept = λ t k. refl; flag = λ o k. refl })
-    (have_cookies T.header.rules (now_at T) have) have) ws
+    (have_changes T have) have) ws
 few_wait T (events.At time) ws = omega arith
 few_wait T (events.Load page url raw) ws =
     none_wait (effects_of T (events.Load page url raw))
     (load_silent opened_by (λ n c. refl) (λ p o. refl) (λ c. refl) (λ o s. refl) (pending_of T page) page url
-    (cookies_from T.header.rules url (now_at T) (set_cookies raw)) (set_logins raw)) ws
+    (load_changes T url raw) (set_logins raw)) ws
 few_wait T (events.ClosePage page) ws =
     none_wait (effects_of T (events.ClosePage page)) (silent_closed (pending_of T page) page (page_at T page)) ws
 few_wait T (events.Get page call options) ws =
@@ -390,12 +390,12 @@ is_idpclose _ = false
 few_sent_by : (T : Trace) (event : Event) → HasProviders event → is_idpclose event ≡ false → length (filter_map first_sent (effects_of T event)) ≤ 20
 few_sent_by T (events.Have have) few other =
     few_of_silent _ (have_silent first_sent (record { cookie = λ c. refl; login = λ o s. refl; kept = λ t k. refl; flag = λ o k. refl })
-    (have_cookies T.header.rules (now_at T) have) have)
+    (have_changes T have) have)
 few_sent_by T (events.At time) few other = lit≤ tt
 few_sent_by T (events.Load page url raw) few other =
     few_of_silent _
     (load_silent first_sent (λ n c. refl) (λ p o. refl) (λ c. refl) (λ o s. refl) (pending_of T page) page url
-    (cookies_from T.header.rules url (now_at T) (set_cookies raw)) (set_logins raw))
+    (load_changes T url raw) (set_logins raw))
 few_sent_by T (events.ClosePage page) few other = few_of_silent _ (silent_close (pending_of T page) page (page_at T page))
 few_sent_by T (events.Get page call options) few other =
     few_of_begin (world_at T) (cookies_with T) (page_at T page) (is_busy page (gets T)) page call (ToGet options) few

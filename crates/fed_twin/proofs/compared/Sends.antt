@@ -26,10 +26,10 @@ use Rattle.fed_trace.specs.Call.{Known, OfGet, OfDisconnect, get_outcome, input_
 use Rattle.fed_trace.specs.Effect.{Effect, Login, Sent, Flag}
 use Rattle.fed_trace.specs.Known.{world_at, is_begun, known_at}
 use Rattle.fed_trace.specs.Row.{effects_of, call_effects, moves, outcome_effects, begin_effects, standing_call, is_busy, input_effects}
-use Rattle.fed_trace.specs.Row.{close_effects, cookies_with, cookies_from, cookie_effects, have_cookies, have_states, page_says}
-use Rattle.fed_trace.specs.Row.{set_cookies, set_logins, resume_effects, waiting_effects, standing_resumes, idpclose_effects}
+use Rattle.fed_trace.specs.Row.{close_effects, cookies_with, load_changes, cookie_effects, have_changes, have_states, page_says}
+use Rattle.fed_trace.specs.Row.{set_logins, resume_effects, waiting_effects, standing_resumes, idpclose_effects}
 use Rattle.fed_trace.specs.Windows.{windows_of}
-use Rattle.fed_trace.specs.Trace.{Trace, page_at, gets, pending_of, now_at}
+use Rattle.fed_trace.specs.Trace.{Trace, page_at, gets, pending_of}
 use Rattle.fed_trace.proofs.calls.Pending.{load_silent}
 use Rattle.fed_trace.proofs.effects.Silent.{AllSilent, said_silent, goes_silent}
 use Rattle.fed_trace.proofs.events.Aside.{IsPlain, have_silent, says_silent, close_silent}
@@ -196,12 +196,12 @@ sends_idpclose T (Some origin) = go (is_trustworthy origin)
 pub sends_gets : (T : Trace) (event : Event) → is_disconnect event ≡ false → OfGets (effects_of T event)
 sends_gets T (events.Disconnect page call config client hint) other = absurd (cc)
 sends_gets T (events.Have have) other =
-    let found = have_cookies T.header.rules (now_at T) have in
+    let found = have_changes T have in
     both_silent (cookie_effects found ++ have_states have) (have_silent first_sent plain_sent found have)
     (have_silent first_any plain_any found have)
 sends_gets T (events.At time) other = refl
 sends_gets T (events.Load page url raw) other =
-    let found = cookies_from T.header.rules url (now_at T) (set_cookies raw) in
+    let found = load_changes T url raw in
     both_silent (effects_of T (events.Load page url raw))
     (load_silent first_sent (λ n c. refl) (λ p o. refl) (λ c. refl) (λ o s. refl) (pending_of T page) page url found (set_logins raw))
     (load_silent first_any (λ n c. refl) (λ p o. refl) (λ c. refl) (λ o s. refl) (pending_of T page) page url found (set_logins raw))

@@ -11,7 +11,7 @@ use Rattle.fed_origin.specs.declared.origin.Origin.{Origin}
 use Rattle.fed_origin.specs.declared.status.LoginStatus.{LoginStatus}
 use Rattle.fed_origin.specs.Origin.{is_trustworthy, same_origin}
 use Rattle.fed_origin.specs.WebUrl.{origin_of}
-use Rattle.fed_jar.specs.Cookie.{StoredCookie}
+use Rattle.fed_jar.specs.Changes.{CookieChange}
 use Rattle.fed_status.specs.Login.{set_login_of}
 use Rattle.fed_status.specs.Shared.{World}
 use Rattle.fed_consent.specs.declared.table.ask.Ask.{Ask}
@@ -33,8 +33,8 @@ use Rattle.fed_trace.specs.Effect.{get_change, stage_change, window_change, time
 use Rattle.fed_trace.specs.Keyed.{Change, entries_after, says}
 use Rattle.fed_trace.specs.Known.{world_at, is_begun, input_to, with_said, known_in, known_by, known_at}
 use Rattle.fed_trace.specs.Row.{effects_of, with_event, cookies_with, call_effects, moves, outcome_effects, begin_effects, standing_call}
-use Rattle.fed_trace.specs.Row.{input_effects, is_busy, ends_of, cookies_from, cookie_effects, login_effects, load_effects, close_effects}
-use Rattle.fed_trace.specs.Row.{page_says, have_cookies, set_cookies, set_logins, resume_effects, waiting_effects, standing_resumes}
+use Rattle.fed_trace.specs.Row.{input_effects, is_busy, ends_of, load_changes, cookie_effects, login_effects, load_effects, close_effects}
+use Rattle.fed_trace.specs.Row.{page_says, have_changes, set_logins, resume_effects, waiting_effects, standing_resumes}
 use Rattle.fed_trace.specs.Row.{idpclose_effects}
 use Rattle.fed_trace.specs.Windows.{provider_asked, provider_of, is_origin, open_windows, windows_of}
 use Rattle.fed_trace.specs.Trace.{Row, Trace, page_at, logins, kept, flags, pending, gets, pending_of, calls_of, now_at, begun, stage_at}
@@ -51,7 +51,7 @@ use Rattle.fed_origin.specs.Status.{same_triple}
 
 -- a reading that does not look at cookies
 record IsBlind {A : Type 0} (said : Effect → Option A) : Type 0 where
-  cookie : (cookie : StoredCookie) → said (effects.Cookie cookie) ≡ None
+  cookie : (cookie : CookieChange) → said (effects.Cookie cookie) ≡ None
   sent : (kind : CallKind) (call provider : ℕ) (ask : Ask) (cookies : List ℕ)
       → said (effects.Sent kind call provider ask cookies) ≡ said (effects.Sent kind call provider ask [])
 
@@ -98,7 +98,7 @@ value_same change k h xs ys same =
         ∙ last_value-seen but_cookies nat_eq change k (λ x. x) (λ e. says nat_eq k (change e)) (λ e. map_twice (says nat_eq k
         (change e)) ∙ blind (λ e. says nat_eq k (change e)) h e) rows
 
-any_same : (test : Effect → Bool) → ((cookie : StoredCookie) → test (effects.Cookie cookie) ≡ false)
+any_same : (test : Effect → Bool) → ((cookie : CookieChange) → test (effects.Cookie cookie) ≡ false)
     → ((kind : CallKind) (call provider : ℕ) (ask : Ask) (cookies : List ℕ)
     → test (effects.Sent kind call provider ask cookies) ≡ test
     (effects.Sent kind call provider ask []))
@@ -299,11 +299,11 @@ but_begin w ck ck' ag (Some origin) busy page call options = go (is_trustworthy 
     go false = refl
     go true = ap (λ xs. Begin b ∷ xs) (but_outcome w ck ck' ag (kind_asked options) call page (first_row w busy origin options))
 
-but_writes : (cookies : List StoredCookie) → filter_map but_cookies (cookie_effects cookies) ≡ []
+but_writes : (cookies : List CookieChange) → filter_map but_cookies (cookie_effects cookies) ≡ []
 but_writes [] = refl
 but_writes (c ∷ cookies) = but_writes cookies
 
-but_load : (calls : List (ℕ × CallKind)) (page : ℕ) (url : Parts) (cookies : List StoredCookie) (statuses : List LoginStatus)
+but_load : (calls : List (ℕ × CallKind)) (page : ℕ) (url : Parts) (cookies : List CookieChange) (statuses : List LoginStatus)
     → filter_map but_cookies (load_effects calls page url cookies statuses)
     ≡ filter_map but_cookies (load_effects calls page url [] statuses)
 but_load calls page url cookies statuses =
@@ -314,7 +314,7 @@ but_load calls page url cookies statuses =
     ∙ ap (λ xs. xs ++ filter_map but_cookies (login_effects (origin_of url) statuses)) (but_writes cookies))
     ∙ sym (filter_map-append but_cookies (ends_of calls) (Page page (origin_of url) ∷ login_effects (origin_of url) statuses))
 
-but_have : (cookies : List StoredCookie) → filter_map but_cookies (cookie_effects cookies ++ []) ≡ []
+but_have : (cookies : List CookieChange) → filter_map but_cookies (cookie_effects cookies ++ []) ≡ []
 but_have [] = refl
 but_have (c ∷ cookies) = but_have cookies
 
@@ -376,16 +376,16 @@ resumes_same T U h page =
 equal_effects : (T U : Trace) → SameLooks T U → (e : Event)
     → filter_map but_cookies (effects_of T e) ≡ filter_map but_cookies (effects_of U e)
 equal_effects T U h (events.Have (haves.Cookie url field)) =
-    but_have (have_cookies T.header.rules (now_at T) (haves.Cookie url field))
-    ∙ sym (but_have (have_cookies U.header.rules (now_at U) (haves.Cookie url field)))
+    but_have (have_changes T (haves.Cookie url field))
+    ∙ sym (but_have (have_changes U (haves.Cookie url field)))
 equal_effects T U h (events.Have (haves.Login origin status)) = refl
 equal_effects T U h (events.Have (haves.Kept triple)) = refl
 equal_effects T U h (events.Have (haves.Silent origin)) = refl
 equal_effects T U h (events.At time) = refl
 equal_effects T U h (events.Load page url raw) =
-    but_load (pending_of T page) page url (cookies_from T.header.rules url (now_at T) (set_cookies raw)) (set_logins raw)
+    but_load (pending_of T page) page url (load_changes T url raw) (set_logins raw)
     ∙ ap (λ x. filter_map but_cookies (load_effects (calls_of page x) page url [] (set_logins raw))) (same_pending T U h)
-    ∙ sym (but_load (pending_of U page) page url (cookies_from U.header.rules url (now_at U) (set_cookies raw)) (set_logins raw))
+    ∙ sym (but_load (pending_of U page) page url (load_changes U url raw) (set_logins raw))
 equal_effects T U h (events.ClosePage page) =
     ap₂ (λ x o. filter_map but_cookies (close_effects (calls_of page x) page o)) (same_pending T U h) (same_page T U h page)
 equal_effects T U h (events.Prevent page) =
@@ -408,13 +408,13 @@ jar_effects : (T U : Trace) → SameLooks T U → {e e' : Event} → BringCookie
     → filter_map but_cookies (effects_of T e) ≡ filter_map but_cookies (effects_of U e')
 jar_effects T U h (Equal e) = equal_effects T U h e
 jar_effects T U h (Haves url url' field field') =
-    but_have (have_cookies T.header.rules (now_at T) (haves.Cookie url field))
-    ∙ sym (but_have (have_cookies U.header.rules (now_at U) (haves.Cookie url' field')))
+    but_have (have_changes T (haves.Cookie url field))
+    ∙ sym (but_have (have_changes U (haves.Cookie url' field')))
 jar_effects T U h (Loads page url raw raw' same) =
-    but_load (pending_of T page) page url (cookies_from T.header.rules url (now_at T) (set_cookies raw)) (set_logins raw)
+    but_load (pending_of T page) page url (load_changes T url raw) (set_logins raw)
     ∙ ap₂ (λ x v. filter_map but_cookies (load_effects (calls_of page x) page url [] (filter_map set_login_of v)))
     (same_pending T U h) same
-    ∙ sym (but_load (pending_of U page) page url (cookies_from U.header.rules url (now_at U) (set_cookies raw')) (set_logins raw'))
+    ∙ sym (but_load (pending_of U page) page url (load_changes U url raw') (set_logins raw'))
 
 same_inputs : (q : ℕ) {e e' : Event} → BringCookies e e' → input_to q e ≡ input_to q e'
 same_inputs q (Equal e) = refl

@@ -12,7 +12,9 @@ use Rattle.fed_origin.specs.declared.stage.Stage.TheVariants.{Reading, Listing, 
 use Rattle.fed_origin.specs.declared.stage.Stage.TheVariants.{Asserting, Ended}
 use Rattle.fed_origin.specs.Origin.{same_origin, origin_text}
 use Rattle.fed_origin.specs.WebUrl.{origin_of}
-use Rattle.fed_jar.specs.Writes as jar
+use Rattle.fed_jar.specs.Changes.{standing as standing_cookies}
+use Rattle.fed_jar.specs.Limit.{changes_from}
+use Rattle.fed_jar.specs.Send.{jar_text}
 use Rattle.fed_token.specs.declared.step.TokenStep.{TokenStep}
 use Rattle.fed_token.specs.Read.{AssertionOf}
 use Rattle.fed_status.specs.Kept.{triple_of}
@@ -37,17 +39,17 @@ use Rattle.fed_disconnect.specs.Rows.{provider_reply}
 use Rattle.fed_trace.specs.Begun.{Begun, GetCall, DisconnectCall, CallOptions, ToGet, ToDisconnect}
 use Rattle.fed_trace.specs.Call.{Known, OfGet, OfDisconnect, known_first, with_input}
 use Rattle.fed_trace.specs.Effect.{Effect, PendingCall, last_of, page_change, login_change, kept_change, flag_change, call_change}
-use Rattle.fed_trace.specs.Effect.{get_change, stage_change, window_change, time_of, written_by, begun_by, begins, is_ignored}
+use Rattle.fed_trace.specs.Effect.{get_change, stage_change, window_change, time_of, cookie_change, begun_by, begins, is_ignored}
 use Rattle.fed_trace.specs.Effect.{Login, Move, Kept, Flag, Result}
 use Rattle.fed_trace.specs.Keyed.{changed, entries_after, last_said, says}
 use Rattle.fed_trace.specs.Known.{world_at, is_begun, input_to, with_said, known_in, known_by, known_at}
 use Rattle.fed_trace.specs.Row.{effects_of, row_of, with_event, cookies_with, outcome_effects, begin_effects, input_effects, is_busy}
-use Rattle.fed_trace.specs.Row.{cookies_from, cookie_effects, load_effects, close_effects, page_says, set_cookies, set_logins}
+use Rattle.fed_trace.specs.Row.{cookies_from, stored_in, cookie_effects, load_effects, close_effects, page_says, set_cookies, set_logins}
 use Rattle.fed_trace.specs.Row.{idpclose_effects}
 use Rattle.fed_trace.specs.OfCall.{call_at}
 use Rattle.fed_trace.specs.Windows.{provider_asked, is_origin, windows_of}
-use Rattle.fed_trace.specs.Trace.{Row, Trace, page_at, logins, kept, flags, standing, pending, calls_of, now_at, writes, begun, stage_at}
-use Rattle.fed_trace.specs.Trace.{last_in}
+use Rattle.fed_trace.specs.Trace.{Row, Trace, page_at, logins, kept, flags, standing, pending, calls_of, now_at, cookie_changes}
+use Rattle.fed_trace.specs.Trace.{begun, stage_at, last_in}
 use Rattle.fed_trace.specs.Trace as trace
 use Rattle.fed_trace.specs.OfScript.{start, with_events}
 use Rattle.fed_twin.proofs.calls.Row.{no_assertion}
@@ -71,7 +73,7 @@ record SameAll (T U : Trace) : Type 0 where
   windows : standing nat_eq window_change T.rows ≡ standing nat_eq window_change U.rows
   begins_it : (q : ℕ) → call_at T.rows q ≡ call_at U.rows q
   taken : begun T.rows ≡ begun U.rows
-  written : writes T ≡ writes U
+  written : cookie_changes T ≡ cookie_changes U
   known : (q : ℕ) → known_in T.header T.rows q ≡ known_in U.header U.rows q
 
 same_self : (T : Trace) → SameAll T T
@@ -105,7 +107,7 @@ record SameReads (es es' : List Effect) : Type 0 where
   gets : (l : List (ℕ × ℕ)) → entries_after nat_eq get_change es l ≡ entries_after nat_eq get_change es' l
   windows : (l : List (ℕ × ⊤)) → entries_after nat_eq window_change es l ≡ entries_after nat_eq window_change es' l
   taken : filter_map begun_by es ≡ filter_map begun_by es'
-  written : filter_map written_by es ≡ filter_map written_by es'
+  written : filter_map cookie_change es ≡ filter_map cookie_change es'
   begins_it : (q : ℕ) → last_of (begins q) es ≡ last_of (begins q) es'
   ignored : list_any is_ignored es ≡ list_any is_ignored es'
 
@@ -141,7 +143,7 @@ reads_after e es es' h =
       gets = λ l. h.gets (changed nat_eq (get_change e) l);
       windows = λ l. h.windows (changed nat_eq (window_change e) l);
       taken = ap (cons_option (begun_by e)) h.taken;
-      written = ap (cons_option (written_by e)) h.written;
+      written = ap (cons_option (cookie_change e)) h.written;
       begins_it = λ q. ap (λ o. option_or o (begins q e)) (h.begins_it q);
       ignored = ap (λ b. is_ignored e || b) h.ignored;
     }
@@ -212,10 +214,10 @@ grow_all T U h line line' e e' reads said =
 -- ---- the effects of an event are a function of what is looked up
 
 text_same : (T U : Trace) → SameAll T U → (to : Parts)
-    → jar.cookie_text T.header.rules to (now_at T) (writes T) ≡ jar.cookie_text U.header.rules to (now_at U) (writes U)
+    → jar_text T.header.rules to (now_at T) (trace.cookies T) ≡ jar_text U.header.rules to (now_at U) (trace.cookies U)
 text_same T U h to =
-    ap (λ r. jar.cookie_text r to (now_at T) (writes T)) (ap (λ x. x.rules) h.header)
-    ∙ ap₂ (λ n w. jar.cookie_text U.header.rules to n w) (ap₂ unwrap_or h.time (ap (λ x. x.now) h.header)) h.written
+    ap (λ r. jar_text r to (now_at T) (trace.cookies T)) (ap (λ x. x.rules) h.header)
+    ∙ ap₂ (λ n w. jar_text U.header.rules to n (standing_cookies w)) (ap₂ unwrap_or h.time (ap (λ x. x.now) h.header)) h.written
 
 cookies_same : (T U : Trace) → SameAll T U → (ask : Ask) → cookies_with T ask ≡ cookies_with U ask
 cookies_same T U h (asks.Accounts to) = text_same T U h to
@@ -239,9 +241,11 @@ input_same T U h call i =
     ∙ ap₂ (λ b f. input_effects (world_at U) (cookies_with U) b call f i) (ap (list_any (nat_eq call)) h.taken) (known_same T U h call)
 
 found_same : (T U : Trace) → SameAll T U → (url : Parts) (fields : List (List ℕ))
-    → cookies_from T.header.rules url (now_at T) fields ≡ cookies_from U.header.rules url (now_at U) fields
+    → stored_in T (cookies_from T.header.rules url (now_at T) fields) ≡ stored_in U (cookies_from U.header.rules url (now_at U) fields)
 found_same T U h url fields =
-    ap₂ (λ r n. cookies_from r url n fields) (ap (λ x. x.rules) h.header) (ap₂ unwrap_or h.time (ap (λ x. x.now) h.header))
+    ap₂ (λ r n. changes_from r n (trace.cookies T) (cookies_from r url n fields)) (ap (λ x. x.rules) h.header)
+    (ap₂ unwrap_or h.time (ap (λ x. x.now) h.header))
+    ∙ ap (λ w. changes_from U.header.rules (now_at U) (standing_cookies w) (cookies_from U.header.rules url (now_at U) fields)) h.written
 
 begin_same : (T U : Trace) → SameAll T U → (page call : ℕ) (options : CallOptions)
     → begin_effects (world_at T) (cookies_with T) (page_at T page) (is_busy page (trace.gets T)) page call options

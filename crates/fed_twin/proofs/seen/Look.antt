@@ -14,23 +14,23 @@ use Rattle.fed_origin.specs.declared.status.LoginStatus.TheVariants.{Unknown}
 use Rattle.fed_origin.specs.Origin.{same_origin}
 use Rattle.fed_origin.specs.WebUrl.{host_of}
 use Rattle.fed_suffix.specs.Registrable.{party}
-use Rattle.fed_jar.specs.Cookie.{StoredCookie}
-use Rattle.fed_jar.specs.Store.{is_of_party}
-use Rattle.fed_jar.specs.Writes as jar
+use Rattle.fed_jar.specs.Changes.{CookieChange, domain_of, changes_party}
+use Rattle.fed_jar.specs.Store.{part_of}
+use Rattle.fed_jar.specs.Send.{jar_text}
 use Rattle.fed_status.specs.Login.{Logins, status_of}
 use Rattle.fed_status.proofs.lists.Same.{same_origin_is}
 use Rattle.fed_consent.specs.declared.table.ask.Ask.{Ask}
 use Rattle.fed_consent.specs.declared.table.ask.Ask.TheVariants as asks
 use Rattle.fed_trace.specs.Begun.{CallKind, GetCall, DisconnectCall, kind_asked, of_get}
-use Rattle.fed_trace.specs.Effect.{Effect, page_change, login_change, get_change, get_begun, time_of, written_by, is_window, key_change}
+use Rattle.fed_trace.specs.Effect.{Effect, page_change, login_change, get_change, get_begun, time_of, cookie_change, is_window, key_change}
 use Rattle.fed_trace.specs.Effect as does
 use Rattle.fed_trace.specs.Keyed.{Change, changed, entries_after, says}
-use Rattle.fed_trace.specs.Trace.{Row, Trace, page_at, logins, gets, now_at, writes, standing, all_said, last_in}
+use Rattle.fed_trace.specs.Trace.{Row, Trace, page_at, logins, gets, now_at, cookies, cookie_changes, standing, all_said, last_in}
 use Rattle.fed_twin.specs.Script.{first_bytes, first_sent, first_requests}
 use Rattle.fed_twin.specs.Providers.{Providers, is_provider}
 use Rattle.fed_twin.specs.Seen.{Seen, Time, Page, Closed, Cookie, Login, Begin, Move, Sent, Told, told, seen}
 use Rattle.fed_twin.specs.Seen.{seen_sent, view}
-use Rattle.fed_jar.proofs.parties.Parties.{text_is_of_party_writes}
+use Rattle.fed_jar.proofs.parties.Parties.{text_is_of_party, part_standing}
 use Rattle.fed_twin.proofs.seen.Seen.{last_at, last_in-seen, last_value-seen, standing-seen, all_said-seen}
 use Rattle.fed_twin.specs.Looks.{LooksAreSeen, gets_begun, get_window_change, gets_in_window}
 
@@ -74,7 +74,7 @@ unfolding time_seen
 time_is p (does.Time time) = refl
 time_is p (does.Page page origin) = refl
 time_is p (does.Closed page) = refl
-time_is p (does.Cookie cookie) = no_test time_seen (Cookie cookie) refl (is_provider p cookie.domain)
+time_is p (does.Cookie cookie) = no_test time_seen (Cookie cookie) refl (is_provider p (domain_of cookie))
 time_is p (does.Login origin status) = no_test time_seen (Login origin status) refl (is_provider p origin.host)
 time_is p (does.Begin b) = no_get time_seen (kind_asked b.options) (Some (Begin b.call b.page)) refl
 time_is p (does.Move kind call stage) = no_get time_seen kind (Some (Move call stage)) refl
@@ -115,7 +115,7 @@ page_is p q (does.Closed page) = go (nat_eq q page)
     go : (b : Bool) → option_map (option_map (told p)) (cond b (Some None) None) ≡ cond b (Some None) None
     go true = refl
     go false = refl
-page_is p q (does.Cookie cookie) = no_test (page_seen q) (Cookie cookie) refl (is_provider p cookie.domain)
+page_is p q (does.Cookie cookie) = no_test (page_seen q) (Cookie cookie) refl (is_provider p (domain_of cookie))
 page_is p q (does.Login origin status) = no_test (page_seen q) (Login origin status) refl (is_provider p origin.host)
 page_is p q (does.Begin b) = no_get (page_seen q) (kind_asked b.options) (Some (Begin b.call b.page)) refl
 page_is p q (does.Move kind call stage) = no_get (page_seen q) kind (Some (Move call stage)) refl
@@ -160,7 +160,7 @@ unfolding call_seen
 call_is p (does.Time time) = refl
 call_is p (does.Page page origin) = refl
 call_is p (does.Closed page) = refl
-call_is p (does.Cookie cookie) = no_test call_seen (Cookie cookie) refl (is_provider p cookie.domain)
+call_is p (does.Cookie cookie) = no_test call_seen (Cookie cookie) refl (is_provider p (domain_of cookie))
 call_is p (does.Login origin status) = no_test call_seen (Login origin status) refl (is_provider p origin.host)
 call_is p (does.Begin b) = of_gets call_seen (kind_asked b.options) (Some (b.call, Some b.page)) (Some (Begin b.call b.page)) refl
 call_is p (does.Move kind call stage) =
@@ -191,7 +191,7 @@ unfolding begun_seen
 begun_is p (does.Time time) = refl
 begun_is p (does.Page page origin) = refl
 begun_is p (does.Closed page) = refl
-begun_is p (does.Cookie cookie) = no_test begun_seen (Cookie cookie) refl (is_provider p cookie.domain)
+begun_is p (does.Cookie cookie) = no_test begun_seen (Cookie cookie) refl (is_provider p (domain_of cookie))
 begun_is p (does.Login origin status) = no_test begun_seen (Login origin status) refl (is_provider p origin.host)
 begun_is p (does.Begin b) = of_gets begun_seen (kind_asked b.options) (Some b.call) (Some (Begin b.call b.page)) refl
 begun_is p (does.Move kind call stage) = no_get begun_seen kind (Some (Move call stage)) refl
@@ -221,7 +221,7 @@ unfolding window_seen
 window_is p (does.Time time) = refl
 window_is p (does.Page page origin) = refl
 window_is p (does.Closed page) = refl
-window_is p (does.Cookie cookie) = no_test window_seen (Cookie cookie) refl (is_provider p cookie.domain)
+window_is p (does.Cookie cookie) = no_test window_seen (Cookie cookie) refl (is_provider p (domain_of cookie))
 window_is p (does.Login origin status) = no_test window_seen (Login origin status) refl (is_provider p origin.host)
 window_is p (does.Begin b) = no_get window_seen (kind_asked b.options) (Some (Begin b.call b.page)) refl
 window_is p (does.Move kind call stage) =
@@ -264,7 +264,7 @@ unfolding first_seen
 first_is p (does.Time time) = refl
 first_is p (does.Page page origin) = refl
 first_is p (does.Closed page) = refl
-first_is p (does.Cookie cookie) = no_test first_seen (Cookie cookie) refl (is_provider p cookie.domain)
+first_is p (does.Cookie cookie) = no_test first_seen (Cookie cookie) refl (is_provider p (domain_of cookie))
 first_is p (does.Login origin status) = no_test first_seen (Login origin status) refl (is_provider p origin.host)
 first_is p (does.Begin b) = no_get first_seen (kind_asked b.options) (Some (Begin b.call b.page)) refl
 first_is p (does.Move kind call stage) = no_get first_seen kind (Some (Move call stage)) refl
@@ -285,17 +285,17 @@ sign_in_same p T U same =
 
 -- ---- cookies
 
--- the cookie is of the party of a provider
-abbrev theirs : Providers → StoredCookie → Bool
-theirs p cookie = is_provider p cookie.domain
+-- a cookie of the party of a provider stands or goes
+abbrev theirs : Providers → CookieChange → Bool
+theirs p change = is_provider p (domain_of change)
 
-cookie_seen : Seen → Option StoredCookie
+cookie_seen : Seen → Option CookieChange
 cookie_seen (Cookie cookie) = Some cookie
 cookie_seen _ = None
 
--- the cookie that an effect writes, if it is of the party of a provider
-abbrev their_cookie : Providers → Effect → Option StoredCookie
-their_cookie p (does.Cookie cookie) = cond (is_provider p cookie.domain) (Some cookie) None
+-- what an effect says of cookies, if they are of the party of a provider
+abbrev their_cookie : Providers → Effect → Option CookieChange
+their_cookie p (does.Cookie cookie) = cond (is_provider p (domain_of cookie)) (Some cookie) None
 their_cookie p _ = None
 
 cookie_is : (p : Providers) (e : Effect) → their_cookie p e ≡ option_and_then cookie_seen (seen p e)
@@ -303,7 +303,7 @@ unfolding cookie_seen
 cookie_is p (does.Time time) = refl
 cookie_is p (does.Page page origin) = refl
 cookie_is p (does.Closed page) = refl
-cookie_is p (does.Cookie cookie) = go (is_provider p cookie.domain)
+cookie_is p (does.Cookie cookie) = go (is_provider p (domain_of cookie))
   where
     go : (b : Bool) → cond b (Some cookie) None ≡ option_and_then cookie_seen (cond b (Some (Cookie cookie)) None)
     go true = refl
@@ -321,32 +321,32 @@ cookie_is p (does.Flag origin stays) = refl
 cookie_is p (does.Result call page finish) = refl
 cookie_is p (does.Ignored why) = refl
 
-filter_cons : (q : StoredCookie → Bool) (c : StoredCookie) (xs : List StoredCookie) (b : Bool)
+filter_cons : (q : CookieChange → Bool) (c : CookieChange) (xs : List CookieChange) (b : Bool)
     → cond b (c ∷ xs) xs ≡ cons_option (cond b (Some c) None) xs
 filter_cons q c xs true = refl
 filter_cons q c xs false = refl
 
-their_writes : (p : Providers) (es : List Effect) → filter (theirs p) (filter_map written_by es) ≡ filter_map (their_cookie p) es
-their_writes p [] = refl
-their_writes p (does.Cookie cookie ∷ es) =
-    ap (λ l. cond (is_provider p cookie.domain) (cookie ∷ l) l) (their_writes p es)
-    ∙ filter_cons (theirs p) cookie (filter_map (their_cookie p) es) (is_provider p cookie.domain)
-their_writes p (does.Time time ∷ es) = their_writes p es
-their_writes p (does.Page page origin ∷ es) = their_writes p es
-their_writes p (does.Closed page ∷ es) = their_writes p es
-their_writes p (does.Login origin status ∷ es) = their_writes p es
-their_writes p (does.Begin b ∷ es) = their_writes p es
-their_writes p (does.Move kind call stage ∷ es) = their_writes p es
-their_writes p (does.Sent kind call provider ask cookies ∷ es) = their_writes p es
-their_writes p (does.Shown call dialog ∷ es) = their_writes p es
-their_writes p (does.Dropped call provider failure ∷ es) = their_writes p es
-their_writes p (does.Window call provider url ∷ es) = their_writes p es
-their_writes p (does.Kept triple stays ∷ es) = their_writes p es
-their_writes p (does.Flag origin stays ∷ es) = their_writes p es
-their_writes p (does.Result call page finish ∷ es) = their_writes p es
-their_writes p (does.Ignored why ∷ es) = their_writes p es
+their_changes : (p : Providers) (es : List Effect) → filter (theirs p) (filter_map cookie_change es) ≡ filter_map (their_cookie p) es
+their_changes p [] = refl
+their_changes p (does.Cookie cookie ∷ es) =
+    ap (λ l. cond (is_provider p (domain_of cookie)) (cookie ∷ l) l) (their_changes p es)
+    ∙ filter_cons (theirs p) cookie (filter_map (their_cookie p) es) (is_provider p (domain_of cookie))
+their_changes p (does.Time time ∷ es) = their_changes p es
+their_changes p (does.Page page origin ∷ es) = their_changes p es
+their_changes p (does.Closed page ∷ es) = their_changes p es
+their_changes p (does.Login origin status ∷ es) = their_changes p es
+their_changes p (does.Begin b ∷ es) = their_changes p es
+their_changes p (does.Move kind call stage ∷ es) = their_changes p es
+their_changes p (does.Sent kind call provider ask cookies ∷ es) = their_changes p es
+their_changes p (does.Shown call dialog ∷ es) = their_changes p es
+their_changes p (does.Dropped call provider failure ∷ es) = their_changes p es
+their_changes p (does.Window call provider url ∷ es) = their_changes p es
+their_changes p (does.Kept triple stays ∷ es) = their_changes p es
+their_changes p (does.Flag origin stays ∷ es) = their_changes p es
+their_changes p (does.Result call page finish ∷ es) = their_changes p es
+their_changes p (does.Ignored why ∷ es) = their_changes p es
 
-filter-append : (q : StoredCookie → Bool) (xs ys : List StoredCookie) → filter q (xs ++ ys) ≡ filter q xs ++ filter q ys
+filter-append : (q : CookieChange → Bool) (xs ys : List CookieChange) → filter q (xs ++ ys) ≡ filter q xs ++ filter q ys
 filter-append q [] ys = refl
 filter-append q (x ∷ xs) ys = ap (λ l. cond (q x) (x ∷ l) l) (filter-append q xs ys) ∙ go (q x)
   where
@@ -356,22 +356,22 @@ filter-append q (x ∷ xs) ys = ap (λ l. cond (q x) (x ∷ l) l) (filter-append
     go true = refl
     go false = refl
 
-all_their_writes : (p : Providers) (rows : List Row) → filter (theirs p) (all_said written_by rows) ≡ all_said (their_cookie p) rows
-all_their_writes p [] = refl
-all_their_writes p (row ∷ rows) =
-    filter-append (theirs p) (all_said written_by rows) (filter_map written_by row.effects)
-    ∙ ap (λ xs. xs ++ filter (theirs p) (filter_map written_by row.effects)) (all_their_writes p rows)
-    ∙ ap (λ xs. all_said (their_cookie p) rows ++ xs) (their_writes p row.effects)
+all_their_changes : (p : Providers) (rows : List Row) → filter (theirs p) (all_said cookie_change rows) ≡ all_said (their_cookie p) rows
+all_their_changes p [] = refl
+all_their_changes p (row ∷ rows) =
+    filter-append (theirs p) (all_said cookie_change rows) (filter_map cookie_change row.effects)
+    ∙ ap (λ xs. xs ++ filter (theirs p) (filter_map cookie_change row.effects)) (all_their_changes p rows)
+    ∙ ap (λ xs. all_said (their_cookie p) rows ++ xs) (their_changes p row.effects)
 
-writes_same : (p : Providers) (T U : Trace) → view p T.rows ≡ view p U.rows
-    → filter (theirs p) (writes T) ≡ filter (theirs p) (writes U)
-writes_same p T U same =
-    all_their_writes p T.rows ∙ all_said-seen (seen p) (their_cookie p) cookie_seen (cookie_is p) T.rows
+changes_same : (p : Providers) (T U : Trace) → view p T.rows ≡ view p U.rows
+    → filter (theirs p) (cookie_changes T) ≡ filter (theirs p) (cookie_changes U)
+changes_same p T U same =
+    all_their_changes p T.rows ∙ all_said-seen (seen p) (their_cookie p) cookie_seen (cookie_is p) T.rows
     ∙ ap (filter_map cookie_seen) same
-    ∙ sym (all_said-seen (seen p) (their_cookie p) cookie_seen (cookie_is p) U.rows) ∙ sym (all_their_writes p U.rows)
+    ∙ sym (all_said-seen (seen p) (their_cookie p) cookie_seen (cookie_is p) U.rows) ∙ sym (all_their_changes p U.rows)
 
 -- a filter of a filter, where what passes the one passes the other
-filter_within : (f q : StoredCookie → Bool) → ((c : StoredCookie) → f c ≡ true → q c ≡ true) → (cs : List StoredCookie)
+filter_within : (f q : CookieChange → Bool) → ((c : CookieChange) → f c ≡ true → q c ≡ true) → (cs : List CookieChange)
     → filter f (filter q cs) ≡ filter f cs
 filter_within f q h [] = refl
 filter_within f q h (c ∷ cs) = pick (q c) refl (filter_within f q h cs)
@@ -390,17 +390,22 @@ pub same_party : (p : Providers) (a b : List ℕ) → party p.rules a ≡ party 
 unfolding is_provider
 same_party p a b h = ap (λ name. list_any (bytes_eq name) p.parties) h
 
+-- the cookies of a provider's party
+pub part_same : (p : Providers) (T U : Trace) (host : List ℕ) → is_provider p host ≡ true → view p T.rows ≡ view p U.rows
+    → part_of p.rules (party p.rules host) (cookies T) ≡ part_of p.rules (party p.rules host) (cookies U)
+part_same p T U host provider same =
+    let f = changes_party p.rules (party p.rules host) in
+    let within : (c : CookieChange) → f c ≡ true → theirs p c ≡ true =
+    λ c h. same_party p (domain_of c) host ((bytes_eq-Decides (party p.rules (domain_of c)) (party p.rules host)).0 h) ∙ provider in
+    part_standing p.rules (party p.rules host) (cookie_changes T) (cookie_changes U)
+    (sym (filter_within f (theirs p) within (cookie_changes T)) ∙ ap (filter f) (changes_same p T U same)
+    ∙ filter_within f (theirs p) within (cookie_changes U))
+
 pub text_same : (p : Providers) (T U : Trace) (url : Parts) (now : ℕ) → is_provider p (host_of url) ≡ true
     → view p T.rows ≡ view p U.rows
-    → jar.cookie_text p.rules url now (writes T) ≡ jar.cookie_text p.rules url now (writes U)
+    → jar_text p.rules url now (cookies T) ≡ jar_text p.rules url now (cookies U)
 text_same p T U url now provider same =
-    let f = is_of_party p.rules (party p.rules (host_of url)) in
-    let within : (c : StoredCookie) → f c ≡ true → theirs p c ≡ true =
-    λ c h. same_party p c.domain (host_of url) ((bytes_eq-Decides (party p.rules c.domain) (party p.rules (host_of url))).0 h)
-    ∙ provider in
-    text_is_of_party_writes p.rules url now (writes T) (writes U)
-    (sym (filter_within f (theirs p) within (writes T)) ∙ ap (filter f) (writes_same p T U same) ∙ filter_within f (theirs p) within
-    (writes U))
+    text_is_of_party p.rules url now (cookies T) (cookies U) (part_same p T U (host_of url) provider same)
 
 -- ---- login statuses
 
@@ -421,7 +426,7 @@ unfolding login_seen
 login_is p (does.Time time) = refl
 login_is p (does.Page page origin) = refl
 login_is p (does.Closed page) = refl
-login_is p (does.Cookie cookie) = no_test login_seen (Cookie cookie) refl (is_provider p cookie.domain)
+login_is p (does.Cookie cookie) = no_test login_seen (Cookie cookie) refl (is_provider p (domain_of cookie))
 login_is p (does.Login origin status) = go (is_provider p origin.host)
   where
     go : (b : Bool) → cond b (Some (origin, Some status)) None ≡ option_and_then login_seen (cond b (Some (Login origin status)) None)
@@ -560,6 +565,7 @@ looks_are_seen_lem p T U header same =
       begun = begun_same p T U same;
       windows = gets_in_window_same p T U same;
       cookies = λ to now provider. text_same p T U to now provider same;
+      parts = λ host provider. part_same p T U host provider same;
       statuses = λ origin provider. status_same p T U origin provider same;
       requests = sign_in_same p T U same;
     }

@@ -15,8 +15,8 @@ use Rattle.fed_script.specs.declared.event.Have.TheVariants as haves
 use Rattle.fed_trace.specs.OfCall.{replaces}
 use Rattle.fed_trace.specs.Effect.{Page, Closed, page_change}
 use Rattle.fed_trace.specs.Keyed.{last_said, says}
-use Rattle.fed_trace.specs.Row.{with_event, ends_of, cookies_from, cookie_effects, login_effects, set_cookies, set_logins, close_effects}
-use Rattle.fed_trace.specs.Trace.{Trace, page_at, pending_of, now_at}
+use Rattle.fed_trace.specs.Row.{with_event, ends_of, load_changes, cookie_effects, login_effects, set_logins, close_effects}
+use Rattle.fed_trace.specs.Trace.{Trace, page_at, pending_of}
 use Rattle.fed_trace.proofs.happens.Happens.{pages_left}
 use Rattle.fed_trace.proofs.effects.Outcome.{last_said_after}
 use Rattle.fed_trace.proofs.calls.Pending.{ends_silent, load_rest_silent}
@@ -43,7 +43,7 @@ page_stays T line e q h = ap (λ o. unwrap_or o (page_at T q)) (pages_left T e q
 page_loads : (T : Trace) (line page : ℕ) (url : Parts) (raw : Option (List ℕ)) (q : ℕ) → nat_eq q page ≡ true
     → page_at (with_event T line (events.Load page url raw)) q ≡ Some (origin_of url)
 page_loads T line page url raw q h =
-    let found = cookies_from T.header.rules url (now_at T) (set_cookies raw) in
+    let found = load_changes T url raw in
     let rest = cookie_effects found ++ login_effects (origin_of url) (set_logins raw) in
     ap (λ o. unwrap_or o (page_at T q))
     (last_said_after nat_eq page_change q (ends_of (pending_of T page)) (Page page (origin_of url) ∷ rest)

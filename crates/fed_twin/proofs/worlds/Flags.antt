@@ -9,7 +9,7 @@ use Rattle.indexmap.specs.IndexMap.{insert_entry}
 use Rattle.fed_origin.specs.declared.origin.Origin.{Origin}
 use Rattle.fed_origin.specs.declared.stage.Stage.{Stage}
 use Rattle.fed_origin.specs.Origin.{is_trustworthy, same_origin}
-use Rattle.fed_jar.specs.Cookie.{StoredCookie}
+use Rattle.fed_jar.specs.Changes.{CookieChange}
 use Rattle.fed_status.specs.Flags.{has_flag}
 use Rattle.fed_status.specs.Shared.{World}
 use Rattle.fed_status.proofs.lists.Same.{same_origin_is}
@@ -32,10 +32,10 @@ use Rattle.fed_trace.specs.Effect.{Effect, Cookie, Flag, Ignored, Login, flag_ch
 use Rattle.fed_trace.specs.Keyed.{entries_after}
 use Rattle.fed_trace.specs.Known.{world_at, is_begun, known_at, facts_at}
 use Rattle.fed_trace.specs.Row.{effects_of, with_event, cookies_with, call_effects, moves, outcome_effects, begin_effects, standing_call}
-use Rattle.fed_trace.specs.Row.{is_busy, input_effects, cookies_from, cookie_effects, have_cookies, set_cookies, set_logins, close_effects}
+use Rattle.fed_trace.specs.Row.{is_busy, input_effects, load_changes, cookie_effects, have_changes, set_logins, close_effects}
 use Rattle.fed_trace.specs.Row.{page_says, standing_says}
 use Rattle.fed_trace.specs.Windows.{windows_of}
-use Rattle.fed_trace.specs.Trace.{Trace, page_at, gets, pending_of, now_at, flags, standing}
+use Rattle.fed_trace.specs.Trace.{Trace, page_at, gets, pending_of, flags, standing}
 use Rattle.fed_trace.specs.OfScript.{start}
 use Rattle.fed_trace.proofs.calls.Pending.{load_silent}
 use Rattle.fed_trace.proofs.calls.Resumed.{idpclose_silent}
@@ -128,7 +128,7 @@ silent_close : (calls : List (ℕ × CallKind)) (page : ℕ) (o : Option Origin)
 silent_close calls page None = (refl, tt)
 silent_close calls page (Some origin) = close_silent flag_change (λ n c. refl) (λ p. refl) calls page
 
-silent_cookies : (cookies : List StoredCookie) (rest : List Effect) → AllSilent flag_change rest
+silent_cookies : (cookies : List CookieChange) (rest : List Effect) → AllSilent flag_change rest
     → AllSilent flag_change (cookie_effects cookies ++ rest)
 silent_cookies cookies rest silent =
     silent_append flag_change (cookie_effects cookies) rest (silent_map flag_change Cookie (λ c. refl) cookies) silent
@@ -145,11 +145,11 @@ flags_silent T opened (events.Prevent page) other = absurd (cc)
 flags_silent T opened (events.Have (haves.Login origin status)) other = (refl, tt)
 flags_silent T opened (events.Have (haves.Kept triple)) other = (refl, tt)
 flags_silent T opened (events.Have (haves.Cookie url field)) other =
-    silent_cookies (have_cookies T.header.rules (now_at T) (haves.Cookie url field)) [] tt
+    silent_cookies (have_changes T (haves.Cookie url field)) [] tt
 flags_silent T opened (events.At time) other = (refl, tt)
 flags_silent T opened (events.Load page url raw) other =
     load_silent flag_change (λ n c. refl) (λ p o. refl) (λ c. refl) (λ o s. refl) (pending_of T page) page url
-    (cookies_from T.header.rules url (now_at T) (set_cookies raw)) (set_logins raw)
+    (load_changes T url raw) (set_logins raw)
 flags_silent T opened (events.ClosePage page) other = silent_close (pending_of T page) page (page_at T page)
 flags_silent T opened (events.SetStatus page status) other =
     says_silent flag_change (λ origin. Login origin status) (λ o. refl) (λ w. refl) (page_at T page)

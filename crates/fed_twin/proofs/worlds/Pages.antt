@@ -3,8 +3,8 @@ use Rattle.std.proofs.Common.{◌≡◌, ℕ, Bool, true, false, cond, List, [],
 use Rattle.std.proofs.Common.{ap}
 use Rattle.std.proofs.Common.{ap₂, subst, ◌∙◌}
 use Rattle.std.proofs.lemmas.List.Elements.{filter_map-append}
-use Rattle.std.specs.Prelude.{◌==◌, filter, option_map, option_and_then, if◌then◌else◌}
-use Rattle.std.specs.List.{filter_map, cons_option}
+use Rattle.std.specs.Prelude.{◌==◌, filter, option_map, if◌then◌else◌}
+use Rattle.std.specs.List.{AllByRecursion, filter_map, cons_option}
 use Rattle.url.specs.Parts.{Parts}
 use Rattle.fed_origin.specs.declared.origin.Origin.{Origin}
 use Rattle.fed_origin.specs.declared.stage.Stage.TheVariants.{Ended}
@@ -12,11 +12,11 @@ use Rattle.fed_origin.specs.declared.status.LoginStatus.{LoginStatus}
 use Rattle.fed_origin.specs.declared.status.Triple.{Triple}
 use Rattle.fed_origin.specs.Origin.{is_trustworthy}
 use Rattle.fed_origin.specs.WebUrl.{host_of, origin_of}
-use Rattle.fed_cookie.specs.Fields.{set_cookie_of}
-use Rattle.fed_cookie.specs.SetCookie.{SetCookie}
+use Rattle.fed_suffix.specs.Registrable.{party}
+use Rattle.fed_jar.specs.Changes.{CookieChange, domain_of}
 use Rattle.fed_jar.specs.Cookie.{StoredCookie}
-use Rattle.fed_jar.specs.Store as store
-use Rattle.fed_jar.proofs.parties.Parties.{stored_party}
+use Rattle.fed_jar.specs.Limit.{changes_from}
+use Rattle.fed_jar.proofs.limit.Limit.{own_cookies_go, gone_by_own}
 use Rattle.fed_call.specs.Facts.{Facts}
 use Rattle.fed_script.specs.declared.event.Event.{Event}
 use Rattle.fed_script.specs.declared.event.Event.TheVariants as events
@@ -26,13 +26,15 @@ use Rattle.fed_trace.specs.Begun.{CallKind, GetCall, DisconnectCall, of_get}
 use Rattle.fed_trace.specs.Call.{OfGet}
 use Rattle.fed_trace.specs.Effect.{Effect, PendingCall, Page, Closed, Cookie, Login, Flag, call_change}
 use Rattle.fed_trace.specs.Known.{known_at, facts_at}
-use Rattle.fed_trace.specs.Row.{IsRun, with_event, ends_of, close_effects, cookie_from, cookies_from, cookie_effects}
-use Rattle.fed_trace.specs.Row.{login_effects, have_cookies, have_states, set_cookies, set_logins, page_says, standing_says}
+use Rattle.fed_trace.specs.Row.{IsRun, effects_of, with_event, ends_of, close_effects, cookies_from, stored_in, cookie_effects}
+use Rattle.fed_trace.specs.Row.{login_effects, load_changes, have_changes, set_cookies, set_logins, page_says, standing_says}
 use Rattle.fed_trace.specs.Trace.{Trace, page_at, pending, pending_of, by_kind, calls_of, now_at}
 use Rattle.fed_trace.proofs.calls.Gets.{gets_among, has_get, get_is_among, among_is_get}
 use Rattle.fed_trace.proofs.calls.Pending.{is_among}
 use Rattle.fed_trace.proofs.effects.Silent.{said_silent}
+use Rattle.fed_trace.specs.Trace as trace
 use Rattle.fed_trace.proofs.events.Aside.{says_silent}
+use Rattle.fed_trace.proofs.events.Own.{own_fields}
 use Rattle.fed_trace.proofs.happens.Taken.{is_get}
 use Rattle.fed_trace.proofs.keyed.Keyed.{distinct_standing}
 use Rattle.fed_trace.proofs.runs.Gets.{known_kind, gets_are}
@@ -43,7 +45,7 @@ use Rattle.fed_twin.specs.Same.{SameCall, SameWorlds}
 use Rattle.fed_twin.specs.Twin.{AreFar}
 use Rattle.fed_twin.proofs.calls.Facts.{EndsThere, facts_left, facts_load, facts_close, facts_ignored}
 use Rattle.fed_twin.proofs.worlds.Grow.{grow, grow_alone}
-use Rattle.fed_twin.proofs.seen.Look.{now_same, page_same, gets_same, same_party}
+use Rattle.fed_twin.proofs.seen.Look.{now_same, page_same, part_same, gets_same, same_party}
 
 -- a call that both leave is the same
 pub call_left : (p : Providers) (T U : Trace) → SameWorlds p T U → (q : ℕ) (f f' : Option Facts) → f ≡ facts_at T q
@@ -133,15 +135,74 @@ same_ends p T U h runs page =
 
 -- ---- events of no page
 
+-- ---- cookies
+
+-- a change of a cookie of no provider's party is not seen
+far_changes : (p : Providers) (name : List ℕ) (changes : List CookieChange)
+    → AllByRecursion (λ change. is_provider p (domain_of change) ≡ false) changes → filter_map (seen p) (cookie_effects changes) ≡ []
+far_changes p name [] far = refl
+far_changes p name (change ∷ changes) far =
+    ap (λ b. cons_option (if b then Some (views.Cookie change) else None) (filter_map (seen p) (cookie_effects changes))) far.0
+    ∙ far_changes p name changes far.1
+
+all_far : (p : Providers) (host : List ℕ) (changes : List CookieChange) → is_provider p host ≡ false
+    → AllByRecursion (λ change. party p.rules (domain_of change) ≡ party p.rules host) changes
+    → AllByRecursion (λ change. is_provider p (domain_of change) ≡ false) changes
+all_far p host [] far own = tt
+all_far p host (change ∷ changes) far own =
+    (same_party p (domain_of change) host own.0 ∙ far, all_far p host changes far own.1)
+
+-- what a page of no provider's party stores is not seen
+far_cookies : (p : Providers) (url : Parts) (now : ℕ) (cookies : List StoredCookie) (fields : List (List ℕ))
+    → is_provider p (host_of url) ≡ false
+    → filter_map (seen p) (cookie_effects (changes_from p.rules now cookies (cookies_from p.rules url now fields))) ≡ []
+far_cookies p url now cookies fields far =
+    far_changes p (party p.rules (host_of url)) (changes_from p.rules now cookies (cookies_from p.rules url now fields))
+    (all_far p (host_of url) (changes_from p.rules now cookies (cookies_from p.rules url now fields)) far
+    (own_cookies_go p.rules now (party p.rules (host_of url)) cookies (cookies_from p.rules url now fields)
+    (own_fields p.rules url now fields)))
+
+-- the same Set-Cookie values from one URL do the same that is seen
+same_cookies : (p : Providers) (T U : Trace) → SameWorlds p T U → (url : Parts) (fields : List (List ℕ))
+    → filter_map (seen p) (cookie_effects (stored_in T (cookies_from T.header.rules url (now_at T) fields)))
+    ≡ filter_map (seen p) (cookie_effects (stored_in U (cookies_from U.header.rules url (now_at U) fields)))
+same_cookies p T U h url fields =
+    ap (λ r. filter_map (seen p) (cookie_effects (changes_from r (now_at T) (trace.cookies T) (cookies_from r url (now_at T) fields))))
+    h.rules
+    ∙ ap (λ n. filter_map (seen p) (cookie_effects (changes_from p.rules n (trace.cookies T) (cookies_from p.rules url n fields))))
+    (now_same p T U h.now h.seen)
+    ∙ go (is_provider p (host_of url)) refl
+    ∙ ap (λ r. filter_map (seen p) (cookie_effects (changes_from r (now_at U) (trace.cookies U) (cookies_from r url (now_at U) fields))))
+    (sym h.rules')
+  where
+    go : (theirs : Bool) → is_provider p (host_of url) ≡ theirs
+        → filter_map (seen p) (cookie_effects (changes_from p.rules (now_at U) (trace.cookies T)
+        (cookies_from p.rules url (now_at U) fields)))
+        ≡ filter_map (seen p) (cookie_effects (changes_from p.rules (now_at U) (trace.cookies U)
+        (cookies_from p.rules url (now_at U) fields)))
+    go true is =
+        ap (λ cs. filter_map (seen p) (cookie_effects cs))
+        (gone_by_own p.rules (now_at U) (party p.rules (host_of url)) (trace.cookies T) (trace.cookies U)
+        (cookies_from p.rules url (now_at U) fields) (own_fields p.rules url (now_at U) fields)
+        (part_same p T U (host_of url) is h.seen))
+    go false is =
+        far_cookies p url (now_at U) (trace.cookies T) fields is ∙ sym (far_cookies p url (now_at U) (trace.cookies U) fields is)
+
 pub step_have : (p : Providers) (T U : Trace) → SameWorlds p T U → (line line' : ℕ) (have : Have)
     → SameWorlds p (with_event T line (events.Have have)) (with_event U line' (events.Have have))
 step_have p T U h line line' have =
-    grow p T U h line line' (events.Have have) (events.Have have)
-    (ap (λ cs. filter_map (seen p) (cookie_effects cs ++ have_states have))
-    (ap (λ r. have_cookies r (now_at T) have)
-    (h.rules ∙ sym h.rules') ∙ ap (λ n. have_cookies U.header.rules n have) (now_same p T U h.now h.seen)))
+    grow p T U h line line' (events.Have have) (events.Have have) (go have)
     (λ q. call_left p T U h q _ _ (facts_left T line (events.Have have) q refl (λ page. refl) refl) (facts_left U line'
     (events.Have have) q refl (λ page. refl) refl))
+  where
+    go : (have : Have) → filter_map (seen p) (effects_of T (events.Have have)) ≡ filter_map (seen p) (effects_of U (events.Have have))
+    go (haves.Cookie url field) =
+        filter_map-append (seen p) (cookie_effects (have_changes T (haves.Cookie url field))) []
+        ∙ ap (λ xs. xs ++ []) (same_cookies p T U h url (field ∷ []))
+        ∙ sym (filter_map-append (seen p) (cookie_effects (have_changes U (haves.Cookie url field))) [])
+    go (haves.Login origin status) = refl
+    go (haves.Kept triple) = refl
+    go (haves.Silent origin) = refl
 
 -- a flag of each, of which providers can tell nothing
 pub step_silent : (p : Providers) (T U : Trace) → SameWorlds p T U → (line line' : ℕ) (origin origin' : Origin)
@@ -274,54 +335,20 @@ pub step_load : (p : Providers) (T U : Trace) → SameWorlds p T U → AreRuns T
     → SameWorlds p (with_event T line (events.Load page url raw)) (with_event U line' (events.Load page url raw))
 step_load p T U h runs line line' page url raw =
     grow p T U h line line' (events.Load page url raw) (events.Load page url raw)
-    (load_seen p T U h runs page (after (cookies_from T.header.rules url (now_at T) (set_cookies raw)))
-    (after (cookies_from U.header.rules url (now_at U) (set_cookies raw)))
-    (ap (λ r. filter_map (seen p) (after (cookies_from r url (now_at T) (set_cookies raw)))) (h.rules ∙ sym h.rules')
-    ∙ ap (λ n. filter_map (seen p) (after (cookies_from U.header.rules url n (set_cookies raw)))) (now_same p T U h.now h.seen)))
+    (load_seen p T U h runs page (after (load_changes T url raw)) (after (load_changes U url raw))
+    (ap (λ xs. views.Page page (is_trustworthy (origin_of url)) (told_origin p (origin_of url)) ∷ xs)
+    (filter_map-append (seen p) (cookie_effects (load_changes T url raw)) logins
+    ∙ ap (λ xs. xs ++ filter_map (seen p) logins) (same_cookies p T U h url (set_cookies raw))
+    ∙ sym (filter_map-append (seen p) (cookie_effects (load_changes U url raw)) logins))))
     (load_calls p T U h runs line line' page url url raw raw)
   where
-    after : List StoredCookie → List Effect
-    after cookies = Page page (origin_of url) ∷ (cookie_effects cookies ++ login_effects (origin_of url) (set_logins raw))
+    logins : List Effect
+    logins = login_effects (origin_of url) (set_logins raw)
+
+    after : List CookieChange → List Effect
+    after changes = Page page (origin_of url) ∷ (cookie_effects changes ++ login_effects (origin_of url) (set_logins raw))
 
 -- a load of no provider's party: only the page is seen, and that it is trustworthy
-
--- a cookie that is stored is of no provider's party
-stored_far : (p : Providers) (url : Parts) (now : ℕ) (raw : SetCookie) (scope : Option Bool)
-    → store.scope_of p.rules url raw ≡ scope → is_provider p (host_of url) ≡ false
-    → (cookie : StoredCookie) → option_map (store.cookie_from url now raw) scope ≡ Some cookie
-    → is_provider p cookie.domain ≡ false
-unfolding store.cookie_from
-stored_far p url now raw None e far cookie is = absurd (cc)
-stored_far p url now raw (Some only) e far cookie is =
-    let one : store.cookie_from url now raw only ≡ cookie = cc in
-    subst (λ c. is_provider p c.domain ≡ false) one (same_party p _ (host_of url) (stored_party p.rules url raw only e) ∙ far)
-
-far_cookie : (p : Providers) (url : Parts) (now : ℕ) (field : List ℕ) → is_provider p (host_of url) ≡ false
-    → (cookie : Option StoredCookie)
-    → cookie_from p.rules url now field ≡ cookie → filter_map (seen p) (map Cookie (cons_option cookie [])) ≡ []
-far_cookie p url now field far None is = refl
-far_cookie p url now field far (Some cookie) is =
-    ap (λ b. cons_option (if b then Some (views.Cookie cookie) else None) []) (go (set_cookie_of field) refl)
-  where
-    go : (raw : Option SetCookie) → set_cookie_of field ≡ raw → is_provider p cookie.domain ≡ false
-    go None e = absurd (let no : None ≡ Some cookie = sym (ap (option_and_then (store.cookie_of p.rules url now)) e) ∙ is in cc)
-    go (Some raw) e =
-        stored_far p url now raw (store.scope_of p.rules url raw) refl far cookie
-        (sym (ap (option_and_then (store.cookie_of p.rules url now)) e) ∙ is)
-
-far_cookies : (p : Providers) (url : Parts) (now : ℕ) (fields : List (List ℕ)) → is_provider p (host_of url) ≡ false
-    → filter_map (seen p) (cookie_effects (cookies_from p.rules url now fields)) ≡ []
-far_cookies p url now [] far = refl
-far_cookies p url now (field ∷ fields) far = go (cookie_from p.rules url now field) refl (far_cookies p url now fields far)
-  where
-    go : (cookie : Option StoredCookie) → cookie_from p.rules url now field ≡ cookie
-        → filter_map (seen p) (cookie_effects (cookies_from p.rules url now fields)) ≡ []
-        → filter_map (seen p) (cookie_effects (cons_option cookie (cookies_from p.rules url now fields))) ≡ []
-    go None is rest = rest
-    go (Some cookie) is rest =
-        let here : cons_option (if is_provider p cookie.domain then Some (views.Cookie cookie) else None) []
-        ≡ [] = far_cookie p url now field far (Some cookie) is in
-        ap (cons_option (if is_provider p cookie.domain then Some (views.Cookie cookie) else None)) rest ∙ here
 
 far_logins : (p : Providers) (origin : Origin) (statuses : List LoginStatus) → is_provider p origin.host ≡ false
     → filter_map (seen p) (login_effects origin statuses) ≡ []
@@ -330,16 +357,16 @@ far_logins p origin (status ∷ statuses) far =
     ap (λ b. cons_option (if b then Some (views.Login origin status) else None)
     (filter_map (seen p) (login_effects origin statuses))) far ∙ far_logins p origin statuses far
 
-far_load : (p : Providers) (page : ℕ) (url : Parts) (now : ℕ) (fields : List (List ℕ))
+far_load : (p : Providers) (page : ℕ) (url : Parts) (now : ℕ) (cookies : List StoredCookie) (fields : List (List ℕ))
     (statuses : List LoginStatus) → is_provider p (host_of url) ≡ false
     → filter_map (seen p) (Page page (origin_of url)
-    ∷ (cookie_effects (cookies_from p.rules url now fields) ++ login_effects (origin_of url) statuses))
+    ∷ (cookie_effects (changes_from p.rules now cookies (cookies_from p.rules url now fields)) ++ login_effects (origin_of url) statuses))
     ≡ views.Page page (is_trustworthy (origin_of url)) None ∷ []
-far_load p page url now fields statuses far =
-    let cookies = cookies_from p.rules url now fields in
-    let rest : filter_map (seen p) (cookie_effects cookies ++ login_effects (origin_of url) statuses) ≡ [] =
-    filter_map-append (seen p) (cookie_effects cookies) (login_effects (origin_of url) statuses)
-    ∙ ap (λ xs. xs ++ filter_map (seen p) (login_effects (origin_of url) statuses)) (far_cookies p url now fields far)
+far_load p page url now cookies fields statuses far =
+    let changes = changes_from p.rules now cookies (cookies_from p.rules url now fields) in
+    let rest : filter_map (seen p) (cookie_effects changes ++ login_effects (origin_of url) statuses) ≡ [] =
+    filter_map-append (seen p) (cookie_effects changes) (login_effects (origin_of url) statuses)
+    ∙ ap (λ xs. xs ++ filter_map (seen p) (login_effects (origin_of url) statuses)) (far_cookies p url now cookies fields far)
     ∙ far_logins p (origin_of url) statuses far in
     ap (λ xs. views.Page page (is_trustworthy (origin_of url)) (told_origin p (origin_of url)) ∷ xs) rest
     ∙ ap (λ b. views.Page page (is_trustworthy (origin_of url)) (if b then Some (origin_of url) else None) ∷ []) far
@@ -349,14 +376,16 @@ pub step_far_load : (p : Providers) (T U : Trace) → SameWorlds p T U → AreRu
     → SameWorlds p (with_event T line (events.Load page url raw)) (with_event U line' (events.Load page url' raw'))
 step_far_load p T U h runs line line' page url url' raw raw' far =
     grow p T U h line line' (events.Load page url raw) (events.Load page url' raw')
-    (load_seen p T U h runs page (after url (cookies_from T.header.rules url (now_at T) (set_cookies raw)) (set_logins raw))
-    (after url' (cookies_from U.header.rules url' (now_at U) (set_cookies raw')) (set_logins raw'))
-    (ap (λ r. filter_map (seen p) (after url (cookies_from r url (now_at T) (set_cookies raw)) (set_logins raw))) h.rules
-    ∙ far_load p page url (now_at T) (set_cookies raw) (set_logins raw) far.far
+    (load_seen p T U h runs page (after url (load_changes T url raw) (set_logins raw))
+    (after url' (load_changes U url' raw') (set_logins raw'))
+    (ap (λ r. filter_map (seen p) (after url (changes_from r (now_at T) (trace.cookies T)
+    (cookies_from r url (now_at T) (set_cookies raw))) (set_logins raw))) h.rules
+    ∙ far_load p page url (now_at T) (trace.cookies T) (set_cookies raw) (set_logins raw) far.far
     ∙ ap (λ b. views.Page page b None ∷ []) far.trust
-    ∙ sym (far_load p page url' (now_at U) (set_cookies raw') (set_logins raw') far.far')
-    ∙ ap (λ r. filter_map (seen p) (after url' (cookies_from r url' (now_at U) (set_cookies raw')) (set_logins raw'))) (sym h.rules')))
+    ∙ sym (far_load p page url' (now_at U) (trace.cookies U) (set_cookies raw') (set_logins raw') far.far')
+    ∙ ap (λ r. filter_map (seen p) (after url' (changes_from r (now_at U) (trace.cookies U)
+    (cookies_from r url' (now_at U) (set_cookies raw'))) (set_logins raw'))) (sym h.rules')))
     (load_calls p T U h runs line line' page url url' raw raw')
   where
-    after : Parts → List StoredCookie → List LoginStatus → List Effect
-    after url cookies statuses = Page page (origin_of url) ∷ (cookie_effects cookies ++ login_effects (origin_of url) statuses)
+    after : Parts → List CookieChange → List LoginStatus → List Effect
+    after url changes statuses = Page page (origin_of url) ∷ (cookie_effects changes ++ login_effects (origin_of url) statuses)

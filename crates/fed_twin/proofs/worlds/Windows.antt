@@ -39,10 +39,10 @@ use Rattle.fed_trace.specs.Effect as effects
 use Rattle.fed_trace.specs.Keyed.{entries_after, last_said}
 use Rattle.fed_trace.specs.Known.{world_at, is_begun, known_by, known_in, known_at, facts_at}
 use Rattle.fed_trace.specs.Row.{effects_of, row_of, with_event, cookies_with, call_effects, moves, outcome_effects, input_effects}
-use Rattle.fed_trace.specs.Row.{begin_effects, standing_call, is_busy, ends_of, close_effects, cookies_from, cookie_effects, login_effects}
-use Rattle.fed_trace.specs.Row.{have_cookies, set_cookies, set_logins, resume_effects, waiting_effects, standing_resumes, idpclose_effects}
+use Rattle.fed_trace.specs.Row.{begin_effects, standing_call, is_busy, ends_of, close_effects, load_changes, cookie_effects, login_effects}
+use Rattle.fed_trace.specs.Row.{have_changes, set_logins, resume_effects, waiting_effects, standing_resumes, idpclose_effects}
 use Rattle.fed_trace.specs.Row.{IsNew, IsRun}
-use Rattle.fed_trace.specs.Trace.{Row, Trace, standing, stage_at, begun, pending, pending_of, calls_of, by_kind, page_at, gets, now_at}
+use Rattle.fed_trace.specs.Trace.{Row, Trace, standing, stage_at, begun, pending, pending_of, calls_of, by_kind, page_at, gets}
 use Rattle.fed_trace.specs.Windows.{provider_asked, provider_of, is_origin, open_windows, windows_of}
 use Rattle.fed_trace.proofs.calls.Pending.{load_rest_silent}
 use Rattle.fed_trace.proofs.calls.Windows.{in_window}
@@ -439,7 +439,7 @@ agrees_close T are page (Some origin) =
 agrees_row : (T : Trace) → AreGets T → (event : Event) → IsNew T.rows event
     → Agrees (standing nat_eq window_change T.rows) (effects_of T event)
 agrees_row T are (events.Have have) new =
-    let found = have_cookies T.header.rules (now_at T) have in
+    let found = have_changes T have in
     agrees_silent (effects_of T (events.Have have))
     (have_silent moves_disconnect (record { cookie = λ c. refl; login = λ o s. refl; kept = λ t k. refl; flag = λ o k. refl }) found have)
     (standing nat_eq window_change T.rows)
@@ -453,7 +453,7 @@ agrees_row T are (events.SetStatus page status) new =
     (says_silent moves_disconnect (λ origin. Login origin status) (λ o. refl) (λ w. refl) (page_at T page))
     (standing nat_eq window_change T.rows)
 agrees_row T are (events.Load page url raw) new =
-    let found = cookies_from T.header.rules url (now_at T) (set_cookies raw) in
+    let found = load_changes T url raw in
     agrees_ends (pending_of T page) (standing nat_eq window_change T.rows)
     (all_apart (standing nat_eq window_change T.rows) page (pending T) (distinct_standing call_change T.rows) (pending_apart T are))
     (Page page (origin_of url) ∷ (cookie_effects found ++ login_effects (origin_of url) (set_logins raw)))

@@ -1,14 +1,14 @@
 use Rattle.std.proofs.Common.{sym, ap, ◌∙◌, not}
 use Rattle.std.specs.List.{list_any}
 use Rattle.fed_jar.specs.Parts.{same_numbered}
-use Rattle.fed_jar.proofs.parts.Places.{put_at, put_same, set_at}
+use Rattle.fed_jar.proofs.parts.Places.{stored_at, put_same, set_at}
 use Rattle.std.proofs.lemmas.Result.{on_ok_weaker, on_err_weaker, IfOk-weaker}
 use Rattle.fed_jar.proofs.lists.keep_more.Goals as goal
 
 pub returns-clause-ok : goal.returns-clause-ok
 returns-clause-ok c =
     on_ok_weaker c.put.result
-    (λ keys name at. put_at (λ key. key.items) name c.args.new c.args.parties.now c.args.parties.now.entries c.args.at
+    (λ keys name at. stored_at (λ key. key.items) c.args.now name c.args.new c.args.parties.now c.args.parties.now.entries c.args.at
     c.in-Some.cookies.now c.put.new.cookies c.requires.named at (sym c.in-Some.ensures.value) keys)
     c.put.ensures.ok
 

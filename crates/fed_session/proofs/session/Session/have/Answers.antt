@@ -28,7 +28,7 @@ pub returns-clause-room : goal.returns-clause-room
 returns-clause-room c =
     let sight = c.self.inside.sight in
     let more =
-    room_after sight.cookies (have_cookies sight.cookies.rules sight.time c.args.have.now) c.take_have.new.sight.cookies.entered
+    room_after sight.time sight.cookies (have_cookies sight.cookies.rules sight.time c.args.have.now) c.take_have.new.sight.cookies.entered
     (ap (λ (s : Sight). s.cookies.entered) c.in_ok-take_have.ensures)
     (few_have sight.cookies.rules sight.time c.args.have.now) in
     subst (λ (s : State). c.take_have.new.sight.cookies.entered ≤ s.entered + 128) c.self.view_is more

@@ -35,7 +35,7 @@ pub returns-clause-room : goal.returns-clause-room
 returns-clause-room g c =
     let sight = c.self.inside.sight in
     let more =
-    room_after sight.cookies (cookies_from sight.cookies.rules c.args.url.now sight.time (set_cookies c.args.raw.now))
+    room_after sight.time sight.cookies (cookies_from sight.cookies.rules c.args.url.now sight.time (set_cookies c.args.raw.now))
     c.take_head.new.sight.cookies.entered (ap (λ (s : Sight). s.cookies.entered) c.in_ok-take_head.ensures)
     (few_load sight.cookies.rules c.args.url.now sight.time c.args.raw.now) in
     subst (λ (s : State). c.take_head.new.sight.cookies.entered ≤ s.entered + 128) c.self.view_is more

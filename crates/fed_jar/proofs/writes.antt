@@ -1,2 +1,0 @@
--- The writes that stand.
-pub mod Writes
