@@ -268,7 +268,8 @@ fn keep(
     requires named { IsDistinct bytes_eq (keys_of (lists_of (λ key. key.items) parties.old.entries)) }
     requires own { AreOwn writer.now.rules.now (lists_of (λ key. key.items) parties.old.entries) }
     ensures ok { OnOk result (lists_of (λ key. key.items) parties.new.entries
-        ≡ store_under writer.now.time (party writer.now.rules.now writer.now.host.now) (lists_of (λ key. key.items) parties.old.entries) new) }
+        ≡ store_under writer.now.time (party writer.now.rules.now writer.now.host.now)
+        (lists_of (λ key. key.items) parties.old.entries) new) }
     ensures fresh { IfOk result (λ kept. kept.is_new ≡ not (list_any (same_numbered new)
         (list_under (party writer.now.rules.now writer.now.host.now) (lists_of (λ key. key.items) parties.old.entries)))) }
     ensures err { OnErr result (lists_of (λ key. key.items) parties.new.entries ≡ lists_of (λ key. key.items) parties.old.entries) }

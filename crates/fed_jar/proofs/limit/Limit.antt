@@ -94,7 +94,8 @@ gone_by_own rules now name a b (new ∷ more) own same =
     ∙ sym (part_is_of_changes rules name b (changes_with rules now b new)) in
     ap (λ cs. cs ++ changes_from rules now (changed_by a (changes_with rules now a new)) more) here
     ∙ ap (λ cs. changes_with rules now b new ++ cs)
-    (gone_by_own rules now name (changed_by a (changes_with rules now a new)) (changed_by b (changes_with rules now b new)) more own.1 after)
+    (gone_by_own rules now name (changed_by a (changes_with rules now a new)) (changed_by b (changes_with rules now b new)) more
+    own.1 after)
 
 -- ---- the jar
 
@@ -104,7 +105,8 @@ kept_part : (rules : RuleSet) (name : List ℕ) (kept : List KeptCookie) → All
 kept_part rules name [] own = refl
 kept_part rules name (k ∷ ks) own =
     subst (λ n. cookies_of (cond (bytes_eq n name) (k ∷ kept_under name ks) (kept_under name ks))
-    ≡ part_of rules name (k.cookie ∷ cookies_of ks)) (sym own.0) (pick (bytes_eq (party rules k.cookie.domain) name) (kept_part rules name ks own.1))
+    ≡ part_of rules name (k.cookie ∷ cookies_of ks)) (sym own.0)
+    (pick (bytes_eq (party rules k.cookie.domain) name) (kept_part rules name ks own.1))
   where
     pick : (b : Bool) → cookies_of (kept_under name ks) ≡ part_of rules name (cookies_of ks)
         → cookies_of (cond b (k ∷ kept_under name ks) (kept_under name ks))

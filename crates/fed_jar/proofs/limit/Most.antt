@@ -179,7 +179,8 @@ one_stays rules now name cookies new most = pick (bytes_eq (party rules new.doma
     pick : (b : Bool) → bytes_eq (party rules new.domain) name ≡ b → length (part_of rules name (changed_by cookies changes)) ≤ 180
     pick false away =
         subst (λ cs. length cs ≤ 180)
-        (sym (part ∙ ap (changed_by (part_of rules name cookies)) (none_of_party rules name (party rules new.domain) changes away own))) most
+        (sym (part ∙ ap (changed_by (part_of rules name cookies)) (none_of_party rules name (party rules new.domain) changes away own)))
+        most
     pick true is =
         let same : party rules new.domain ≡ name = same_text _ _ is in
         let mine : changes_of_party rules name changes ≡ changes =

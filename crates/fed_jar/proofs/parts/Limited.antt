@@ -30,7 +30,8 @@ pub limited_standing : (now : ℕ) (new : Numbered) (ns : List Numbered) → lis
     → put_limited now ns new ≡ put_numbered ns new
 unfolding gone_with
 limited_standing now new ns e =
-    ap (λ b. dropped (cond (b || nat_lt (length (numbered_cookies ns)) 180) None (option_map key_of (first_to_go now (numbered_cookies ns))))
+    ap (λ b. dropped (cond (b || nat_lt (length (numbered_cookies ns)) 180) None
+    (option_map key_of (first_to_go now (numbered_cookies ns))))
     (put_numbered ns new)) (has_key-numbered new ns ∙ e)
 
 below : (n : ℕ) → n < 180 → nat_lt n 180 ≡ true
@@ -88,7 +89,8 @@ none_any new n ns e = pick (same_numbered new n) (list_any (same_numbered new) n
     pick false b e = (refl, e)
 
 -- what goes at a place is what has the key of the cookie there
-gone_at : (new : Numbered) (ns : List Numbered) (i : ℕ) (n : Numbered) → IsDistinct same_numbered ns → list_any (same_numbered new) ns ≡ false
+gone_at : (new : Numbered) (ns : List Numbered) (i : ℕ) (n : Numbered) → IsDistinct same_numbered ns
+    → list_any (same_numbered new) ns ≡ false
     → slice_get ns i ≡ Some n → remove (ns ++ new ∷ []) i ≡ dropped (Some (key_of n.cookie)) (ns ++ new ∷ [])
 unfolding IsDistinct
 gone_at new [] i n apart out e = absurd (cc)
@@ -104,7 +106,8 @@ gone_at new (m ∷ ns) (suc i) n apart out e =
     let other : same_key n.cookie m.cookie ≡ false =
     key_comm n.cookie m.cookie ∙ at_place (λ (k : Numbered). same_numbered m k ≡ false) ns i n apart.0 e in
     ap (λ l. m ∷ l) (gone_at new ns i n apart.1 (none_any new m ns out).1 e)
-    ∙ sym (ap (λ b. cond (not b) (m ∷ dropped (Some (key_of n.cookie)) (ns ++ new ∷ [])) (dropped (Some (key_of n.cookie)) (ns ++ new ∷ []))) other)
+    ∙ sym (ap (λ b. cond (not b) (m ∷ dropped (Some (key_of n.cookie)) (ns ++ new ∷ []))
+    (dropped (Some (key_of n.cookie)) (ns ++ new ∷ []))) other)
 
 some_goes : (now : ℕ) (c : StoredCookie) (cs : List StoredCookie) → None ≡ first_to_go now (c ∷ cs) → ⊥
 some_goes now c cs e = go (first_expired now (c ∷ cs)) e
@@ -174,7 +177,8 @@ within_some [] i e is = grind (arith, nat_tests)
 within_some (n ∷ ns) i e is = let got = slice_get-get_or (n ∷ ns) i n (inside i (length (n ∷ ns)) e) in absurd (cc)
 
 pub goes_at : (now : ℕ) (ns : List Numbered)
-    → option_map (λ (n : Numbered). n.cookie) (slice_get ns (unwrap_or (position (λ (n : Numbered). not (is_fresh now n.cookie.expiry)) ns) 0))
+    → option_map (λ (n : Numbered). n.cookie)
+    (slice_get ns (unwrap_or (position (λ (n : Numbered). not (is_fresh now n.cookie.expiry)) ns) 0))
     ≡ first_to_go now (numbered_cookies ns)
 unfolding is_expired
 goes_at now ns = pick (nat_lt at (length ns)) refl (slice_get ns at) refl
@@ -191,7 +195,8 @@ goes_at now ns = pick (nat_lt at (length ns)) refl (slice_get ns at) refl
         ap (λ c. option_or c (first_of (numbered_cookies ns))) (found ∙ ap (option_map (λ (n : Numbered). n.cookie)) e)
 
     pick : (b : Bool) → nat_lt at (length ns) ≡ b → (o : Option Numbered) → slice_get ns at ≡ o
-        → option_map (λ (n : Numbered). n.cookie) (slice_get ns (unwrap_or (cond b (Some at) None) 0)) ≡ first_to_go now (numbered_cookies ns)
+        → option_map (λ (n : Numbered). n.cookie) (slice_get ns (unwrap_or (cond b (Some at) None) 0))
+        ≡ first_to_go now (numbered_cookies ns)
     pick true e (Some x) is = ap (option_map (λ (n : Numbered). n.cookie)) is ∙ sym (or_first (Some x) is)
     pick false e None is = first_listed ns ∙ sym (or_first None is)
     pick true e None is = absurd (within_some ns at e is)

@@ -169,7 +169,8 @@ jar_stored rules now name new ls entered are own of after own_key next =
     go None e = ap kept_of (drop_none name (put_under name ls new))
     go (Some key) e =
         let same = gone_party rules now name (numbered_cookies (list_under name ls)) new.cookie key (own_part rules name ls own) e in
-        subst (λ n. kept_of (drop_under n (put_under name ls new) (Some key)) ≡ kept_without (Some key) (kept_of (put_under name ls new))) same
+        subst (λ n. kept_of (drop_under n (put_under name ls new) (Some key)) ≡ kept_without (Some key) (kept_of (put_under name ls new)))
+        same
         (kept_dropped rules key (put_under name ls new) after.named (AreOwn-put rules name new ls of own))
 
 -- the lists stay those of a jar

@@ -69,7 +69,8 @@ not_named : (config : Parts) (t : Bool) (accounts login : Parts)
 not_named config true accounts login e = absurd (grind rules)
 not_named config false accounts login e = absurd (grind rules)
 
-not_listed : (base config : Parts) (only : Option (List ℕ)) (accounts login : Parts) → listed base config only ≡ Ok (Direct accounts login) → ⊥
+not_listed : (base config : Parts) (only : Option (List ℕ)) (accounts login : Parts)
+    → listed base config only ≡ Ok (Direct accounts login) → ⊥
 not_listed base config None accounts login e = absurd (grind rules)
 not_listed base config (Some text) accounts login e = go (joined_url base text) e
   where
