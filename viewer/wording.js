@@ -11,7 +11,7 @@ const Wording = (() => {
   const SECTIONS = {
     1: '1-script-lines', 2: '2-urls-and-origins', 4: '4-cookies', 5: '5-login-statuses', 6: '6-heads-and-replies', 7: '7-provider-files',
     8: '8-accounts', 9: '9-tokens', 10: '10-events-and-calls', 11: '11-dialogs', 12: '12-requests-bytes', 13: '13-transcript-lines',
-    14: '14-the-forms-run-twin-and-make', 15: '15-twins', 17: '17-the-order-that-is-kept',
+    14: '14-the-forms-of-the-program', 15: '15-twins', 17: '17-the-order-that-is-kept',
   };
 
   // The rules that a row follows, as the number and what it says.

@@ -8,6 +8,7 @@ from typing import NamedTuple
 from . import replies, values
 
 NEXT = b'{"next":"script"}'
+NEXT_TRANSCRIPT = b'{"next":"transcript"}'
 ODD_WORDS = [
     [], [b""], [b"run", b"run"], [b"run", b""], [b"Run"], [b" run"], [b"twin", b"1"], [b"make"], [b"make", b"x"], [b"make", b"0"],
     [b"make", b"07"], [b"make", b"+7"], [b"make", b"20001"], [b"make", b"4294967297"], [b"make", b"9" * 40], [b"make", b"1"],

@@ -4,14 +4,17 @@ import json
 import re
 
 from .cases import LIMIT
-from .scripts import NEXT
+from .scripts import NEXT, NEXT_TRANSCRIPT
 
-DONE, USAGE, BAD, TOO_LONG, NOT_TWINS = 0, 1, 2, 6, 7
+DONE, USAGE, BAD, TOO_LONG, NOT_TWINS, FAULTY, DIFFERS = 0, 1, 2, 6, 7, 8, 10
 # With words that are a form, and where reading and writing do not fail and memory suffices.
 STATUSES = {"run": {DONE, BAD, TOO_LONG}, "check": {DONE, BAD, TOO_LONG}, "twin": {DONE, BAD, TOO_LONG, NOT_TWINS}, "make": {DONE}}
+STATUSES |= {"audit": {DONE, BAD, TOO_LONG, FAULTY}, "compare": {DONE, BAD, TOO_LONG, DIFFERS}}
 # The record that comes last, by the word and the status; none where the input is too long.
 LAST = {("run", DONE): "end", ("run", BAD): "bad", ("twin", DONE): "twins", ("twin", BAD): "bad", ("twin", NOT_TWINS): "not-twins"}
 LAST["make", DONE] = "summary"
+LAST |= {("audit", DONE): "audited", ("audit", BAD): "bad", ("audit", FAULTY): "faulty"}
+LAST |= {("compare", DONE): "alike", ("compare", BAD): "bad", ("compare", DIFFERS): "differs"}
 # The members of a record beside `line` and `out`, and those that it may have or not, for each of its forms.
 EVENT_RECORDS = {
     "request": [("call kind provider text", ""), ("call kind provider raw", "")],
@@ -30,6 +33,10 @@ LAST_RECORDS = {
     "bad": ("cause line", "member"),
     "twins": ("compared quiet", ""),
     "not-twins": ("clause event", ""),
+    "audited": ("records", ""),
+    "faulty": ("clause line", ""),
+    "alike": ("requests", ""),
+    "differs": ("line what", "call due due_raw kind provider"),
     "summary": ("calls dialogs events ignored mix requests tokens", ""),
 }
 STEPS = """call-pending config-scheme no-activation no-site silent-prevented active-many provider-twice logged-out well-known-reply well-known-shape well-known-other
@@ -40,8 +47,10 @@ MEMBERS = """fedcm now rules what origin status page provider account url text r
     config client nonce login_hint domain_hint params to hint"""
 DETAILS = """head coding length chunk short status mime json accounts_endpoint id_assertion_endpoint login_url client_metadata_endpoint
     disconnect_endpoint"""
+WHATS = """record missing further head method target host accept sec-fetch-dest origin content-type content-length cookie client_id nonce
+    account_id disclosure_text_shown is_auto_selected params account_hint body token page auto"""
 WORDS = {
-    "kind": "wellknown config accounts metadata assertion disconnect",
+    "kind": "wellknown config accounts metadata assertion disconnect token",
     "dialog": "choose prompt mismatch",
     "context": "signin signup use continue",
     "see": "token disconnected NetworkError NotAllowedError AbortError IdentityCredentialError",
@@ -49,12 +58,13 @@ WORDS = {
     "step": STEPS,
     "cause": "not-json no-kind member bad-url call-twice have-late time-back too-many no-next",
     "member": MEMBERS,
-    "clause": "header kind member load origins count",
+    "clause": "header kind member load origins count record call head origin cookie consent token",
     "detail": DETAILS,
+    "what": WHATS,
 }
 WORDS = {name: set(words.split()) for name, words in WORDS.items()}
 # Members that are no texts.
-NUMBERS = set("line call page provider events compared quiet event calls dialogs ignored mix requests tokens".split())
+NUMBERS = set("line call page provider events compared quiet event calls dialogs ignored mix requests tokens records".split())
 FLAGS = {"auto", "disclosure", "connected"}
 ACCOUNT = ("connected email id name provider", "given_name picture")
 SEEN = {"call-pending": "NotAllowedError", "aborted": "AbortError", "provider-error": "IdentityCredentialError"}
@@ -67,7 +77,10 @@ WITH_COOKIE = {"accounts", "assertion", "disconnect"}
 TARGET = re.compile(r"[!-~]+\Z")
 # Lines that are not blank, and lines that divide two scripts.
 FILLED = re.compile(rb"^[ \t\r]*[^ \t\r\n]", re.M)
-DIVIDING = re.compile(rb"^[ \t\r]*" + re.escape(NEXT) + rb"[ \t\r]*$", re.M)
+DIVIDING = {
+    form: re.compile(rb"^[ \t\r]*" + re.escape(line) + rb"[ \t\r]*$", re.M)
+    for form, line in (("twin", NEXT), ("audit", NEXT_TRANSCRIPT), ("compare", NEXT_TRANSCRIPT))
+}
 
 
 class Fault(Exception):
@@ -81,7 +94,7 @@ def need(holds, what):
 
 def form_of(words):
     """The first word, where the words are a form of the program."""
-    if words in ([b"run"], [b"check"], [b"twin"]):
+    if words in ([b"run"], [b"check"], [b"twin"], [b"audit"], [b"compare"]):
         return words[0].decode()
     if len(words) == 2 and words[0] == b"make" and re.fullmatch(rb"[1-9][0-9]{0,4}", words[1]) and int(words[1]) <= 20_000:
         return "make"
@@ -227,14 +240,31 @@ def check_line_numbers(records, last, source):
         need(last["events"] == events, f"{last['events']} events of {events}")
 
 
-def check_pair_end(last, source):
-    """The line that is missing or bad in two scripts, and the first event that only one of them has."""
+def check_divided_end(form, last, source):
+    """The line that is missing or bad where a line divides the input, the first event that only one of two scripts has, and the line or the
+    number of the records of a transcript."""
+    lines = lines_in(source)
     if last["out"] == "bad":
-        lines = lines_in(source)
         need(1 <= last["line"] <= lines + 1, f"bad is line {last['line']} of {lines}")
-        need(last["cause"] != "no-next" or not DIVIDING.search(source), "a dividing line was not seen")
+        need(last["cause"] != "no-next" or not DIVIDING[form].search(source), "a dividing line was not seen")
     if last["out"] == "not-twins":
         need((last["event"] == 0) == (last["clause"] == "header"), "the event of a clause")
+    if last["out"] == "audited":
+        need(last["records"] <= lines, f"{last['records']} records of {lines} lines")
+    if last["out"] == "faulty":
+        need(2 < last["line"] <= lines, f"faulty is line {last['line']} of {lines}")
+    if last["out"] == "alike":
+        need(last["requests"] <= lines, f"{last['requests']} requests of {lines} lines")
+    if last["out"] == "differs":
+        check_difference(last, lines)
+
+
+def check_difference(last, lines):
+    """What a request or a token is known by stands there but for a line that is no record; a value that is due, once."""
+    about = {"call", "kind", "provider"} & set(last)
+    need(len(about) == (0 if last["what"] == "record" else 3), f"what differs: {sorted(about)}")
+    need(last["what"] != "record" or 2 < last["line"] <= lines, f"no record is line {last['line']} of {lines}")
+    need(not {"due", "due_raw"} <= set(last), "two values that are due")
 
 
 def check_status(form, status, source):
@@ -267,5 +297,5 @@ def check(words, source, status, written):
         check_event_record(record)
     if form == "run":
         check_line_numbers(records, last, source)
-    elif form == "twin" and last:
-        check_pair_end(last, source)
+    elif form in DIVIDING and last:
+        check_divided_end(form, last, source)

@@ -17,14 +17,14 @@ def read(path):
         return file.read()
 
 
-# The examples that are drawn: what `check` writes is no transcript.
+# The examples that are drawn: what `check`, `audit` and `compare` write is no transcript.
 def names():
     found = (os.path.basename(path)[:-len(".out.jsonl")] for path in glob.glob("examples/*.out.jsonl"))
-    return sorted(name for name in found if not is_check("examples/%s.words" % name))
+    return sorted(name for name in found if not is_aside("examples/%s.words" % name))
 
 
-def is_check(words):
-    return os.path.exists(words) and read(words).split() == ["check"]
+def is_aside(words):
+    return os.path.exists(words) and read(words).split() in (["check"], ["audit"], ["compare"])
 
 
 # The paths of an example's script and transcript.

@@ -18,4 +18,5 @@ pub mod Settling
 pub mod SettledRows
 pub mod SingleRows
 pub mod State
+pub mod Account
 pub mod WindowRows

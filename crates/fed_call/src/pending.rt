@@ -50,6 +50,7 @@ impl Pending {
     ghost use Rattle.fed_call.specs.Begun.{options_of};
     ghost use Rattle.fed_call.specs.Facts.{provider_at};
     ghost use Rattle.fed_call.specs.Row.{input_facts, input_row};
+    ghost use Rattle.fed_call.specs.Account.{id_awaited};
     ghost use Rattle.fed_call.specs.State.{facts_of, pending_facts};
     ghost use Rattle.fed_call.specs.WindowRows.{awaited};
 
@@ -199,6 +200,22 @@ impl Pending {
             | At::Choosing(_)
             | At::Prompting(_)
             | At::Asserting(_) => None,
+        }
+    }
+
+    /// The id of the account whose token is awaited.
+    pub fn account(&self) -> Option<&str>
+        ensures { option_copied result ≡ id_awaited (pending_facts self.now).stage (pending_facts self.now).picked }
+    {
+        match &self.at {
+            At::Asserting(asserting) => Some(asserting.account.get().id.as_str()),
+            At::Reading(_)
+            | At::Listing(_)
+            | At::Gathering(_)
+            | At::Mismatch(_)
+            | At::Window(_)
+            | At::Choosing(_)
+            | At::Prompting(_) => None,
         }
     }
 

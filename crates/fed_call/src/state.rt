@@ -10,6 +10,7 @@ ghost use Rattle.fed_call.specs.Fits.{fits};
 ghost use Rattle.fed_call.specs.Opening.{Knows};
 ghost use Rattle.fed_consent.specs.Outcomes.{only_place};
 ghost use Rattle.fed_call.specs.Row.{start_row, call_row};
+ghost use Rattle.fed_call.specs.Account.{account_awaited};
 ghost use Rattle.fed_call.specs.State.{at_facts, facts_of, pending_facts};
 ghost use Rattle.fed_call.specs.WindowRows.{awaited_by};
 
@@ -220,6 +221,16 @@ impl CallState {
     {
         match &self.pending {
             Some(pending) => pending.waits_for(),
+            None => None,
+        }
+    }
+
+    /// The id of the account whose token is awaited; none of another call. It takes no memory.
+    pub fn account(&self) -> Option<&str>
+        ensures { option_copied result ≡ account_awaited (facts_of self.now) }
+    {
+        match &self.pending {
+            Some(pending) => pending.account(),
             None => None,
         }
     }

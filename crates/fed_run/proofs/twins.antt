@@ -1,3 +1,2 @@
 -- The form `twin`.
 pub mod Ends
-pub mod Sources

@@ -1,12 +1,17 @@
 -- How each form ends for the bytes of its source where nothing fails, and what it writes.
-use Rattle.std.specs.Prelude.{◌≡◌, ℕ, ◌≤◌, nat_lt, Bool, true, false, List, [], length, Option, Some, None, IfSome, Result, Ok, Err}
+use Rattle.std.specs.Prelude.{◌≡◌, ℕ, ◌≤◌, nat_lt, Bool, true, false, not, List, [], count_by, length, Option, Some, None, IfSome, Result, Ok, Err}
 use Rattle.std.specs.Prelude.{◌↔◌, ⊤}
 use Rattle.std.specs.Io.KnownBytes.{Appends, Keeps}
 use Rattle.fed_io.specs.Io.{AppendsLess}
 use Rattle.fed_script.specs.declared.cause.PairStop.{PairStop}
 use Rattle.fed_script.specs.declared.pair.Pair.{Pair}
 use Rattle.fed_script.specs.Pair.{pair_of, bad_within}
-use Rattle.fed_script.specs.Script.{Script}
+use Rattle.fed_script.specs.Script.{Script, is_blank}
+use Rattle.fed_audit.specs.Audit.{AuditFaultOf}
+use Rattle.fed_audit.specs.Compare.{IsComparison}
+use Rattle.fed_audit.specs.declared.difference.Comparison.{Comparison}
+use Rattle.fed_audit.specs.declared.difference.Comparison.TheVariants as comes
+use Rattle.fed_audit.specs.declared.fault.AuditFault.{AuditFault}
 use Rattle.fed_print.specs.Lines.{line_of}
 use Rattle.fed_twin.specs.declared.fault.TwinFault.{TwinFault}
 use Rattle.fed_twin.specs.Compare.{IsQuietLength}
@@ -14,14 +19,18 @@ use Rattle.fed_twin.specs.Fault.{TwinFaultOf}
 use Rattle.fed_twin.specs.Script.{sign_in}
 use Rattle.fed_twin.specs.Twin.{Twin}
 use Rattle.fed_run.specs.declared.form.Form.{Form}
-use Rattle.fed_run.specs.declared.form.Form.TheVariants.{Run, Check, Twin as TwinForm, Make}
+use Rattle.fed_run.specs.declared.answer.Whole.{Whole}
+use Rattle.fed_run.specs.declared.answer.Whole.TheVariants as wholes
+use Rattle.fed_run.specs.declared.form.Form.TheVariants.{Run, Check, Twin as TwinForm, Audit, Compare, Make}
 use Rattle.fed_run.specs.declared.status.Status.{Status}
-use Rattle.fed_run.specs.declared.status.Status.TheVariants.{Done, BadScript, TooLong, NotTwins}
+use Rattle.fed_run.specs.declared.status.Status.TheVariants.{Done, BadScript, TooLong, NotTwins, Faulty, Differs}
 use Rattle.fed_run.specs.Checks.{check_status, check_written, ChecksOnly, ChecksAfter, ChecksShort}
 use Rattle.fed_run.specs.Make.{summary_text}
+use Rattle.fed_run.specs.Recorded.{Recorded, recorded_of, recorded_bad_within}
 use Rattle.fed_run.specs.Run.{run_status, run_written}
 use Rattle.fed_run.specs.Streams.{ReadsOnly, StopsAfter, FallsShort}
 use Rattle.fed_run.specs.Text.{pair_members, twins_members, not_twins_members}
+use Rattle.fed_run.specs.Text.{audited_members, faulty_members, alike_members, differs_members}
 
 -- ---- run
 
@@ -63,17 +72,70 @@ abbrev pub TellsPair : Result Pair PairStop → Status → List ℕ → Type 0
 TellsPair (Ok pair) status text = TellsScripts pair.first pair.second status text
 TellsPair (Err stop) status text = TellsStop stop status text
 
+-- ---- audit
+
+-- the answer for what an audit found of a transcript
+abbrev pub TellsVerdict : Recorded → Option AuditFault → Status → List ℕ → Type 0
+TellsVerdict recorded None status text =
+    (status ≡ Done) × (text ≡ line_of (audited_members (count_by (λ line. not (is_blank line)) recorded.lines)))
+TellsVerdict recorded (Some fault) status text = (status ≡ Faulty) × (text ≡ line_of (faulty_members fault))
+
+pub record TellsAudited (recorded : Recorded) (status : Status) (text : List ℕ) : Type 0 where
+  pub found : Option AuditFault
+  pub is_found : AuditFaultOf recorded.script recorded.first recorded.lines found
+  pub tells : TellsVerdict recorded found status text
+
+abbrev pub TellsAudit : Result Recorded PairStop → Status → List ℕ → Type 0
+TellsAudit (Ok recorded) status text = TellsAudited recorded status text
+TellsAudit (Err stop) status text = TellsStop stop status text
+
+-- ---- compare
+
+-- the answer for what a comparison of a transcript comes to
+abbrev pub TellsFinding : Comparison → Status → List ℕ → Type 0
+TellsFinding (comes.Alike requests) status text = (status ≡ Done) × (text ≡ line_of (alike_members requests))
+TellsFinding (comes.Differs difference) status text = (status ≡ Differs) × (text ≡ line_of (differs_members difference))
+
+pub record TellsCompared (recorded : Recorded) (status : Status) (text : List ℕ) : Type 0 where
+  pub comparison : Comparison
+  pub is_comparison : IsComparison recorded.script recorded.first recorded.lines comparison
+  pub tells : TellsFinding comparison status text
+
+abbrev pub TellsComparison : Result Recorded PairStop → Status → List ℕ → Type 0
+TellsComparison (Ok recorded) status text = TellsCompared recorded status text
+TellsComparison (Err stop) status text = TellsStop stop status text
+
+-- ---- the forms that read their source whole
+
+-- the form of the command line
+abbrev pub whole_form : Whole → Form
+whole_form wholes.Twin = TwinForm
+whole_form wholes.Audit = Audit
+whole_form wholes.Compare = Compare
+
+-- what is told of all bytes
+abbrev pub TellsAll : Whole → List ℕ → Status → List ℕ → Type 0
+TellsAll wholes.Twin bytes status text = TellsPair (pair_of bytes) status text
+TellsAll wholes.Audit bytes status text = TellsAudit (recorded_of bytes) status text
+TellsAll wholes.Compare bytes status text = TellsComparison (recorded_of bytes) status text
+
+-- the first bad line that ends within the limit
+abbrev pub bad_line_within : Whole → ℕ → List ℕ → Option PairStop
+bad_line_within wholes.Twin limit bytes = bad_within limit bytes
+bad_line_within wholes.Audit limit bytes = recorded_bad_within limit bytes
+bad_line_within wholes.Compare limit bytes = recorded_bad_within limit bytes
+
 -- the bytes are more than the limit: a bad line that ends within it is named
 abbrev pub TellsCut : Option PairStop → Status → List ℕ → Type 0
 TellsCut None status text = (status ≡ TooLong) × (text ≡ [])
 TellsCut (Some stop) status text = TellsStop stop status text
 
-abbrev pub EndsTwinBy : Bool → ℕ → List ℕ → Status → List ℕ → Type 0
-EndsTwinBy true limit bytes status text = TellsCut (bad_within limit bytes) status text
-EndsTwinBy false limit bytes status text = TellsPair (pair_of bytes) status text
+abbrev pub EndsWholeBy : Bool → Whole → ℕ → List ℕ → Status → List ℕ → Type 0
+EndsWholeBy true form limit bytes status text = TellsCut (bad_line_within form limit bytes) status text
+EndsWholeBy false form limit bytes status text = TellsAll form bytes status text
 
-abbrev pub EndsTwin : ℕ → List ℕ → Status → List ℕ → Type 0
-EndsTwin limit bytes status text = EndsTwinBy (nat_lt limit (length bytes)) limit bytes status text
+abbrev pub EndsWhole : Whole → ℕ → List ℕ → Status → List ℕ → Type 0
+EndsWhole form limit bytes status text = EndsWholeBy (nat_lt limit (length bytes)) form limit bytes status text
 
 -- ---- make
 
@@ -87,13 +149,22 @@ EndsMake calls status text = (status ≡ Done) × (text ≡ summary_text calls)
 abbrev pub Ends : ℕ → Form → List ℕ → Status → List ℕ → Type 0
 Ends limit Run bytes status text = EndsRun limit bytes status text
 Ends limit Check bytes status text = EndsCheck limit bytes status text
-Ends limit TwinForm bytes status text = EndsTwin limit bytes status text
+Ends limit TwinForm bytes status text = EndsWhole wholes.Twin limit bytes status text
+Ends limit Audit bytes status text = EndsWhole wholes.Audit limit bytes status text
+Ends limit Compare bytes status text = EndsWhole wholes.Compare limit bytes status text
 Ends limit (Make calls) bytes status text = EndsMake calls status text
 
 -- the form reads its source
 abbrev pub Reads : Option Form → Type 0
 Reads (Some (Make calls)) = ⊥
 Reads form = ⊤
+
+-- the form reads its source whole before it writes
+abbrev pub ReadsWhole : Option Form → Type 0
+ReadsWhole (Some TwinForm) = ⊤
+ReadsWhole (Some Audit) = ⊤
+ReadsWhole (Some Compare) = ⊤
+ReadsWhole form = ⊥
 
 -- what is so of a number of calls, where the form makes so many
 abbrev pub IfMakes : Option Form → (ℕ → Type 0) → Type 0
@@ -106,6 +177,8 @@ HasEnded Done = ⊤
 HasEnded BadScript = ⊤
 HasEnded TooLong = ⊤
 HasEnded NotTwins = ⊤
+HasEnded Faulty = ⊤
+HasEnded Differs = ⊤
 HasEnded _ = ⊥
 
 -- of bytes within the limit nothing was left

@@ -1,7 +1,14 @@
 -- The lines that no record of a step is.
-use Rattle.std.specs.Prelude.{ℕ, [], ◌∷◌, codes, Some, option_map}
+use Rattle.std.specs.Prelude.{ℕ, List, [], ◌∷◌, codes, Option, Some, None, option_map}
 use Rattle.serde_json.specs.Data.{string, Members}
-use Rattle.fed_print.specs.Objects.{count, present}
+use Rattle.base64.specs.Engines.{standard}
+use Rattle.base64.specs.GeneralPurpose.{encode_of}
+use Rattle.fed_audit.specs.declared.aspect.About.{About}
+use Rattle.fed_audit.specs.declared.difference.Difference.{Difference}
+use Rattle.fed_audit.specs.declared.fault.AuditFault.{AuditFault}
+use Rattle.fed_audit.specs.Words as audit
+use Rattle.fed_print.specs.Objects.{Named, count, present}
+use Rattle.fed_print.specs.Records.{ascii_text}
 use Rattle.fed_script.specs.declared.cause.LineCause.{LineCause}
 use Rattle.fed_script.specs.declared.cause.PairStop.{PairStop}
 use Rattle.fed_script.specs.Cause.{cause_text, member_named, name_text, pair_cause_text, pair_member_named}
@@ -45,6 +52,45 @@ not_twins_members fault = present
     ((codes "clause", Some (string (clause_text fault.clause)))
     ∷ (codes "event", Some (count fault.event))
     ∷ (codes "out", Some (string (codes "not-twins")))
+    ∷ [])
+
+-- the object of a transcript that keeps the rules, with the number of its records
+abbrev pub audited_members : ℕ → Members
+audited_members records = present
+    ((codes "out", Some (string (codes "audited"))) ∷ (codes "records", Some (count records)) ∷ [])
+
+-- the object of the first line that breaks one
+abbrev pub faulty_members : AuditFault → Members
+faulty_members fault = present
+    ((codes "clause", Some (string (audit.clause_text fault.clause)))
+    ∷ (codes "line", Some (count fault.line))
+    ∷ (codes "out", Some (string (codes "faulty")))
+    ∷ [])
+
+-- the object of a transcript that is this program's own, with the number of its requests
+abbrev pub alike_members : ℕ → Members
+alike_members requests = present
+    ((codes "out", Some (string (codes "alike"))) ∷ (codes "requests", Some (count requests)) ∷ [])
+
+-- the member of a value that is due: `due` where its bytes are below 128, else `due_raw` with their base64
+abbrev pub due_by : Option (List ℕ) → List ℕ → Named
+due_by (Some text) bytes = (codes "due", Some (string text))
+due_by None bytes = (codes "due_raw", Some (string (encode_of standard bytes)))
+
+abbrev pub due_member : Option (List ℕ) → Named
+due_member None = (codes "due", None)
+due_member (Some bytes) = due_by (ascii_text bytes) bytes
+
+-- the object of where a transcript first leaves this program's own
+abbrev pub differs_members : Difference → Members
+differs_members d = present
+    ((codes "call", option_map (λ (about : About). count about.call) d.about)
+    ∷ due_member d.due
+    ∷ (codes "kind", option_map (λ (about : About). string (audit.subject_text about.subject)) d.about)
+    ∷ (codes "line", Some (count d.line))
+    ∷ (codes "out", Some (string (codes "differs")))
+    ∷ (codes "provider", option_map (λ (about : About). count about.provider) d.about)
+    ∷ (codes "what", Some (string (audit.aspect_text d.aspect)))
     ∷ [])
 
 -- the object of the summary of so many calls and events

@@ -3,16 +3,19 @@ use Rattle.std.specs.Prelude.{ℕ, ◌≤◌, nat_lt, Bool, ◌&&◌, List, [], 
 use Rattle.std.specs.Prelude.{if◌then◌else◌}
 use Rattle.std.specs.Str.Parse.{digits_value}
 use Rattle.fed_run.specs.declared.form.Form.{Form}
-use Rattle.fed_run.specs.declared.form.Form.TheVariants.{Run, Check, Twin, Make}
+use Rattle.fed_run.specs.declared.form.Form.TheVariants.{Run, Check, Twin, Audit, Compare, Make}
 use Rattle.fed_run.specs.declared.status.Status.{Status}
 use Rattle.fed_run.specs.declared.status.Status.TheVariants.{Done, Usage, BadScript, ReadFault, WriteFault, NoRoom, TooLong, NotTwins}
+use Rattle.fed_run.specs.declared.status.Status.TheVariants.{Faulty, Differs}
 
 -- the form of one word
 abbrev pub form_named : List ℕ → Option Form
 form_named word =
     if bytes_eq word (codes "run") then Some Run
     else (if bytes_eq word (codes "check") then Some Check
-    else (if bytes_eq word (codes "twin") then Some Twin else None))
+    else (if bytes_eq word (codes "twin") then Some Twin
+    else (if bytes_eq word (codes "audit") then Some Audit
+    else (if bytes_eq word (codes "compare") then Some Compare else None))))
 
 -- so many calls may be made
 abbrev pub may_make : ℕ → Bool
@@ -56,3 +59,5 @@ exit_code WriteFault = 4
 exit_code NoRoom = 5
 exit_code TooLong = 6
 exit_code NotTwins = 7
+exit_code Faulty = 8
+exit_code Differs = 10

@@ -214,7 +214,8 @@ fn check_all<S: Source, K: Sink>(
 /// a piece is put before the next is taken, so that neither the script nor the text is kept.
 #[inline(never)]
 pub fn check<S: Source, K: Sink>(alloc: Global, source: &mut S, sink: &mut K) -> Status
-    ensures ends { (result ≡ Status.Usage → ⊥) × (result ≡ Status.NotTwins → ⊥) }
+    ensures ends { (result ≡ Status.Usage → ⊥) × (result ≡ Status.NotTwins → ⊥) × (result ≡ Status.Faulty → ⊥)
+        × (result ≡ Status.Differs → ⊥) }
     ensures done { result ≡ Status.Done → IsAtEnd (S.left source.new)
         × IfSome (S.left source.old) (λ bytes. Writes LIMIT (Some Check) bytes Status.Done (K.taken sink.old) (K.taken sink.new)) }
     ensures bad_script { result ≡ Status.BadScript → IsAtEnd (S.left source.new)

@@ -15,6 +15,10 @@ pub enum Form {
     Check,
     /// The word `twin`: whether two scripts are twins, and how far they are compared.
     Twin,
+    /// The word `audit`: whether a transcript that another program wrote for a script keeps the rules.
+    Audit,
+    /// The word `compare`: where such a transcript first leaves this program's own.
+    Compare,
     /// The words `make N`: the summary of a script of `N` calls, from 1 to 20,000.
     Make(u32),
 }
@@ -27,6 +31,8 @@ fn form_named(word: &str) -> Option<Form>
         "run" => Some(Form::Run),
         "check" => Some(Form::Check),
         "twin" => Some(Form::Twin),
+        "audit" => Some(Form::Audit),
+        "compare" => Some(Form::Compare),
         _ => None,
     }
 }

@@ -2,7 +2,10 @@
 #![tactic(auto)]
 
 mod answer;
+mod audit;
 mod check;
+mod compare;
+mod differs;
 mod form;
 pub mod laws;
 mod make;
@@ -11,6 +14,7 @@ mod pieces;
 mod print;
 mod ran;
 mod read;
+mod recorded;
 mod run;
 mod status;
 mod stop;

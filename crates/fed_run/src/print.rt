@@ -1,4 +1,4 @@
-//! The lines of the end, of a bad script and of a test of twins.
+//! The lines of the end, of a bad script, of a test of twins and of an audit.
 ghost use Rattle.std.specs.Prelude.{◌≡◌, ◌++◌, OnOk, OnErr, option_map};
 ghost use Rattle.std.specs.Option.{option_copied};
 ghost use Rattle.fed_print.specs.Lines.{line_of};
@@ -6,6 +6,7 @@ ghost use Rattle.fed_script.specs.Cause.{member_named, name_text, pair_member_na
 ghost use Rattle.fed_run.specs.Checks.{finding_members, unread_members};
 ghost use Rattle.fed_run.specs.Text as spec;
 
+use fed_audit::AuditFault;
 use fed_check::Finding;
 use fed_io::NoRoom;
 use fed_print::Object;
@@ -125,5 +126,40 @@ pub fn print_not_twins(alloc: Global, fault: TwinFault, text: &mut Vec<u8>) -> R
         .text("clause", fault.clause.as_str())?
         .count("event", fault.event)?
         .text("out", "not-twins")?
+        .append_line(text)
+}
+
+/// Appends the line for a transcript that keeps the rules, with the number of its records. On want of memory the text is unchanged.
+pub fn print_audited(alloc: Global, records: u64, text: &mut Vec<u8>) -> Result<(), NoRoom>
+    ensures ok { OnOk result (text.new.items ≡ text.old.items ++ line_of (spec.audited_members records)) }
+    ensures err { OnErr result (text.new.items ≡ text.old.items) }
+{
+    Object::new(alloc)
+        .text("out", "audited")?
+        .total("records", records)?
+        .append_line(text)
+}
+
+/// Appends the line for the first line of a transcript that breaks a rule. On want of memory the text is unchanged.
+pub fn print_faulty(alloc: Global, fault: AuditFault, text: &mut Vec<u8>) -> Result<(), NoRoom>
+    ensures ok { OnOk result (text.new.items ≡ text.old.items ++ line_of (spec.faulty_members fault)) }
+    ensures err { OnErr result (text.new.items ≡ text.old.items) }
+{
+    Object::new(alloc)
+        .text("clause", fault.clause.as_str())?
+        .count("line", fault.line)?
+        .text("out", "faulty")?
+        .append_line(text)
+}
+
+/// Appends the line for a transcript that is this program's own, with the number of its requests. On want of memory the text is
+/// unchanged.
+pub fn print_alike(alloc: Global, requests: u64, text: &mut Vec<u8>) -> Result<(), NoRoom>
+    ensures ok { OnOk result (text.new.items ≡ text.old.items ++ line_of (spec.alike_members requests)) }
+    ensures err { OnErr result (text.new.items ≡ text.old.items) }
+{
+    Object::new(alloc)
+        .text("out", "alike")?
+        .total("requests", requests)?
         .append_line(text)
 }

@@ -20,6 +20,10 @@ pub enum Status {
     TooLong,
     /// Two scripts are not twins.
     NotTwins,
+    /// A record of a transcript breaks a rule.
+    Faulty,
+    /// A transcript leaves this program's own.
+    Differs,
 }
 
 impl Status {
@@ -38,6 +42,8 @@ impl Status {
             Status::NoRoom => 5,
             Status::TooLong => 6,
             Status::NotTwins => 7,
+            Status::Faulty => 8,
+            Status::Differs => 10,
         }
     }
 }

@@ -92,7 +92,8 @@ pub fn run<S: Source, K: Sink, L: Ledger>(
     sink: &mut K,
     steps: &mut Steps<L>,
 ) -> Status
-    ensures ends { (result ≡ Status.Usage → ⊥) × (result ≡ Status.NotTwins → ⊥) }
+    ensures ends { (result ≡ Status.Usage → ⊥) × (result ≡ Status.NotTwins → ⊥) × (result ≡ Status.Faulty → ⊥)
+        × (result ≡ Status.Differs → ⊥) }
     ensures done { result ≡ Status.Done → IsAtEnd (S.left source.new)
         × IfSome (S.left source.old) (λ bytes. Writes LIMIT (Some Run) bytes Status.Done (K.taken sink.old) (K.taken sink.new)) }
     ensures bad_script { result ≡ Status.BadScript

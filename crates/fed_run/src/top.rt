@@ -2,13 +2,13 @@
 ghost use Rattle.std.specs.Prelude.{◌≡◌, ◌≤◌, ◌+◌, ◌↔◌, ◌⊎◌, length, IsSome, Some, None, IfSome};
 ghost use Rattle.std.specs.Io.KnownBytes.{Appends, Keeps, IsAtEnd};
 ghost use Rattle.fed_io.specs.Io.{Rose};
-ghost use Rattle.fed_run.specs.declared.form.Form.TheVariants.{Check, Twin};
-ghost use Rattle.fed_run.specs.Ends.{EndsAs, Writes, Reads, IfMakes, ReadFaultLeaves, WriteFaultLeaves, NoRoomLeaves};
+ghost use Rattle.fed_run.specs.declared.form.Form.TheVariants.{Audit, Check, Compare, Twin};
+ghost use Rattle.fed_run.specs.Ends.{EndsAs, Writes, Reads, ReadsWhole, IfMakes, ReadFaultLeaves, WriteFaultLeaves, NoRoomLeaves};
 ghost use Rattle.fed_run.specs.Make.{summary_text};
 ghost use Rattle.fed_run.specs.Run.{TakesAtMost, TakesExactly, NoneRose};
 ghost use Rattle.fed_run.specs.Words.{form_of as form};
 
-use crate::answer::tell_twins;
+use crate::answer::{Whole, tell};
 use crate::check::check;
 use crate::form::{Form, form_of};
 use crate::read::LIMIT;
@@ -21,8 +21,9 @@ use std::sync::ledger::Ledger;
 
 /// Runs the program over a source and a sink: `words` are those of the command line without the program's name. At most
 /// 67,108,864 bytes of the source are read. With `run` the transcript of a script is written as it is read, and with `check` what is
-/// found in it; with `twin` the source is read whole, and then it is written whether two scripts are twins; with `make N` the source is
-/// not read, and the summary of a script of `N` calls is written.
+/// found in it; with `twin` the source is read whole, and then it is written whether two scripts are twins, and with `audit` so whether a
+/// transcript that another program wrote for a script keeps the rules, with `compare` where it first leaves this program's own; with
+/// `make N` the source is not read, and the summary of a script of `N` calls is written.
 pub fn fedcm<S: Source, K: Sink, L: Ledger>(
     alloc: Global,
     words: &[Text],
@@ -35,7 +36,8 @@ pub fn fedcm<S: Source, K: Sink, L: Ledger>(
     ensures untouched { result ≡ Status.Usage → (source.new ≡ source.old) × (sink.new ≡ sink.old) × (steps.new ≡ steps.old) }
 
     // The sink took the whole text. Where the form reads a source, it was read to its end, and its bytes are within the limit
-    // and a script, or two scripts that are twins.
+    // and a script, two scripts that are twins, or a script and a transcript of which each record keeps the rules, or which is
+    // this program's own.
     ensures done { result ≡ Status.Done → (Reads (form words.now) → IsAtEnd (S.left source.new))
         × IfSome (S.left source.old) (λ bytes. Writes LIMIT (form words.now) bytes Status.Done (K.taken sink.old) (K.taken sink.new)) }
 
@@ -48,18 +50,26 @@ pub fn fedcm<S: Source, K: Sink, L: Ledger>(
     ensures not_twins { result ≡ Status.NotTwins → IsAtEnd (S.left source.new)
         × IfSome (S.left source.old) (λ bytes. Writes LIMIT (form words.now) bytes Status.NotTwins (K.taken sink.old) (K.taken sink.new)) }
 
-    // A line is bad, or is missing where two scripts are read, and the sink took the whole text; of two scripts within the
-    // limit all bytes were read.
+    // The source was read to its end, and a record of its transcript breaks a rule.
+    ensures faulty { result ≡ Status.Faulty → IsAtEnd (S.left source.new)
+        × IfSome (S.left source.old) (λ bytes. Writes LIMIT (form words.now) bytes Status.Faulty (K.taken sink.old) (K.taken sink.new)) }
+
+    // The source was read to its end, and its transcript leaves this program's own.
+    ensures differs { result ≡ Status.Differs → IsAtEnd (S.left source.new)
+        × IfSome (S.left source.old) (λ bytes. Writes LIMIT (form words.now) bytes Status.Differs (K.taken sink.old) (K.taken sink.new)) }
+
+    // A line is bad, or is missing where a line divides the source, and the sink took the whole text; of a source within the
+    // limit that is read whole all bytes were read.
     ensures bad_script { result ≡ Status.BadScript → IfSome (S.left source.old)
-        (λ bytes. (form words.now ≡ Some Twin → length bytes ≤ LIMIT → IsAtEnd (S.left source.new))
+        (λ bytes. (ReadsWhole (form words.now) → length bytes ≤ LIMIT → IsAtEnd (S.left source.new))
         × Writes LIMIT (form words.now) bytes Status.BadScript (K.taken sink.old) (K.taken sink.new)) }
 
     // With `check` the source was read to its end then.
     ensures bad_check { form words.now ≡ Some Check → result ≡ Status.BadScript → IsAtEnd (S.left source.new) }
 
-    // With `run` and `twin` no line is bad that ends within the limit. With `run` what the lines within it say is written, with
-    // `check` what is found in them, with `twin` nothing.
-    ensures too_long { result ≡ Status.TooLong → (form words.now ≡ Some Twin → Keeps (K.taken sink.old) (K.taken sink.new))
+    // But for `check` no line is bad that ends within the limit. With `run` what the lines within it say is written, with `check`
+    // what is found in them, else nothing.
+    ensures too_long { result ≡ Status.TooLong → (ReadsWhole (form words.now) → Keeps (K.taken sink.old) (K.taken sink.new))
         × IfSome (S.left source.old) (λ bytes. Writes LIMIT (form words.now) bytes Status.TooLong (K.taken sink.old) (K.taken sink.new)) }
 
     // The bytes up to the limit and one more were taken.
@@ -84,8 +94,10 @@ pub fn fedcm<S: Source, K: Sink, L: Ledger>(
         → NoneRose (K.faults sink.old) (K.faults sink.new)
         → IfSome (S.left source.old) (λ bytes. EndsAs LIMIT (form words.now) bytes result ⊎ (result ≡ Status.NoRoom)) }
 
-    // No other form compares scripts.
+    // No other form compares scripts, audits, or compares transcripts.
     ensures twin_alone { result ≡ Status.NotTwins → form words.now ≡ Some Twin }
+    ensures audit_alone { result ≡ Status.Faulty → form words.now ≡ Some Audit }
+    ensures compare_alone { result ≡ Status.Differs → form words.now ≡ Some Compare }
 
     ensures takes { TakesAtMost (S.left source.old) (S.left source.new) (LIMIT + 1) }
     ensures source_faults { S.faults source.old ≤ S.faults source.new }
@@ -96,7 +108,9 @@ pub fn fedcm<S: Source, K: Sink, L: Ledger>(
         None => Status::Usage,
         Some(Form::Run) => run(alloc, source, sink, steps),
         Some(Form::Check) => check(alloc, source, sink),
-        Some(Form::Twin) => tell_twins(alloc, source, sink),
+        Some(Form::Twin) => tell(alloc, Whole::Twin, source, sink),
+        Some(Form::Audit) => tell(alloc, Whole::Audit, source, sink),
+        Some(Form::Compare) => tell(alloc, Whole::Compare, source, sink),
         Some(Form::Make(calls)) => tell_summary(alloc, calls, sink, steps),
     }
 }

@@ -4,27 +4,15 @@ ghost use Rattle.fed_script.specs.Pair.{pair_of, bad_within};
 ghost use Rattle.fed_twin.specs.Twin.{Twin};
 ghost use Rattle.fed_print.specs.Lines.{line_of};
 ghost use Rattle.fed_run.specs.Text.{not_twins_members};
-ghost use Rattle.fed_run.specs.Ends.{TellsTwins, TellsScripts, TellsStop, TellsPair, TellsCut};
+ghost use Rattle.fed_run.specs.Ends.{TellsTwins, TellsScripts, TellsPair, TellsCut};
 
-use crate::print::{print_not_twins, print_pair_bad, print_twins};
-use crate::ran::Ran;
+use crate::print::{print_not_twins, print_twins};
+use crate::ran::{Ran, stopped};
 use crate::status::Status;
 use fed_io::{Fault, NoRoom};
-use fed_script::{PairStop, Script, bad_line_in, read_pair};
+use fed_script::{Script, bad_line_in, read_pair};
 use fed_twin::{TwinFault, compare, twin_fault};
 use std::alloc::Global;
-
-// A line is bad or missing.
-fn stopped(alloc: Global, stop: PairStop) -> Result<Ran, NoRoom>
-    ensures { IfOk result (λ ran. TellsStop stop ran.status ran.text.items) }
-{
-    let mut text = Vec::new(alloc);
-    print_pair_bad(alloc, stop, &mut text)?;
-    Ok(Ran {
-        text,
-        status: Status::BadScript,
-    })
-}
 
 // Two scripts are no twins.
 fn not_twins(alloc: Global, fault: TwinFault) -> Result<Ran, NoRoom>

@@ -5,6 +5,7 @@ ghost use Rattle.fed_disconnect.specs.State.{disconnect_facts_of};
 ghost use Rattle.fed_status.specs.Shared.{world_of};
 ghost use Rattle.fed_trace.specs.Begun.{is_get};
 ghost use Rattle.fed_trace.specs.Call.{Known, OfGet, OfDisconnect, kind_of, page_of};
+ghost use Rattle.fed_session.specs.Account.{account_known};
 ghost use Rattle.fed_session.specs.StepParts.{known_of, awaited_in, stage_in, outcome_at, kept_next};
 
 use fed_call::CallState;
@@ -94,6 +95,16 @@ impl Pending {
     {
         match self {
             Pending::Get(state) => state.waits_for(),
+            Pending::Disconnect(_) => None,
+        }
+    }
+
+    /// The id of the account whose token is awaited; none of another call. It takes no memory.
+    pub(crate) fn account(&self) -> Option<&str>
+        ensures { option_copied result ≡ account_known (known_of self.now) }
+    {
+        match self {
+            Pending::Get(state) => state.account(),
             Pending::Disconnect(_) => None,
         }
     }

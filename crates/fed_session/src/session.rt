@@ -1,17 +1,20 @@
 //! One event at a time.
 ghost use Rattle.std.specs.Prelude.{◌≡◌, ◌<◌, ◌≤◌, ◌+◌, ◌*◌, ℕ, OnOk, nat_eq, [], length, is_some, true, false, IfOk, OnErr, IsErr};
+ghost use Rattle.std.specs.Option.{option_copied};
 ghost use Rattle.std.specs.List.{list_any};
 ghost use Rattle.std.specs.Map.{lookup};
 ghost use Rattle.fed_script.specs.declared.event.Event.TheVariants as events;
 ghost use Rattle.fed_script.specs.Used.{HasProviders, HasKnownStatus, SaysKnown};
-ghost use Rattle.fed_trace.specs.Known.{input_of};
+ghost use Rattle.fed_call.specs.Account.{account_awaited};
+ghost use Rattle.fed_jar.specs.Send.{jar_text};
+ghost use Rattle.fed_trace.specs.Known.{facts_at, input_of};
 ghost use Rattle.fed_trace.specs.Records.{records};
 ghost use Rattle.fed_trace.specs.Row.{row_of, with_event};
 ghost use Rattle.fed_table.specs.Table.{page_calls, waiting_for, node_in};
 ghost use Rattle.fed_session.specs.Links.{most_steps, resumed_calls, AreLinked};
 ghost use Rattle.fed_session.specs.Session.{Stands, Shows, IsFresh};
 ghost use Rattle.fed_session.specs.StepParts.{revived, stepped};
-ghost use Rattle.fed_trace.specs.Trace.{Trace, pending_of, page_at};
+ghost use Rattle.fed_trace.specs.Trace.{Trace, pending_of, page_at, now_at, cookies};
 ghost use Rattle.fed_trace.specs.Windows.{windows_of};
 
 use crate::disconnect::disconnect;
@@ -25,7 +28,7 @@ use crate::tabs::Tabs;
 use crate::view::{View, shown_flags, shown_logins};
 use fed_io::{Bytes, Items, NoRoom, Steps, Text};
 use fed_links::Links;
-use fed_origin::{GetOptions, WebUrl};
+use fed_origin::{GetOptions, Origin, WebUrl};
 use fed_script::{Event, Have, Header};
 use fed_trace::Out;
 use std::alloc::Global;
@@ -371,6 +374,32 @@ impl Session {
         ensures linked { (T : Trace) → Stands self.now T → AreLinked self.now.tabs.table.links self.now.tabs.table.nodes T }
     {
         self.tabs.node_of(call)
+    }
+
+    /// The Cookie field of a request to the URL now, empty where no cookie goes. A dead session answers want of memory.
+    pub fn cookie_text(&self, url: &WebUrl) -> Result<Bytes, NoRoom>
+        ensures text { (T : Trace) → Stands self.now T
+            → IfOk result (λ text. text ≡ jar_text T.header.rules url.now (now_at T) (cookies T)) }
+        ensures stays_dead { self.now.alive ≡ false → IsErr result }
+    {
+        if !self.alive {
+            return Err(NoRoom);
+        }
+        self.sight.cookies.text(self.alloc, url, self.sight.time)
+    }
+
+    /// The origin of a page; `None` where it does not stand. It takes no memory.
+    pub fn page_origin(&self, page: u32) -> Option<&Origin>
+        ensures { (T : Trace) → Stands self.now T → option_copied result ≡ page_at T page }
+    {
+        self.tabs.origin(page)
+    }
+
+    /// The id of the account whose token a get awaits; `None` of another call. It takes no memory.
+    pub fn account(&self, call: u32) -> Option<&str>
+        ensures { (T : Trace) → Stands self.now T → option_copied result ≡ account_awaited (facts_at T call) }
+    {
+        self.tabs.account(call)
     }
 
     /// What stands now. A dead session answers want of memory.

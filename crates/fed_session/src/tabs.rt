@@ -10,6 +10,7 @@ ghost use Rattle.fed_table.specs.Lists.{all_without, with_key, with_last, emptie
 ghost use Rattle.fed_table.specs.Table.{has_page, has_call, item_of, page_calls, waiting_for, node_in, ChangesItem, IsCallTable};
 ghost use Rattle.fed_trace.specs.Begun.{is_get};
 ghost use Rattle.fed_trace.specs.Call.{Known};
+ghost use Rattle.fed_session.specs.Account.{account_known};
 ghost use Rattle.fed_session.specs.Session.{item_known, no_table};
 ghost use Rattle.fed_session.specs.StepParts.{get_but, awaits, awaited_in};
 ghost use Rattle.fed_session.specs.Tabs.{ChangesGet, Ends, Begins, Enters, Stays, Waits, Leaves, GoesOn, waits_next};
@@ -327,6 +328,13 @@ impl Tabs {
     {
         self.table.are_lists();
         self.table.node_of(call)
+    }
+
+    /// The id of the account whose token a call awaits; none of another call. It takes no memory.
+    pub(crate) fn account(&self, call: u32) -> Option<&str>
+        ensures { option_copied result ≡ account_known (item_known self.now.table.items call) }
+    {
+        self.table.get(call)?.state.account()
     }
 
     /// The pages that stand, with their origins, in order of entering.

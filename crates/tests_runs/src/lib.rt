@@ -2,9 +2,13 @@
 #![tactic(auto)]
 
 #[cfg(test)]
+mod audits;
+#[cfg(test)]
 mod calls;
 #[cfg(test)]
 mod checks;
+#[cfg(test)]
+mod compares;
 #[cfg(test)]
 mod dialogs;
 #[cfg(test)]

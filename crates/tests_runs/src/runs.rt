@@ -82,6 +82,8 @@ pub fn word_of(status: Status) -> &'static str {
         Status::ReadFault => "read-fault",
         Status::WriteFault => "write-fault",
         Status::NotTwins => "not-twins",
+        Status::Faulty => "faulty",
+        Status::Differs => "differs",
         Status::NoRoom | Status::TooLong => "",
     }
 }

@@ -1,11 +1,11 @@
 -- How a check ends.
 use Rattle.std.proofs.Common.{◌≡◌, ◌∙◌, ℕ, ◌+◌, ◌-◌, ◌<◌, ◌≤◌, ltb, lt-ltb, le-ltb, Bool, true, false, cond, List, [], ◌∷◌, ◌++◌, length, take, drop}
-use Rattle.std.proofs.Common.{Some, None, inl, inr, refl, ap, sym, subst, arith, rules, append_assoc, append-nil, length-append, take-append-drop}
+use Rattle.std.proofs.Common.{Some, inl, inr, refl, ap, sym, subst, arith, rules, append_assoc, length-append, take-append-drop}
 use Rattle.std.proofs.KnownBytes.{Consumes-whole, Consumes-trans}
 use Rattle.std.proofs.Math.Seq.{take-append_seam}
 use Rattle.std.proofs.lemmas.List.{take-append-le, length-take}
 use Rattle.std.proofs.lemmas.Option.{IfSome_then}
-use Rattle.std.specs.Io.KnownBytes.{Appends, Consumes, IsAtEnd}
+use Rattle.std.specs.Io.KnownBytes.{Appends, Consumes}
 use Rattle.std.specs.Prelude.{Option, IfSome, ◌⊎◌, ⊤}
 use Rattle.fed_io.specs.Io.{IsPrefixOf, AppendsLess}
 use Rattle.fed_check.specs.Check.{findings, has_bad}
@@ -17,7 +17,7 @@ use Rattle.fed_run.specs.Checks.{checked_text, check_text, check_status, check_s
 use Rattle.fed_run.specs.Checks.{CheckedEnd, CheckedLong, CheckedWhole, CheckEnds}
 use Rattle.fed_run.specs.Ends.{EndsAs, Writes}
 use Rattle.fed_run.specs.Run.{TakesExactly}
-use Rattle.fed_run.specs.Streams.{Took, all_but}
+use Rattle.fed_run.specs.Streams.{Took}
 use Rattle.fed_run.proofs.streams.Endings.{take_front, of_source}
 use Rattle.fed_run.proofs.streams.Fronts.{prefix-trans, less-longer}
 use Rattle.fed_run.proofs.checks.Texts.{checked-prefix, checked-whole}

@@ -1,22 +1,21 @@
 -- A check goes on by a piece.
-use Rattle.std.proofs.Common.{◌≡◌, ◌∙◌, ℕ, ◌+◌, ◌-◌, ◌≤◌, Bool, true, false, ◌||◌, List, [], ◌∷◌, ◌++◌, length, take, Some, None, inl, inr}
-use Rattle.std.proofs.Common.{refl, ap, ap₂, sym, subst, arith, append-nil, length-append}
+use Rattle.std.proofs.Common.{◌≡◌, ◌∙◌, ℕ, ◌+◌, ◌≤◌, Bool, false, ◌||◌, List, [], ◌++◌, length, take, inl}
+use Rattle.std.proofs.Common.{refl, ap, sym, subst, arith, length-append}
 use Rattle.std.proofs.KnownBytes.{Appends-trans, Appends-nil, Consumes-trans}
 use Rattle.std.proofs.lemmas.List.{take-append-le, length-take}
-use Rattle.std.specs.Io.KnownBytes.{Appends, Consumes, IsAtEnd}
-use Rattle.std.specs.Prelude.{Option, Result, Err}
+use Rattle.std.specs.Io.KnownBytes.{Appends, Consumes}
+use Rattle.std.specs.Prelude.{Option, Err}
 use Rattle.std.specs.Result.{IsErrOf}
 use Rattle.fed_io.specs.Io.{IsPrefixOf, AppendsFront, AppendsLess}
 use Rattle.fed_check.specs.declared.finding.Finding.{Finding}
-use Rattle.fed_check.specs.declared.stage.Stage.TheVariants.{Head}
-use Rattle.fed_check.specs.Check.{findings, ended_findings, has_bad}
+use Rattle.fed_check.specs.Check.{ended_findings, has_bad}
 use Rattle.fed_check.specs.Stage.{CheckerParts, HasChecked, HasRoom, Checks, Finishes}
 use Rattle.fed_run.specs.declared.status.Status.{Status}
 use Rattle.fed_run.specs.declared.stop.Stop.{Stop}
 use Rattle.fed_run.specs.declared.stop.Stop.TheVariants as stops
 use Rattle.fed_run.specs.Checks.{findings_text, checked_text, check_text, check_status_by, ChecksOnly, ChecksAfter, ChecksAs}
 use Rattle.fed_run.specs.Checks.{IsCheckedTo, CheckedWhole, CheckedLong}
-use Rattle.fed_run.specs.Streams.{Took, all_but}
+use Rattle.fed_run.specs.Streams.{Took}
 use Rattle.fed_run.proofs.streams.Fronts.{prefix-refl, prefix-trans, prefix-onto, less-onto}
 use Rattle.fed_run.proofs.streams.Lines.{all_but-front, one_taken}
 use Rattle.fed_run.proofs.checks.Texts.{findings_text-append, has_bad-append, checked-append, checked-prefix, checked-all}

@@ -1,12 +1,12 @@
 -- The texts of what is found.
-use Rattle.std.proofs.Common.{◌≡◌, ◌∙◌, ℕ, ◌+◌, ◌≤◌, ◌<◌, Bool, true, false, List, [], ◌∷◌, ◌++◌, length, drop, get_or, refl, ap, sym, subst}
+use Rattle.std.proofs.Common.{◌≡◌, ◌∙◌, ℕ, ◌+◌, ◌≤◌, ◌<◌, List, [], ◌∷◌, ◌++◌, length, drop, get_or, refl, ap, sym, subst}
 use Rattle.std.proofs.Common.{append_assoc, append-nil, ◌||◌}
 use Rattle.std.proofs.lemmas.List.{drop_more, drop_all}
 use Rattle.std.proofs.lemmas.List.Folds.{list_any-append}
 use Rattle.fed_io.specs.Io.{IsPrefixOf}
 use Rattle.fed_script.specs.Pieces.{whole_lines, rest_of}
 use Rattle.fed_script.specs.Script.{lines_of}
-use Rattle.fed_script.proofs.pieces.Whole.{whole_lines-append, lines_of-append, last_line, lines_of-pieces}
+use Rattle.fed_script.proofs.pieces.Whole.{whole_lines-append, lines_of-append}
 use Rattle.fed_check.specs.declared.finding.Finding.{Finding}
 use Rattle.fed_check.specs.declared.stage.Stage.TheVariants.{Head}
 use Rattle.fed_check.specs.Check.{found_in_lines, found_in_script, findings, ended_findings, is_bad, has_bad}

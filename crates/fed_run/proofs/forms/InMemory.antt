@@ -1,14 +1,14 @@
 -- Where a form ends over a source that doesn't fail and a sink that fails only where it is full.
-use Rattle.std.proofs.Common.{◌≡◌, ◌∙◌, ◌+◌, ◌≤◌, ℕ, List, ◌++◌, length, Some, None, inl, inr, refl, ap, sym, subst, arith, rules, length-append}
-use Rattle.std.specs.Io.KnownBytes.{Appends, IsAtEnd}
+use Rattle.std.proofs.Common.{◌≡◌, ◌∙◌, ◌+◌, ◌≤◌, ℕ, List, length, Some, None, inl, inr, refl, ap, subst, arith, rules, length-append}
 use Rattle.std.specs.Prelude.{Option, ◌⊎◌, IsSome}
 use Rattle.fed_io.specs.Io.{AppendsLess, Rose}
 use Rattle.fed_run.specs.declared.form.Form.{Form}
-use Rattle.fed_run.specs.declared.form.Form.TheVariants.{Run, Check, Twin, Make}
+use Rattle.fed_run.specs.declared.form.Form.TheVariants.{Run, Check, Twin, Audit, Compare, Make}
 use Rattle.fed_run.specs.declared.status.Status.{Status}
-use Rattle.fed_run.specs.declared.status.Status.TheVariants.{Done, Usage, BadScript, ReadFault, WriteFault, NoRoom, TooLong, NotTwins}
+use Rattle.fed_run.specs.declared.status.Status.TheVariants.{Done, Usage, BadScript, ReadFault, WriteFault, NoRoom, TooLong, NotTwins, Faulty}
+use Rattle.fed_run.specs.declared.status.Status.TheVariants.{Differs}
 use Rattle.fed_run.specs.Checks.{check_status, check_written}
-use Rattle.fed_run.specs.Ends.{EndsAs, Writes, WriteFaultLeaves}
+use Rattle.fed_run.specs.Ends.{Writes, WriteFaultLeaves}
 use Rattle.fed_run.specs.Make.{summary_text}
 use Rattle.fed_run.specs.Memory.{HasRoomFor}
 use Rattle.fed_run.specs.Run.{run_status, run_written}
@@ -39,6 +39,10 @@ never-full (Some (Make calls)) bytes start taken left' room some fits leaves ful
     (fits Done (record { is = Make calls; named = refl; text = summary_text calls; ends = (refl, refl) })) full
 never-full (Some Twin) bytes start taken left' room some fits leaves full =
     room-left start taken _ room leaves.took (fits leaves.status leaves.ends) full
+never-full (Some Audit) bytes start taken left' room some fits leaves full =
+    room-left start taken _ room leaves.took (fits leaves.status leaves.ends) full
+never-full (Some Compare) bytes start taken left' room some fits leaves full =
+    room-left start taken _ room leaves.took (fits leaves.status leaves.ends) full
 
 -- how it ends, where the source never fails and the sink only where it is full
 pub completes : (form : Option Form) (bytes start taken : List ℕ) (left' : Option (List ℕ)) (room : ℕ) (status : Status) → IsSome form
@@ -46,12 +50,14 @@ pub completes : (form : Option Form) (bytes start taken : List ℕ) (left' : Opt
     → (status ≡ Usage → form ≡ None)
     → (status ≡ Done → Writes 67108864 form bytes Done (Some start) (Some taken))
     → (status ≡ NotTwins → Writes 67108864 form bytes NotTwins (Some start) (Some taken))
+    → (status ≡ Faulty → Writes 67108864 form bytes Faulty (Some start) (Some taken))
+    → (status ≡ Differs → Writes 67108864 form bytes Differs (Some start) (Some taken))
     → (status ≡ BadScript → Writes 67108864 form bytes BadScript (Some start) (Some taken))
     → (status ≡ TooLong → Writes 67108864 form bytes TooLong (Some start) (Some taken))
     → (status ≡ ReadFault → ⊥)
     → (status ≡ WriteFault → (length taken ≡ length start + room) × WriteFaultLeaves 67108864 form (Some bytes) left' (Some start) (Some taken))
     → Writes 67108864 form bytes status (Some start) (Some taken) ⊎ (status ≡ NoRoom)
-completes form bytes start taken left' room status some fits usage done not bad long read write = by status refl
+completes form bytes start taken left' room status some fits usage done not faulty differs bad long read write = by status refl
   where
     by : (s : Status) → status ≡ s → Writes 67108864 form bytes s (Some start) (Some taken) ⊎ (s ≡ NoRoom)
     by Done is = inl (done is)
@@ -62,6 +68,8 @@ completes form bytes start taken left' room status some fits usage done not bad 
     by NoRoom is = inr refl
     by TooLong is = inl (long is)
     by NotTwins is = inl (not is)
+    by Faulty is = inl (faulty is)
+    by Differs is = inl (differs is)
 
 -- ---- counts of faults that stand at 0
 

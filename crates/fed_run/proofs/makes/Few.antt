@@ -2,7 +2,7 @@
 use Rattle.std.proofs.Common.{◌≡◌, ℕ, suc, ◌+◌, ◌≤◌, Bool, true, false, cond, List, [], ◌∷◌, ◌++◌, length, Option, Some, None, Result, Ok, Err}
 use Rattle.std.proofs.Common.{refl, sym, ap, subst, ◌∙◌, length-append, append-nil, arith, lit≤}
 use Rattle.std.proofs.lemmas.List.Elements.{filter_map-append}
-use Rattle.std.specs.List.{filter_map, cons_option, flat_map}
+use Rattle.std.specs.List.{flat_map}
 use Rattle.std.specs.Prelude.{filter, nat_eq, ⊤}
 use Rattle.url.specs.Parts.{Parts}
 use Rattle.fed_origin.specs.declared.origin.Origin.{Origin}
@@ -32,15 +32,14 @@ use Rattle.fed_disconnect.specs.Rows as disconnect
 use Rattle.fed_script.specs.declared.event.Event.{Event}
 use Rattle.fed_script.specs.declared.event.Event.TheVariants as events
 use Rattle.fed_script.specs.Used.{HasProviders}
-use Rattle.fed_trace.specs.declared.out.Out.{Out}
 use Rattle.fed_trace.specs.Begun.{CallKind, CallOptions, ToGet, ToDisconnect, kind_asked}
 use Rattle.fed_trace.specs.Call.{Known, OfGet, OfDisconnect, kind_of, page_of, first_row, input_row}
-use Rattle.fed_trace.specs.Effect.{Effect, Login, Sent, Move, Flag, Ignored}
+use Rattle.fed_trace.specs.Effect.{Effect, Login, Flag}
 use Rattle.fed_trace.specs.Known.{world_at, is_begun, known_at}
-use Rattle.fed_trace.specs.Records.{record_of, records_of, records, records_in}
+use Rattle.fed_trace.specs.Records.{record_of, records_of, records}
 use Rattle.fed_trace.specs.Row.{call_effects, moves, outcome_effects, standing_call, begin_effects, is_busy, input_effects, effects_of, row_of}
 use Rattle.fed_trace.specs.Row.{close_effects, ends_of, cookies_with, have_changes, load_changes, set_logins, resume_effects}
-use Rattle.fed_trace.specs.Row.{waiting_effects, standing_resumes, idpclose_effects, page_says, standing_says, with_event}
+use Rattle.fed_trace.specs.Row.{waiting_effects, standing_resumes, idpclose_effects, page_says, standing_says}
 use Rattle.fed_trace.specs.Trace.{Trace, page_at, gets, pending_of}
 use Rattle.fed_trace.specs.Windows.{is_origin, open_windows, provider_of, windows_of}
 use Rattle.fed_trace.proofs.calls.Pending.{ends_silent, load_silent}

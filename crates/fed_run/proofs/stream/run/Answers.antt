@@ -26,8 +26,12 @@ pub returns-in-Ok-clause-complete : goal.returns-in-Ok-clause-complete
 returns-in-Ok-clause-complete g c = λ source sink. ends_run _ _ _ _ _ c.in-Ok.ensures.ok
 
 pub returns-in-Ok-clause-ends : goal.returns-in-Ok-clause-ends
-returns-in-Ok-clause-ends g c =
-    (λ is. absurd (subst IsEnd is c.in-Ok.ensures.ok.is_end), λ is. absurd (subst IsEnd is c.in-Ok.ensures.ok.is_end))
+returns-in-Ok-clause-ends g c = (
+  λ is. absurd (subst IsEnd is c.in-Ok.ensures.ok.is_end),
+  λ is. absurd (subst IsEnd is c.in-Ok.ensures.ok.is_end),
+  λ is. absurd (subst IsEnd is c.in-Ok.ensures.ok.is_end),
+  λ is. absurd (subst IsEnd is c.in-Ok.ensures.ok.is_end),
+)
 
 pub returns-in-Ok-clause-past_limit : goal.returns-in-Ok-clause-past_limit
 returns-in-Ok-clause-past_limit g c = λ is. c.in-Ok.ensures.ok.past is

@@ -1,0 +1,4 @@
+-- What requests say.
+pub mod Sayings
+pub mod Firsts
+pub mod Names

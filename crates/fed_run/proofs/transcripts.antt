@@ -1,0 +1,4 @@
+-- A script and a transcript in one input.
+pub mod Walk
+pub mod Within
+pub mod Reads

@@ -1,0 +1,3 @@
+-- The forms that read their source whole.
+pub mod Ends
+pub mod Sources
