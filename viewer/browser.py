@@ -10,8 +10,7 @@ import time
 
 NAMES = ("chromium", "chromium-headless-shell", "chromium-browser", "google-chrome")
 FLAGS = ("--headless=new", "--no-sandbox", "--disable-gpu", "--disable-dev-shm-usage", "--no-first-run", "--disable-extensions",
-         "--disable-background-networking", "--disable-component-update", "--disable-sync", "--mute-audio", "--hide-scrollbars",
-         "--remote-debugging-pipe")
+         "--disable-background-networking", "--disable-component-update", "--disable-sync", "--mute-audio", "--hide-scrollbars")
 KEY_CODES = {"ArrowDown": 40, "ArrowUp": 38, "PageDown": 34, "PageUp": 33, "Home": 36, "End": 35, "Enter": 13, "Escape": 27, "Tab": 9}
 
 
@@ -24,11 +23,10 @@ class Ended(Exception):
     pass
 
 
-class Browser:
-    def __init__(self, program):
-        self.folder = tempfile.mkdtemp(prefix="viewer-check-")
-        self.downloads = os.path.join(self.folder, "downloads")
-        self.number, self.events, self.rest = 0, [], b""
+# A Chromium and the two ends of its debugging pipe.
+class Pipe:
+    def __init__(self, words):
+        self.number, self.events, self.rest, self.session = 0, [], b"", None
         read_end, self.to = os.pipe()
         self.come, write_end = os.pipe()
 
@@ -38,11 +36,48 @@ class Browser:
             os.dup2(first, 3)
             os.dup2(second, 4)
 
-        self.process = subprocess.Popen([program, *FLAGS, "--user-data-dir=" + self.folder, "about:blank"], preexec_fn=ends,
-                                        close_fds=False, stdout=subprocess.DEVNULL, stderr=subprocess.DEVNULL)
+        self.process = subprocess.Popen([*words, "--remote-debugging-pipe"], preexec_fn=ends, close_fds=False,
+                                        stdout=subprocess.DEVNULL, stderr=subprocess.DEVNULL)
         os.close(read_end)
         os.close(write_end)
-        self.session = None
+
+    def write(self, message):
+        data = json.dumps(message).encode() + b"\0"
+        try:
+            while data:
+                data = data[os.write(self.to, data):]
+        except BrokenPipeError:
+            raise Ended("the browser ended")
+
+    # The next message, or nothing where none comes in time.
+    def read(self, timeout):
+        while b"\0" not in self.rest:
+            if not select.select([self.come], [], [], timeout)[0]:
+                return None
+            data = os.read(self.come, 1 << 20)
+            if not data:
+                raise Ended("the browser ended")
+            self.rest += data
+        line, _, self.rest = self.rest.partition(b"\0")
+        return json.loads(line)
+
+    # Ends the browser, as soon as it has written what it has to.
+    def end(self, ask):
+        try:
+            ask()
+            self.process.wait(timeout=10)
+        except (OSError, Ended, RuntimeError, subprocess.TimeoutExpired):
+            self.process.kill()
+            self.process.wait()
+        os.close(self.to)
+        os.close(self.come)
+
+
+class Browser(Pipe):
+    def __init__(self, program):
+        self.folder = tempfile.mkdtemp(prefix="viewer-check-")
+        self.downloads = os.path.join(self.folder, "downloads")
+        super().__init__([program, *FLAGS, "--user-data-dir=" + self.folder, "about:blank"])
         self.attach()
 
     def attach(self):
@@ -62,30 +97,19 @@ class Browser:
         message = {"id": self.number, "method": method, "params": members}
         if self.session and not method.startswith(("Target.", "Browser.")):
             message["sessionId"] = self.session
-        data = json.dumps(message).encode() + b"\0"
-        try:
-            while data:
-                data = data[os.write(self.to, data):]
-        except BrokenPipeError:
-            raise Ended("the browser ended")
+        self.write(message)
         return self.number
 
     # The next message; events are kept.
     def receive(self, timeout):
-        while b"\0" not in self.rest:
-            if not select.select([self.come], [], [], timeout)[0]:
-                raise Ended("the browser says nothing for %d seconds" % timeout)
-            data = os.read(self.come, 1 << 20)
-            if not data:
-                raise Ended("the browser ended")
-            self.rest += data
-        line, _, self.rest = self.rest.partition(b"\0")
-        message = json.loads(line)
+        message = self.read(timeout)
+        if message is None:
+            raise Ended("the browser says nothing for %d seconds" % timeout)
         if "id" not in message:
             self.events.append(message)
         return message
 
-    def call(self, method, timeout=60, **members):
+    def call(self, method, timeout=180, **members):
         number = self.send(method, **members)
         while True:
             message = self.receive(timeout)
@@ -101,7 +125,7 @@ class Browser:
         return answer["result"].get("value")
 
     # Waits until an expression is true in the page.
-    def wait(self, expression, seconds=30):
+    def wait(self, expression, seconds=120):
         deadline = time.monotonic() + seconds
         while not self.evaluate(expression):
             if time.monotonic() > deadline:
@@ -137,7 +161,7 @@ class Browser:
             file.write(base64.b64decode(data))
 
     # The file that the page saves while `action` is done.
-    def download(self, action, seconds=30):
+    def download(self, action, seconds=120):
         shutil.rmtree(self.downloads, ignore_errors=True)
         os.makedirs(self.downloads)
         action()
@@ -155,12 +179,5 @@ class Browser:
         raise TimeoutError("nothing was saved")
 
     def close(self):
-        try:
-            self.call("Browser.close", timeout=10)
-            self.process.wait(timeout=10)
-        except (OSError, Ended, RuntimeError, subprocess.TimeoutExpired):
-            self.process.kill()
-            self.process.wait()
-        os.close(self.to)
-        os.close(self.come)
+        self.end(lambda: self.call("Browser.close", timeout=10))
         shutil.rmtree(self.folder, ignore_errors=True)

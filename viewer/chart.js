@@ -6,6 +6,7 @@ const Chart = (() => {
   const BEYOND = 600;
   const BASE = 20000;
   const MOST_HEIGHT = 12000000;
+  const CALLOUT = 120;
 
   class View {
     constructor(box, { onChoose, onKey }) {
@@ -24,9 +25,9 @@ const Chart = (() => {
       new ResizeObserver(() => this.resize()).observe(box);
     }
 
-    show(rows, providers) {
+    show(rows, session) {
       this.rows = rows;
-      this.providers = providers;
+      this.session = session;
       this.chosen = -1;
       this.box.removeAttribute('aria-activedescendant');
       this.box.scrollTop = 0;
@@ -39,7 +40,7 @@ const Chart = (() => {
         this.askDraw();
         return;
       }
-      const at = this.rows.length > 0 ? this.picture.rowAt(this.top()) : 0;
+      const at = this.rows.length > 0 ? Layout.rowAt(this.picture.offsets, this.top()) : 0;
       this.measure();
       this.box.scrollTop = this.picture.offsets[at] / this.share();
       this.redraw();
@@ -47,18 +48,22 @@ const Chart = (() => {
 
     measure() {
       this.measuredWidth = this.box.clientWidth;
-      this.picture = new Layout.Picture(this.rows, this.providers, this.measuredWidth);
+      this.picture = Layout.pictureOf(this.rows, this.session, this.measuredWidth);
       this.sizer.style.height = Math.min(this.picture.height, MOST_HEIGHT) + 'px';
       this.sizer.style.width = this.picture.width + 'px';
       this.header.setAttribute('width', this.picture.width);
-      this.header.setAttribute('height', Drawing.HEADER);
-      this.header.replaceChildren(Drawing.drawHeader(this.picture));
+      this.header.setAttribute('height', this.picture.header);
       this.drawn = undefined;
+      this.drawHeader();
       this.draw();
     }
 
+    drawHeader() {
+      this.header.replaceChildren(Drawing.drawHeader(this.picture, this.session.titles));
+    }
+
     viewHeight() {
-      return this.box.clientHeight - Drawing.HEADER;
+      return this.box.clientHeight - this.picture.header;
     }
 
     // A very high picture is more than a browser scrolls, so there the scrolled height stands for the whole by its share.
@@ -83,11 +88,14 @@ const Chart = (() => {
       const top = this.top();
       const bottom = top + this.viewHeight();
       if (this.rows.length === 0) return this.clear(0);
-      if (this.reaches(top, bottom)) return undefined;
-      const first = this.picture.rowAt(Math.max(0, top - BEYOND));
-      const last = this.picture.rowAt(bottom + BEYOND);
-      const base = Math.floor(this.picture.offsets[first] / BASE) * BASE;
-      if (!this.drawn || this.drawn.base !== base) this.clear(base);
+      const isSeated = this.seat(top, bottom);
+      this.tellTime(top);
+      if (isSeated && this.reaches(top, bottom)) return undefined;
+      const { offsets } = this.picture;
+      const first = Layout.rowAt(offsets, Math.max(0, top - BEYOND));
+      const last = Layout.rowAt(offsets, bottom + BEYOND);
+      const base = Math.floor(offsets[first] / BASE) * BASE;
+      if (!isSeated || !this.drawn || this.drawn.base !== base) this.clear(base);
       for (const [at, option] of this.options) {
         if (at < first || at > last) {
           option.remove();
@@ -96,9 +104,35 @@ const Chart = (() => {
       }
       this.add(first, last, base);
       this.svg.style.top = this.box.scrollTop + base - top + 'px';
-      const { offsets } = this.picture;
       this.drawn = { base, first, last, top: offsets[first], bottom: offsets[last + 1] };
       return undefined;
+    }
+
+    // The time of the first row in view, where the script has times.
+    tellTime(top) {
+      const { moments, header } = this.session;
+      const clock = this.header.querySelector('.clock');
+      if (!clock || !moments?.length) return;
+      const { at } = this.rows[Layout.rowAt(this.picture.offsets, top)];
+      let low = 0;
+      for (let high = moments.length; low < high;) {
+        const middle = (low + high) >> 1;
+        if (moments[middle].at <= at) low = middle + 1;
+        else high = middle;
+      }
+      const words = Wording.momentOf(low > 0 ? moments[low - 1].event.time : header.now).slice(11);
+      if (clock.textContent !== words) clock.textContent = words;
+    }
+
+    // Gives the lanes to the rows in view before those beyond, where one of them has none. Tells whether all lanes are what they were.
+    seat(top, bottom) {
+      const { offsets, parts } = this.picture;
+      const [first, last, before, behind] = [top, bottom, top - BEYOND, bottom + BEYOND].map(y => Layout.rowAt(offsets, Math.max(0, y)));
+      const call = this.rows[this.chosen]?.of;
+      const changed = parts.filter(part => !part.isSeated(call, first, last)
+        && part.seat(call, [[first, last], [last + 1, behind], [before, first - 1]]));
+      if (changed.length > 0) this.drawHeader();
+      return changed.length === 0;
     }
 
     // Whether what is drawn still reaches beyond the view.
@@ -108,17 +142,24 @@ const Chart = (() => {
         && (this.drawn.last === this.rows.length - 1 || this.drawn.bottom >= bottom + BEYOND / 2);
     }
 
-    // What is drawn stands at heights from a base on, since far heights are not exact in SVG.
+    // What is drawn stands at heights from a base on, since far heights are not exact in SVG. Behind the rows come what ties them, and the
+    // whole text of the chosen one.
     clear(base) {
       const height = Math.max(0, Math.min(this.picture.height - base, 2 * BASE));
       this.options = new Map();
+      this.ties = Drawing.make('g');
       this.svg.setAttribute('width', this.picture.width);
-      this.svg.setAttribute('height', height);
-      this.svg.replaceChildren(Drawing.drawLives(this.picture, height));
+      this.svg.setAttribute('height', height + CALLOUT);
+      this.svg.replaceChildren(Drawing.drawLives(this.picture, height), this.ties);
     }
 
     add(first, last, base) {
-      let next = null;
+      const chosen = this.rows[this.chosen];
+      const ties = Drawing.drawTies(this.picture, [first, last], base, chosen);
+      if (this.chosen >= first && this.chosen <= last) this.addCallout(ties, base);
+      this.ties.replaceWith(ties);
+      this.ties = ties;
+      let next = ties;
       for (let at = last; at >= first; at -= 1) {
         if (!this.options.has(at)) {
           const option = this.option(at, base);
@@ -127,6 +168,19 @@ const Chart = (() => {
         }
         next = this.options.get(at);
       }
+    }
+
+    addCallout(ties, base) {
+      const option = this.options.get(this.chosen) ?? this.option(this.chosen, base);
+      const end = this.top() + this.viewHeight();
+      if (option.classList.contains('cut')) ties.append(Drawing.drawCallout(this.picture, this.chosen, base, end));
+    }
+
+    // Whether a row is another call's than the chosen one, where there are several.
+    isDim(row) {
+      const call = this.rows[this.chosen]?.of;
+      if (!call || this.session.calls < 2) return false;
+      return row.of !== call && !row.closes?.includes(call) && call.first?.decision !== row;
     }
 
     option(at, base) {
@@ -139,6 +193,7 @@ const Chart = (() => {
       drawn.setAttribute('aria-label', Wording.sentenceOf(this.rows[at]));
       drawn.classList.toggle('chosen', at === this.chosen);
       drawn.classList.toggle('found', this.found.has(this.rows[at]));
+      drawn.classList.toggle('dim', this.isDim(this.rows[at]));
       return drawn;
     }
 
@@ -174,6 +229,10 @@ const Chart = (() => {
       else if (end > top + this.viewHeight()) this.box.scrollTop = (end - this.viewHeight()) / this.share() + 1;
     }
 
+    isInView(at) {
+      return this.picture.offsets[at] >= this.top() && this.picture.offsets[at + 1] <= this.top() + this.viewHeight();
+    }
+
     // Shows the chart again after it was hidden, where a browser forgets how far it was scrolled.
     reopen() {
       this.measure();
@@ -205,7 +264,7 @@ const Chart = (() => {
 
     key(event) {
       if (event.altKey || event.ctrlKey || event.metaKey) return;
-      const page = Math.max(1, Math.floor(this.viewHeight() / 60));
+      const page = Math.max(1, Math.floor(this.viewHeight() / (2 * Layout.ROW)));
       const steps = { ArrowDown: 1, ArrowUp: -1, PageDown: page, PageUp: -page };
       if (event.key in steps) this.choose(this.chosen < 0 ? 0 : this.chosen + steps[event.key]);
       else if (event.key === 'Home') this.choose(0);

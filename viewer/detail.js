@@ -77,29 +77,54 @@ const Detail = (() => {
       link.rel = 'noopener';
       made.append(make('li', undefined, link));
     }
-    return made.children.length ? [make('h3', 'It follows, in docs/profile.md'), made] : [];
+    return made.children.length ? [make('h3', 'The rules that it follows'), made] : [];
   }
 
-  function decision(row, onGo) {
-    if (!row.decision) return [];
-    const what = row.decision.kind === 'decision' ? 'The decision before it' : 'The permission that it goes by';
-    const button = make('button', `${what}: line ${row.decision.line}`);
+  function goButton(words, row, onGo) {
+    const button = make('button', `${words}: line ${row.line}`);
     button.type = 'button';
-    button.addEventListener('click', () => onGo(row.decision));
-    return [make('p', undefined, button)];
+    button.addEventListener('click', () => onGo(row));
+    return make('p', undefined, button);
+  }
+
+  // The rows that this one hangs together with.
+  function others(row, onGo) {
+    const made = [];
+    if (row.decision) {
+      const isDecision = row.decision.kind === 'decision';
+      made.push(goButton(isDecision ? 'The decision before it' : 'The permission that it goes by', row.decision, onGo));
+    }
+    if (row.answer) made.push(goButton('Its reply', row.answer, onGo));
+    if (row.answers) made.push(goButton('The request that it answers', row.answers, onGo));
+    return made;
+  }
+
+  function sourceParts(row) {
+    return [...row.source === undefined ? [] : block(`Line ${row.line} of the script`, Decoding.plain(row.source)),
+      ...row.recordSource === undefined ? [] : block(`Line ${row.recordLine} of the transcript`, Decoding.plain(row.recordSource))];
+  }
+
+  function partsOf(row) {
+    return [...(row.kind === 'request' ? requestParts(row) : []), ...(row.event ? replyParts(row.event) : []),
+      ...memberParts('Members of the event', row.event), ...memberParts('Members of the record', row.record), ...sourceParts(row)];
+  }
+
+  const headingOf = row => [row.line === undefined ? '' : `Line ${row.line}`, Wording.wordsOf(row).title].filter(Boolean).join(': ');
+
+  // Of two worlds a request that is equal stands once; else one stands below the other.
+  function pairParts(pair) {
+    if (pair.link === 'equal') return partsOf(pair.sides[0]);
+    return pair.sides.flatMap((row, at) => row
+      ? [make('h2', `${['First', 'Second'][at]} world, ${headingOf(row)}`), ...partsOf(row)] : []);
   }
 
   function show(box, row, onGo) {
-    const { title } = Wording.wordsOf(row);
-    const heading = make('h2', [row.line === undefined ? '' : `Line ${row.line}`, title].filter(Boolean).join(': '));
+    const first = row.sides?.find(Boolean) ?? row;
+    const heading = make('h2', headingOf(first));
     heading.tabIndex = -1;
-    const parts = [heading, make('p', Wording.sentenceOf(row) + '.'), ...decision(row, onGo), ...rules(row)];
-    if (row.kind === 'request') parts.push(...requestParts(row));
-    if (row.event) parts.push(...replyParts(row.event));
-    parts.push(...memberParts('Members of the event', row.event), ...memberParts('Members of the record', row.record));
-    if (row.source !== undefined) parts.push(...block(`Line ${row.line} of the script`, Decoding.plain(row.source)));
-    if (row.recordSource !== undefined) parts.push(...block(`Line ${row.recordLine} of the transcript`, Decoding.plain(row.recordSource)));
-    box.replaceChildren(...parts);
+    const said = make('p', Wording.sentenceOf(row) + '.');
+    if (row.fault) said.className = 'refused';
+    box.replaceChildren(heading, said, ...others(row, onGo), ...rules(row), ...(row.sides ? pairParts(row) : partsOf(row)));
     box.scrollTop = 0;
   }
 

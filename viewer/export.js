@@ -18,23 +18,31 @@ const Export = (() => {
     return group;
   }
 
-  function svgOf(rows, providers, words) {
+  // The picture of rows of which all are shown, and none is chosen.
+  function wholeOf(rows, session, width) {
+    const picture = Layout.pictureOf(rows, session, width);
+    for (const part of picture.parts) part.seat(undefined, [[0, rows.length - 1]]);
+    return picture;
+  }
+
+  function svgOf(rows, session, words) {
     const shown = rows.slice(0, MOST_ROWS);
-    const picture = new Layout.Picture(shown, providers, WIDTH);
-    const height = Drawing.HEADER + picture.height + LEGEND;
-    const body = Drawing.make('g', { transform: `translate(0 ${Drawing.HEADER})` }, Drawing.drawLives(picture, picture.height));
+    const picture = wholeOf(shown, session, WIDTH);
+    const height = picture.header + picture.height + LEGEND;
+    const body = Drawing.make('g', { transform: `translate(0 ${picture.header})` }, Drawing.drawLives(picture, picture.height));
     shown.forEach((row, at) => body.append(Drawing.drawRow(picture, at, 0)));
+    body.append(Drawing.drawTies(picture, [0, shown.length - 1], 0));
     const sizes = { width: picture.width, height, viewBox: `0 0 ${picture.width} ${height}` };
     return Drawing.make('svg', { class: 'chart', role: 'img', ...sizes },
       Drawing.make('title', {}, 'A session of federated sign-in'), Drawing.make('desc', {}, words),
       Drawing.make('style', {}, Drawing.STYLE),
-      Drawing.make('rect', { class: 'paper', width: picture.width, height }), body, Drawing.drawHeader(picture),
-      legend(picture, Drawing.HEADER + picture.height));
+      Drawing.make('rect', { class: 'paper', width: picture.width, height }), body, Drawing.drawHeader(picture, session.titles),
+      legend(picture, picture.header + picture.height));
   }
 
   // One element a line, so that two pictures can be compared.
-  function textOf(rows, providers, words) {
-    const text = new XMLSerializer().serializeToString(svgOf(rows, providers, words));
+  function textOf(rows, session, words) {
+    const text = new XMLSerializer().serializeToString(svgOf(rows, session, words));
     return text.replace(/<g(?= class="row)|<g(?= class="header)|<g(?= transform="translate\(0 \d)/g, '\n$&') + '\n';
   }
 
@@ -46,5 +54,5 @@ const Export = (() => {
     setTimeout(() => URL.revokeObjectURL(link.href), 10000);
   }
 
-  return { textOf, save, MOST_ROWS };
+  return { textOf, save, wholeOf, MOST_ROWS };
 })();

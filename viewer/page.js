@@ -4,20 +4,18 @@
 (() => {
   const byId = id => document.getElementById(id);
   const NOTHING = { call: '', page: '', provider: '', kind: '' };
-  const ONE_OF_SEVERAL = 'several files of this kind were given, and the last is shown';
   const MOST_NAMED = 500;
   const MOST_PROBLEMS = 20;
   const LONG = 4000000;
   const FIRST_PART = 400000;
   const AT_ONCE = 30;
 
-  const given = { script: undefined, transcript: undefined };
+  const given = new Given.Texts();
   let session;
   let shown = [];
   let found = [];
   let view = 'chart';
   let turn = 0;
-  let extra = [];
 
   const chart = new Chart.View(byId('chart'), { onChoose: choose, onKey: chartKey });
   const table = new Table.Pages(byId('table'), at => {
@@ -28,24 +26,17 @@
   const number = (count, word) => `${count.toLocaleString('en')} ${word}${count === 1 ? '' : word.endsWith('y') ? '' : 's'}`;
   const say = words => { byId('said').textContent = words; };
 
-  // Where a script and a transcript stand, a single new text begins a new session.
   function take(texts) {
     if (texts.length === 0) return;
-    extra = [];
-    if (texts.length > 1 || (given.script !== undefined && given.transcript !== undefined)) given.script = given.transcript = undefined;
-    for (const text of texts) {
-      const kind = Reading.isTranscript(text) ? 'transcript' : 'script';
-      const isAnother = given[kind] !== undefined && texts.length > 1;
-      if (isAnother) extra = [{ source: kind, line: 1, cause: 'one-of-several', note: ONE_OF_SEVERAL }];
-      given[kind] = text;
-    }
+    given.add(texts);
+    byId('example').value = '';
     show();
   }
 
   async function takeFiles(files) {
     performance.mark('given');
     try {
-      take(await Promise.all([...files].map(file => file.text())));
+      take(await Capture.texts(files));
     } catch (error) {
       say(`A file could not be read: ${error.message}`);
     }
@@ -77,20 +68,34 @@
   async function show() {
     const own = ++turn;
     const isOld = () => own !== turn;
-    const texts = [given.script, given.transcript].filter(text => text !== undefined);
+    const worlds = given.worlds();
     forget();
-    const isLong = texts.reduce((length, text) => length + text.length, 0) > LONG;
+    const isLong = worlds.length === 1 && worlds[0].reduce((length, text) => length + text.length, 0) > LONG;
     if (isLong) {
-      preview(texts);
+      preview(worlds[0]);
       await painted();
       performance.mark('drawn');
     }
-    const reading = await slowly(Reading.steps(texts), isOld);
-    const built = reading && await slowly(Session.steps(reading), isOld);
-    if (!built || isOld()) return;
-    present(built, summaryOf(built, reading));
+    const sessions = [];
+    for (const texts of worlds) {
+      const reading = await slowly(Reading.steps(texts), isOld);
+      const built = reading && await slowly(Session.steps(reading), isOld);
+      if (!built || isOld()) return;
+      sessions.push({ ...built, summary: summaryOf(built, reading) });
+    }
+    const [first, second] = sessions;
+    if (second) presentWorlds(sessions);
+    else present(first, first.summary);
     await painted();
     performance.mark(isLong ? 'whole' : 'drawn');
+  }
+
+  function presentWorlds(worlds) {
+    const verdict = given.verdict && wholeOf(Reading.steps([given.verdict])).verdict;
+    const both = Worlds.of(worlds, verdict);
+    const equal = `${both.links} of ${number(both.compared, 'sign-in request')} equal`;
+    const quiet = both.quiet === undefined ? '' : ` Quiet up to kept event ${both.quiet}, ${equal}.`;
+    present(both, `Two worlds.${quiet} First: ${worlds[0].summary} Second: ${worlds[1].summary}`);
   }
 
   function forget() {
@@ -116,9 +121,27 @@
     session = built;
     document.body.classList.add('has-session');
     byId('summary').textContent = words;
+    verdict();
     problems();
     suggestions();
     filter(place);
+    if (!place) begin();
+  }
+
+  // What the program said of the transcript or of the two scripts.
+  function verdict() {
+    const { verdict: said, fault } = session;
+    byId('verdict').hidden = said === undefined;
+    byId('verdict').textContent = said ? Wording.verdictText(said, fault) : '';
+    byId('verdict').classList.toggle('refused', ['faulty', 'differs', 'not-twins'].includes(said?.out));
+  }
+
+  // A row is chosen from the first: that which breaks a rule, or else the first that tells both, where it is in view.
+  function begin() {
+    const first = shown.findIndex(row => row.fault);
+    const both = shown.findIndex(row => row.first || row.ends);
+    if (first >= 0) chart.choose(first);
+    else if (both >= 0 && chart.isInView(both)) chart.choose(both);
   }
 
   function summaryOf({ counts }, reading) {
@@ -128,12 +151,12 @@
     const replies = `${reply.toLocaleString('en')} ${reply === 1 ? 'reply' : 'replies'}`;
     const drawn = [number(request, 'request'), replies, number(dialog, 'dialog'), number(windows, 'window'), number(result, 'result'),
       ...(dropped > 0 ? [`${dropped.toLocaleString('en')} dropped out`] : []), `${ignored.toLocaleString('en')} ignored`].join(', ');
-    const begins = reading.headers[0]?.value ? ` It begins at ${Wording.momentOf(reading.headers[0].value.now)}.` : '';
+    const begins = reading.header ? ` It begins at ${Wording.momentOf(reading.header.now)}.` : '';
     return `${has}: ${drawn}.${begins}`;
   }
 
   function problems() {
-    const all = [...extra, ...session.problems];
+    const all = [...(given.isOneOfSeveral ? [{ cause: 'two-kept' }] : []), ...session.problems];
     const texts = all.slice(0, MOST_PROBLEMS).map(Wording.problemText);
     if (all.length > MOST_PROBLEMS) texts.push(`and ${all.length - MOST_PROBLEMS} more`);
     byId('problems').hidden = all.length === 0;
@@ -155,7 +178,7 @@
   function suggestions() {
     const calls = new Set();
     const pages = new Set();
-    for (const { call, pageLane } of session.rows) {
+    for (const { call, pageLane } of session.worlds?.flatMap(({ rows }) => rows) ?? session.rows) {
       if (call !== undefined && calls.size < MOST_NAMED) calls.add(call);
       if (pageLane !== undefined && pages.size < MOST_NAMED) pages.add(pageLane);
     }
@@ -166,10 +189,8 @@
 
   const KIND_TESTS = {
     '': () => true, ignored: row => Boolean(row.ignored), both: row => row.tells === 'both',
-    request: row => row.kind === 'request', reply: row => row.kind === 'reply', decision: row => row.kind === 'decision',
-    page: row => row.kind === 'page', dialog: row => row.kind === 'dialog', window: row => row.kind === 'window',
-    result: row => row.kind === 'result', dropped: row => row.kind === 'dropped',
-    note: row => row.kind === 'note' || row.kind === 'divider',
+    ...Object.fromEntries(['request', 'reply', 'decision', 'page', 'dialog', 'window', 'result', 'dropped', 'note'].map(
+      kind => [kind, row => row.kind === kind])),
   };
 
   const has = (value, part) => value !== undefined && value.toLowerCase().includes(part);
@@ -182,15 +203,16 @@
     const isPageNumber = /^(?:page )?\d+$/.test(page);
     const pageNumber = Number(page.replace('page ', ''));
     const ofKind = KIND_TESTS[kind] ?? (row => row.record?.kind === kind || row.event?.to === kind);
-    return row => ofKind(row) && (call === '' || calls.has(row.call))
+    const passes = row => ofKind(row) && (call === '' || calls.has(row.call))
       && (page === '' || (isPageNumber ? row.page === pageNumber : has(row.pageLane, page)))
       && (provider === '' || [row.providerLane, row.from, row.to].some(lane => has(lane, provider)));
+    return row => row.sides ? row.sides.some(side => side && passes(side)) : passes(row);
   }
 
   function filter(place) {
     const chosen = chart.rows?.[chart.chosen];
     shown = session.rows.filter(tests());
-    chart.show(shown, session.providers);
+    chart.show(shown, session);
     table.show(shown, chart.found);
     byId('none').hidden = shown.length > 0;
     search(false);
@@ -202,6 +224,7 @@
 
   // The texts of a row as one looks for them: the lines as given, with escapes of JSON undone where there are such.
   function rowTexts(row) {
+    if (row.sides) return row.sides.filter(Boolean).map(rowTexts).join('\n');
     const lines = [row.event, row.record].map((value, at) => {
       const source = (at === 0 ? row.source : row.recordSource) ?? '';
       const text = source.includes('\\u') ? JSON.stringify(value) : source;
@@ -242,20 +265,28 @@
   }
 
   function goToRow(row) {
-    if (!chart.chooseRow(row)) say('The decision is not among the rows that the filters show.');
+    if (!chart.chooseRow(row)) say('That row is not among those that the filters show.');
   }
 
   function chartKey(key) {
     const row = shown[chart.chosen];
+    const other = row?.answer ?? row?.answers;
     const actions = {
       Enter: toDetail,
-      '/': () => byId('search').focus(),
+      '/': toSearch,
       n: () => goTo(1), N: () => goTo(-1),
       d: () => row?.decision && goToRow(row.decision),
+      r: () => other && goToRow(other),
+      c: () => row?.of && goToRow(shown.find(({ of }, at) => of === row.of && at > chart.chosen) ?? row),
     };
     if (!actions[key]) return false;
     actions[key]();
     return true;
+  }
+
+  function toSearch() {
+    byId('filter-box').open = true;
+    byId('search').focus();
   }
 
   function toDetail() {
@@ -283,17 +314,38 @@
     if (!session) return;
     const most = Export.MOST_ROWS.toLocaleString('en');
     const cut = shown.length > Export.MOST_ROWS ? ` Only the first ${most} rows are in it: filters make them fewer.` : '';
-    Export.save(Export.textOf(shown, session.providers, byId('summary').textContent), 'session.svg');
+    Export.save(Export.textOf(shown, session, byId('summary').textContent), 'session.svg');
     say('The picture is saved as session.svg.' + cut);
   }
 
+  const headWords = () => [byId('verdict').textContent, byId('summary').textContent].filter(Boolean);
+
   function clear() {
     turn += 1;
-    given.script = given.transcript = session = undefined;
+    given.clear();
+    session = undefined;
     document.body.classList.remove('has-session');
     byId('problems').hidden = true;
+    byId('example').value = '';
     byId('files').value = '';
     say('Cleared.');
+  }
+
+  // The examples that stand in the page; the first is drawn when it opens.
+  function showExample(name) {
+    const example = Examples.find(each => each.name === name);
+    if (!example) return;
+    given.clear();
+    given.add(example.texts);
+    byId('example').value = name;
+    show();
+  }
+
+  function listExamples() {
+    byId('example').append(...Examples.map(({ name, title }) => new Option(title, name)));
+    byId('example').addEventListener('change', event => showExample(event.target.value));
+    const named = decodeURIComponent(location.hash.slice(1));
+    showExample(Examples.some(({ name }) => name === named) ? named : Examples[0].name);
   }
 
   function listenForTexts() {
@@ -336,6 +388,9 @@
     byId('view-chart').addEventListener('click', () => setView('chart'));
     byId('view-table').addEventListener('click', () => setView('table'));
     byId('export').addEventListener('click', exportPicture);
+    byId('print').addEventListener('click', () => window.print());
+    addEventListener('beforeprint', () => session && Paper.fill(byId('paper'), shown, session, headWords()));
+    addEventListener('afterprint', () => byId('paper').replaceChildren());
     byId('detail').addEventListener('keydown', event => {
       if (event.key === 'Escape') backToRows();
     });
@@ -343,10 +398,12 @@
 
   // The chart's style stands once, with its drawing; a style sheet made by the page is not a request.
   const sheet = new CSSStyleSheet();
-  const { light, dark } = Drawing.COLORS;
-  sheet.replaceSync(`:root { ${light} } @media (prefers-color-scheme: dark) { :root { ${dark} } } ${Drawing.STYLE}`);
+  const { light, dark, forced } = Drawing.COLORS;
+  sheet.replaceSync(`:root { ${light} } @media (prefers-color-scheme: dark) { :root { ${dark} } } @media print { :root { ${light} } }
+    @media (forced-colors: active) { :root { ${forced} } } ${Drawing.STYLE}`);
   document.adoptedStyleSheets = [sheet];
-  byId('filter-box').open = !matchMedia('(max-width: 820px)').matches;
+  Capture.listen(take);
   listenForTexts();
   listenForViews();
+  listExamples();
 })();

@@ -48,21 +48,27 @@ const Reading = (() => {
     name => [name, maybe(isText)])];
   const RECORDS = {
     request: [CALL, ['kind', oneOf(REQUEST_KINDS)], LINE],
-    dialog: [CALL, LINE, ['dialog', oneOf(['choose', 'prompt', 'mismatch'])], ['site', isText]],
+    dialog: [CALL, LINE, ['dialog', oneOf(['choose', 'prompt', 'mismatch'])]],
     dropped: [CALL, LINE, ['provider', isNumber], ['step', isText]],
     window: [CALL, LINE, ['url', isText]],
     result: [CALL, LINE, PAGE, ['see', isText]],
     ignored: [LINE, ['why', isText]],
     bad: [LINE, ['cause', isText]],
-    end: [['events', isWhole]],
+    end: [['events', maybe(isWhole)]],
+    summary: [['calls', isWhole]],
     twins: [['quiet', isWhole], ['compared', isWhole]],
     'not-twins': [['clause', isText], ['event', isWhole]],
-    summary: [['calls', isWhole]],
+    audited: [['records', isWhole]],
+    faulty: [LINE, ['clause', isText]],
+    alike: [['requests', isWhole]],
+    differs: [LINE, ['what', isText]],
   };
+  // What the program says of two scripts, or of a transcript, is no record of that transcript.
+  const VERDICTS = ['twins', 'not-twins', 'audited', 'faulty', 'alike', 'differs'];
   const DIALOGS = {
-    choose: [['accounts', value => Array.isArray(value) && value.every(isObject)]],
-    prompt: [['account', isObject]],
-    mismatch: [['step', isText]],
+    choose: [['accounts', maybe(value => Array.isArray(value) && value.every(isObject))]],
+    prompt: [['account', maybe(isObject)]],
+    mismatch: [['step', maybe(isText)]],
   };
 
   const failing = (value, tests) => tests.find(([name, test]) => !test(value[name]))?.[0];
@@ -151,15 +157,19 @@ const Reading = (() => {
   }
 
   const isRecord = value => isObject(value) && isText(value.out) && isAbsent(value.do) && isAbsent(value.fedcm);
+  const isVerdict = value => isRecord(value) && VERDICTS.includes(value.out);
 
   class Reader {
     constructor() {
-      this.headers = [];
+      this.header = undefined;
       this.events = [];
       this.records = [];
       this.problems = [];
       this.hasScript = false;
       this.hasTranscript = false;
+      this.before = 0;
+      this.verdict = undefined;
+      this.isOfOthers = false;
     }
 
     problem(source, line, wrong) {
@@ -168,11 +178,10 @@ const Reading = (() => {
 
     startScript(line, parsed) {
       this.past = { calls: new Set(), others: false, time: 0 };
-      this.part = this.headers.length;
       const wrong = parsed.wrong ?? wrongWithHeader(parsed.value);
       if (wrong) this.problem('script', line, wrong);
       else this.past.time = parsed.value.now;
-      this.headers.push({ line, value: wrong ? undefined : parsed.value });
+      this.header = wrong ? undefined : parsed.value;
     }
 
     scriptLine(line, source, parsed) {
@@ -182,7 +191,7 @@ const Reading = (() => {
         this.problem('script', line, wrong);
       } else {
         remember(parsed.value, this.past);
-        this.events.push({ line, part: this.part, event: parsed.value, source });
+        this.events.push({ line, event: parsed.value, source });
       }
     }
 
@@ -190,7 +199,18 @@ const Reading = (() => {
       if (source.trim() === '') return;
       const wrong = parsed.wrong ?? wrongWithRecord(parsed.value);
       if (wrong) this.problem('transcript', line, wrong);
-      else this.records.push({ line: parsed.value.line, record: parsed.value, recordLine: line, recordSource: source });
+      else if (isVerdict(parsed.value)) this.setVerdict(parsed.value);
+      else this.keepRecord({ line: parsed.value.line, record: parsed.value, recordLine: line, recordSource: source });
+    }
+
+    setVerdict(verdict) {
+      this.verdict = verdict;
+      if (!verdict.out.endsWith('twins')) this.isOfOthers = true;
+    }
+
+    keepRecord(read) {
+      this.hasTranscript = true;
+      this.records.push(read);
     }
 
     // One text is a script, a transcript, or a script with its transcript behind it. It stops after some lines, to go on later.
@@ -198,24 +218,35 @@ const Reading = (() => {
       const lines = text.split('\n');
       if (lines.at(-1) === '') lines.pop();
       this.next = 'header';
+      this.start = 0;
       if (lines.length === 0) [this.hasScript, lines[0]] = [true, ''];
       for (let index = 0; index < lines.length; index += 1) {
         this.line(lines[index], index);
         if (index % LINES_AT_ONCE === LINES_AT_ONCE - 1) yield;
       }
+      if (this.next !== 'record') this.before = lines.length + 1;
+    }
+
+    // The records follow; `before` is how many lines stand before them in the input of `audit`, where a line divides them from the script.
+    startTranscript(start, before, isVerdict) {
+      Object.assign(this, { next: 'record', start, before });
+      if (!isVerdict) this.hasTranscript = true;
     }
 
     line(source, index) {
       const parsed = parse(source);
-      if (this.next !== 'record' && isRecord(parsed.value)) [this.next, this.start, this.hasTranscript] = ['record', index, true];
+      if (this.next !== 'record' && isRecord(parsed.value)) {
+        this.startTranscript(index, index === 0 ? this.before : index + 1, isVerdict(parsed.value));
+      }
       if (this.next === 'record') {
         this.recordLine(index - this.start + 1, source, parsed);
       } else if (this.next === 'header') {
         this.hasScript = true;
         this.startScript(index + 1, parsed);
         this.next = 'event';
-      } else if (parsed.value?.next === 'script' && this.part === 0) {
-        this.next = 'header';
+      } else if (parsed.value?.next === 'transcript') {
+        this.isOfOthers = true;
+        this.startTranscript(index + 1, index + 1, false);
       } else {
         this.scriptLine(index + 1, source, parsed);
       }
@@ -229,18 +260,23 @@ const Reading = (() => {
     return reader;
   }
 
-  // Whether a text is a transcript, by its first line that is JSON.
-  function isTranscript(text) {
-    let start = 0;
-    while (start < text.length) {
+  // The first line of a text that is JSON.
+  function firstValue(text) {
+    for (let start = 0; start < text.length;) {
       const end = text.indexOf('\n', start);
       const parsed = parse(text.slice(start, end < 0 ? text.length : end));
-      if (!parsed.wrong) return isRecord(parsed.value);
-      if (end < 0) return false;
+      if (!parsed.wrong) return parsed.value;
+      if (end < 0) break;
       start = end + 1;
     }
-    return false;
+    return undefined;
   }
 
-  return { steps, isTranscript, originOf, REQUEST_KINDS };
+  // Whether a text is a script, with its transcript behind it or not, a transcript, or what the program says of one.
+  function kindOf(text) {
+    const first = firstValue(text);
+    return isVerdict(first) ? 'verdict' : isRecord(first) ? 'transcript' : 'script';
+  }
+
+  return { steps, kindOf, originOf, REQUEST_KINDS };
 })();

@@ -1,8 +1,8 @@
 'use strict';
 
 // The rows of the picture: each event of the script and each record of the transcript in their order, with the two lanes that it
-// joins, what a request tells, and which decision stood before the first request of a call that tells both. A row is the line that was
-// read, of which more is known.
+// joins, what a request tells, which decision stood before the first request of a call that tells both, from where to where a call is
+// pending, and which reply answers a request. A row is the line that was read, of which more is known.
 const Session = (() => {
   const USER = 'user';
   const BROWSER = 'browser';
@@ -10,13 +10,19 @@ const Session = (() => {
   const AGREEMENTS = ['choose', 'continue'];
   const ASIDES = ['have', 'at'];
   const ROWS_AT_ONCE = 5000;
-  const LAST_RECORDS = ['end', 'bad', 'twins', 'not-twins', 'summary'];
+  const LAST_RECORDS = ['end', 'bad', 'summary'];
 
   // The lane of the provider at a place in the call's list.
   const laneAt = ({ number, providers }, place = 0) => providers[place] ?? `provider ${place === 0 ? '' : place + ' '}of call ${number}`;
 
+  // Where the reply for a well-known file comes from, when no request was read: its host is known by suffix rules alone.
+  const wellKnownLane = call => `well-known host of ${laneAt(call)}`;
+
   // The lanes by which the filters find a row: its provider's, or those of all that the call has.
   const lanesOf = (call, place) => place === undefined && call.providers.length > 1 ? call.providers.join(' ') : laneAt(call, place);
+
+  const newCall = (number, page, pageLane, providers) =>
+    ({ number, page, pageLane, providers, lanes: {}, asked: {}, requests: [], dropped: [] });
 
   class Builder {
     constructor(reading) {
@@ -30,14 +36,10 @@ const Session = (() => {
       this.badLine = Infinity;
       this.pause = ROWS_AT_ONCE;
       this.current = undefined;
-      this.beginPart(0);
-    }
-
-    // The second of two scripts has pages and calls of its own.
-    beginPart(part) {
-      this.part = part;
+      this.moments = [];
       this.pages = new Map();
       this.calls = new Map();
+      this.pending = new Map();
       this.permissions = new Map();
     }
 
@@ -67,12 +69,33 @@ const Session = (() => {
       }
       while (next < records.length) this.record(records[next++]);
       this.checkEnd();
+      if (this.reading.hasScript && !this.reading.hasTranscript) this.problems.push({ cause: 'no-transcript' });
+      if (this.reading.verdict) this.judge(this.reading.verdict);
     }
 
-    // A transcript that lacks its last record, or counts other events than the script has, is not that script's whole one.
+    // Marks the row of which `audit` or `compare` says that it breaks a clause, or differs. Where a record is missing, it is the event's.
+    judge(verdict) {
+      if (verdict.out !== 'faulty' && verdict.out !== 'differs') return;
+      const row = this.rows.findLast(each => this.isMeant(each, verdict));
+      if (row) row.fault = verdict;
+      this.fault = row;
+    }
+
+    isMeant(row, verdict) {
+      const isByLine = verdict.out === 'faulty' || verdict.what === 'record';
+      if (isByLine) return row.recordLine === verdict.line - this.reading.before;
+      if (row.line !== verdict.line) return false;
+      if (verdict.what === 'missing') return row.event !== undefined;
+      const { record } = row;
+      const kind = record?.out === 'result' && record.see === 'token' ? 'token' : record?.kind;
+      return kind === verdict.kind && record.call === verdict.call && (record.provider ?? 0) === (verdict.provider ?? 0);
+    }
+
+    // A transcript that lacks its last record, or counts other events than the script has, is not that script's whole one. That of
+    // another program need not be whole.
     checkEnd() {
-      const { records, events, hasTranscript, hasScript } = this.reading;
-      if (!hasTranscript) return;
+      const { records, events, hasTranscript, hasScript, isOfOthers } = this.reading;
+      if (!hasTranscript || isOfOthers) return;
       const last = records.at(-1)?.record;
       const line = records.at(-1)?.recordLine ?? 1;
       if (!last || !LAST_RECORDS.includes(last.out)) {
@@ -87,36 +110,47 @@ const Session = (() => {
       read.kind = kind;
       read.from = from;
       read.to = to;
+      read.at = this.rows.length;
       this.rows.push(read);
       return read;
     }
 
     // A row of a call has its page and its provider, by which the filters find it; the place is that of the provider, if it is one's.
     callRow(read, kind, call, from, to, place) {
+      read.of = call;
       read.call = call.number;
       read.page = call.page;
       read.pageLane = call.pageLane;
       read.providerLane = lanesOf(call, place);
+      if (!this.reading.hasScript) call.began ??= read;
       return this.row(read, kind, from, to);
+    }
+
+    pendingOf(page) {
+      if (!this.pending.has(page)) this.pending.set(page, new Set());
+      return this.pending.get(page);
+    }
+
+    finish(call, read) {
+      if (!call.began) return;
+      call.ended = read;
+      this.pendingOf(call.page).delete(call);
     }
 
     callOf(number) {
       if (!this.calls.has(number)) {
         const page = this.pageOfCall.get(number);
         const pageLane = this.originOfCall.get(number) ?? (page === undefined ? `page of call ${number}` : `page ${page}`);
-        this.calls.set(number, { number, page, pageLane, providers: [], lanes: {} });
+        this.calls.set(number, newCall(number, page, pageLane, []));
       }
       return this.calls.get(number);
     }
 
     event(read) {
-      if (read.part !== this.part) {
-        this.beginPart(read.part);
-        this.row({ line: this.reading.headers[read.part].line }, 'divider', BROWSER, BROWSER);
-      }
       const { event } = read;
       read.unread = read.line > this.badLine;
       this.current = read;
+      if (event.do === 'at') this.moment(read);
       if (ASIDES.includes(event.do)) this.row(read, 'note', BROWSER, BROWSER);
       else if (event.do === 'reply') this.reply(read);
       else if (DECISIONS.includes(event.do)) this.decision(read);
@@ -126,10 +160,28 @@ const Session = (() => {
       }
     }
 
+    // How long after the beginning a time is, and how long after the one before.
+    moment(read) {
+      const begins = this.reading.header?.now;
+      const { time } = read.event;
+      if (begins === undefined) return;
+      Object.assign(read, { since: time - begins, step: time - (this.moments.at(-1)?.event.time ?? begins) });
+      this.moments.push(read);
+    }
+
     reply(read) {
       const call = this.callOf(read.event.call);
       const place = read.event.provider ?? 0;
-      this.callRow(read, 'reply', call, call.lanes[place + read.event.to] ?? laneAt(call, place), BROWSER, place);
+      const asked = call.asked[place + read.event.to];
+      if (asked && !asked.answer && !read.unread) [read.answers, asked.answer] = [asked, read];
+      this.callRow(read, 'reply', call, call.lanes[place + read.event.to] ?? this.laneOfReply(read.event.to, call, place), BROWSER, place);
+    }
+
+    laneOfReply(to, call, place) {
+      if (to !== 'wellknown' || !call.providers[place]) return laneAt(call, place);
+      const lane = wellKnownLane({ ...call, providers: [call.providers[place]] });
+      this.providers.add(lane);
+      return lane;
     }
 
     decision(read) {
@@ -149,16 +201,31 @@ const Session = (() => {
       if (event.do === 'get' || event.do === 'disconnect') return this.begin(read, lane);
       read.page = event.page;
       read.pageLane = lane;
+      if (event.do === 'load' || event.do === 'closepage') this.endCalls(read);
       return this.row(read, 'page', lane, BROWSER);
     }
 
+    // A page that loads or closes ends its calls without a result.
+    endCalls(read) {
+      if (read.unread) return;
+      const ended = [...this.pendingOf(read.event.page)];
+      if (ended.length > 0) read.closes = ended;
+      ended.forEach(call => this.finish(call, read));
+    }
+
+    // Whether an event was taken is what a transcript says: without one no call is known to be pending.
     begin(read, pageLane) {
       const { event } = read;
       const providers = (event.providers ?? [event]).map(({ config }) => Reading.originOf(config));
       providers.forEach(lane => this.providers.add(lane));
-      const earlier = this.calls.get(event.call);
-      const call = { number: event.call, page: event.page, pageLane, providers, lanes: {}, earlier };
+      const call = newCall(event.call, event.page, pageLane, providers);
+      call.earlier = this.calls.get(event.call);
+      call.isDisconnect = event.do === 'disconnect';
       this.calls.set(event.call, call);
+      if (this.reading.hasTranscript && !read.unread) {
+        call.began = read;
+        this.pendingOf(call.page).add(call);
+      }
       if (event.do === 'disconnect') call.permission = this.permissionBefore(call);
       return this.fromPage(read, call);
     }
@@ -185,7 +252,15 @@ const Session = (() => {
     // An ignored get or disconnect is not taken: its number goes on to name the call that it named before.
     ignore(row, { record, recordLine, recordSource }) {
       Object.assign(row, { ignored: record.why, record, recordLine, recordSource });
+      if (row.answers) row.answers = row.answers.answer = undefined;
+      for (const call of row.closes ?? []) {
+        call.ended = undefined;
+        this.pendingOf(call.page).add(call);
+      }
+      row.closes = undefined;
       if (row.event.do !== 'get' && row.event.do !== 'disconnect') return;
+      row.of.began = undefined;
+      this.pendingOf(row.of.page).delete(row.of);
       const { earlier } = this.calls.get(row.event.call);
       if (earlier) this.calls.set(row.event.call, earlier);
       else this.calls.delete(row.event.call);
@@ -204,6 +279,8 @@ const Session = (() => {
       const place = record.provider ?? 0;
       const lane = this.laneOfHost(bytes) ?? laneAt(call, place);
       call.lanes[place + record.kind] = lane;
+      call.asked[place + record.kind] = read;
+      call.requests.push(read);
       if (record.kind !== 'wellknown') call.providers[place] ??= lane;
       this.providers.add(lane);
       this.callRow(read, 'request', call, BROWSER, lane, place);
@@ -254,12 +331,15 @@ const Session = (() => {
       const call = this.callOf(record.call);
       if (record.dialog === 'choose') call.accounts = record.accounts;
       read.providers = call.providers;
+      read.dropped = [...call.dropped];
       this.callRow(read, record.out, call, BROWSER, BROWSER, record.provider ?? record.account?.provider);
     }
 
     dropped(read) {
       const { record } = read;
-      this.callRow(read, 'dropped', this.callOf(record.call), BROWSER, BROWSER, record.provider);
+      const call = this.callOf(record.call);
+      call.dropped.push(read);
+      this.callRow(read, 'dropped', call, BROWSER, BROWSER, record.provider);
     }
 
     result(read, cause) {
@@ -267,6 +347,7 @@ const Session = (() => {
       const call = this.callOf(record.call);
       call.page ??= record.page;
       this.callRow(read, 'result', call, BROWSER, call.pageLane);
+      this.finish(call, read);
       if (record.see === 'token') this.keep(call.pageLane, laneAt(call, record.provider), call.account, call.first?.decision ?? read);
       if (record.see === 'disconnected') this.drop(call, cause);
       if (record.step?.startsWith('disconnect-')) this.drop(call, undefined);
@@ -286,8 +367,14 @@ const Session = (() => {
   function* steps(reading) {
     const builder = new Builder(reading);
     yield* builder.build();
-    const { rows, problems, providers } = builder;
-    return { rows, problems, providers, counts: counts(rows) };
+    const { rows, problems, providers, fault, moments } = builder;
+    const calls = new Set();
+    for (const { call } of rows) {
+      if (call !== undefined) calls.add(call);
+    }
+    const { verdict, header, hasScript, hasTranscript } = reading;
+    return { rows, problems, providers, fault, verdict, header, moments, hasScript, hasTranscript, calls: calls.size,
+      counts: counts(rows) };
   }
 
   return { steps, USER, BROWSER };

@@ -53,13 +53,13 @@ const Table = (() => {
     }
 
     line(row, at, chosen) {
-      const { title, text } = Wording.wordsOf(row);
+      const { title } = Wording.wordsOf(row.sides?.find(Boolean) ?? row);
       const line = document.createElement('tr');
       line.setAttribute('aria-rowindex', at + 2);
       line.classList.toggle('chosen', at === chosen);
       line.classList.toggle('found', this.found.has(row));
-      line.classList.toggle('stands-out', Boolean(row.first || row.decides));
-      line.classList.toggle('grey', Boolean(row.ignored || row.unread));
+      line.classList.toggle('stands-out', Boolean(row.first || row.decides || row.fault || row.ends));
+      line.classList.toggle('grey', Boolean(row.ignored || row.unread || row.isFaint));
       const number = document.createElement('button');
       number.textContent = row.line === undefined ? 'end' : row.line;
       number.setAttribute('aria-label', `Details of ${row.line === undefined ? 'the end' : 'line ' + row.line}: ${title}`);
@@ -67,11 +67,22 @@ const Table = (() => {
       const head = document.createElement('th');
       head.scope = 'row';
       head.append(number);
-      const lanes = row.from === row.to ? ['', ''] : [Wording.laneName(row.from), Wording.laneName(row.to)];
-      line.append(head, ...[row.call ?? '', Wording.KINDS[row.kind], title, ...lanes, row.tells ?? '',
-        [text, Wording.firstText(row), Wording.decidesText(row)].filter(Boolean).join(' · ')].map(cell));
+      line.append(head, ...(row.sides ? pairCells(row, title) : cells(row, title)).map(cell));
       return line;
     }
+  }
+
+  function cells(row, title) {
+    const lanes = row.from === row.to ? ['', ''] : [Wording.laneName(row.from), Wording.laneName(row.to)];
+    const { faultText, wordsOf, firstText, decidesText, tiesText } = Wording;
+    const texts = [faultText(row), wordsOf(row).text, firstText(row), decidesText(row), tiesText(row)];
+    return [row.call ?? '', Wording.KINDS[row.kind], title, ...lanes, row.tells ?? '', texts.filter(Boolean).join(' · ')];
+  }
+
+  // A pair of two worlds has its sentence.
+  function pairCells(row, title) {
+    const first = row.sides.find(Boolean);
+    return [row.call ?? '', Wording.KINDS[first.kind], title, '', '', first.tells ?? '', Wording.sentenceOf(row)];
   }
 
   function cell(words) {

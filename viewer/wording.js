@@ -1,18 +1,15 @@
 'use strict';
 
-// Rows in words: a short title and a text for the chart, one sentence for the table and for a screen reader, and the section of
-// docs/profile.md that a row follows.
+// Rows in words: a short title and a text for the chart, one sentence for the table and for a screen reader, and the rules that a row
+// follows. In a text what differs between rows stands before what repeats, since the end is what a narrow chart cuts.
 const Wording = (() => {
   const TELLS = {
     nothing: 'neither the user nor the page', user: 'the user, and not the page', page: 'the page, and not the user',
     both: 'the user and the page',
   };
 
-  const SECTIONS = {
-    1: '1-script-lines', 2: '2-urls-and-origins', 4: '4-cookies', 5: '5-login-statuses', 6: '6-heads-and-replies', 7: '7-provider-files',
-    8: '8-accounts', 9: '9-tokens', 10: '10-events-and-calls', 11: '11-dialogs', 12: '12-requests-bytes', 13: '13-transcript-lines',
-    14: '14-the-forms-of-the-program', 15: '15-twins', 17: '17-the-order-that-is-kept',
-  };
+  // The page of rules is made of docs/profile.md, with an anchor a rule and a row of a table.
+  const RULES = 'rules.html';
 
   // The rules that a row follows, as the number and what it says.
   const EVENT_RULES = {
@@ -34,11 +31,28 @@ const Wording = (() => {
     disconnect: ['12.3', 'the kinds of request'],
   };
   const RECORD_RULES = {
-    window: ['10.10', 'rows C14 and C28'], dropped: ['13.2', 'the records and their members'], ignored: ['13.4', 'why an event is ignored'], bad: ['1.13', 'the causes of bad lines'],
-    end: ['13.2', 'the records and their members'], twins: ['15.7', 'the quiet length'], 'not-twins': ['15.3', 'the clauses'],
-    summary: ['14.8', 'the form make'],
+    window: ['10.10', 'rows C14 and C28'], dropped: ['10.21', 'a get call of several providers'],
+    ignored: ['13.4', 'why an event is ignored'], bad: ['1.13', 'the causes of bad lines'],
+    end: ['13.2', 'the records and their members'], summary: ['14.8', 'the form make'],
   };
   const DIALOG_RULES = { choose: ['11.2', 'the chooser'], prompt: ['11.3', 'the prompt'], mismatch: ['11.5', 'the mismatch dialog'] };
+
+  // The rules of an audit's clauses, and of what a comparison names.
+  const CLAUSE_RULES = { record: '18.4', call: '18.5', head: '18.6', origin: '18.7', cookie: '18.8', consent: '18.9', token: '18.10' };
+  const DIFFERENCE_RULES = { record: '18.13', missing: '18.13', further: '18.13', head: '18.14', method: '18.14', target: '18.14',
+    host: '18.15', accept: '18.15', 'sec-fetch-dest': '18.15', origin: '18.15', 'content-type': '18.15', 'content-length': '18.15',
+    cookie: '18.15', token: '18.17', page: '18.17', auto: '18.17' };
+
+  function faultRule({ out, clause, what }) {
+    return out === 'faulty' ? [CLAUSE_RULES[clause] ?? '18.3', `the clause ${clause}`]
+      : [DIFFERENCE_RULES[what] ?? '18.16', `where a transcript differs: ${what}`];
+  }
+
+  // A rule that names a row of a table leads to that row.
+  function linkOf([number, name]) {
+    const row = /^rows? (\w+)/.exec(name);
+    return { number, name, href: `${RULES}#${row ? `row-${row[1]}` : `rule-${number}`}` };
+  }
 
   function resultRules({ see }) {
     if (see === 'token') return [['17.6', 'a token is given']];
@@ -47,15 +61,25 @@ const Wording = (() => {
   }
 
   function rulesOf(row) {
+    if (row.sides) return pairRules(row);
     const rules = [];
+    if (row.fault) rules.push(faultRule(row.fault));
     if (row.kind === 'request') rules.push(REQUEST_RULES[row.record.kind], ['12.6', 'which request names whom']);
     if (row.first && row.record.kind === 'assertion') rules.push(['17.2', 'the cause of a request for a token']);
     if (row.kind === 'dialog') rules.push(DIALOG_RULES[row.record.dialog]);
     if (row.kind === 'result') rules.push(...resultRules(row.record));
     if (row.event) rules.push(row.kind === 'reply' ? REPLY_RULES[row.event.to] : EVENT_RULES[row.event.do]);
     if (row.record?.out in RECORD_RULES) rules.push(RECORD_RULES[row.record.out]);
-    if (row.kind === 'divider') rules.push(['14.4', 'the dividing line']);
-    return rules.map(([number, name]) => ({ number, name, href: '../docs/profile.md#' + SECTIONS[number.split('.')[0]] }));
+    return rules.map(linkOf);
+  }
+
+  // What two worlds have in common, where they are compared.
+  function pairRules(pair) {
+    const rules = [];
+    if (pair.link) rules.push(['15.8', 'sign-in requests']);
+    if (pair.ends) rules.push(['15.6', 'quiet scripts'], ['15.7', 'the quiet length']);
+    rules.push(pair.kept === undefined ? ['15.2', 'kept events'] : ['15.4', 'what is free']);
+    return rules.map(linkOf);
   }
 
   function list(items, limit) {
@@ -71,7 +95,7 @@ const Wording = (() => {
     if (bytes === undefined) return 'the connection gave nothing';
     const { status, value } = Decoding.replyOf(bytes);
     const brings = replyBrings(row.event.to, value ?? {});
-    return [status, brings].filter(Boolean).join(' · ');
+    return (status.startsWith('200') ? [brings, status] : [status, brings]).filter(Boolean).join(' · ');
   }
 
   function replyBrings(to, value) {
@@ -97,13 +121,15 @@ const Wording = (() => {
 
   function getText({ context, mediation, mode, activation, providers }) {
     const words = [context ?? 'signin', mediation, mode === 'active' ? (activation ? 'active' : 'active without activation') : undefined];
-    const asked = providers.map(({ config, client }) => `client ${client} · ${config}`);
-    return [...words.filter(Boolean), list(asked, 3)].join(' · ');
+    const [first] = providers;
+    if (providers.length === 1) return [`client ${first.client}`, words.filter(Boolean).join(' '), first.config].join(' · ');
+    const asked = providers.map(({ client, config }) => `client ${client} at ${Reading.originOf(config)?.replace(/^https:\/\//, '')}`);
+    return [list(asked, 10), words.filter(Boolean).join(' ')].join(' · ');
   }
 
   function haveText(event) {
     if (event.what === 'login') return `${event.origin} is ${event.status}`;
-    if (event.what === 'kept') return `permission for ${event.page}, account ${event.account} at ${event.provider}`;
+    if (event.what === 'kept') return `permission of account ${event.account} for ${event.page} at ${event.provider}`;
     if (event.what === 'silent') return `silent access is prevented for ${event.origin}`;
     return `a cookie of ${event.url}`;
   }
@@ -123,7 +149,7 @@ const Wording = (() => {
     prevent: event => ['prevent', `page ${event.page} prevents silent access`],
     setstatus: event => ['status', `page ${event.page} sets ${event.status}`],
     have: event => ['before', haveText(event)],
-    at: event => ['time', momentOf(event.time)],
+    at: (event, row) => ['time', [momentOf(event.time), sinceText(row)].filter(Boolean).join(' · ')],
     choose: (event, row) => ['choose', chosenText(event, row)],
     continue: () => ['continue', 'the user agrees'],
     cancel: () => ['cancel', 'the user dismisses the dialog'],
@@ -137,31 +163,41 @@ const Wording = (() => {
     window: record => ['login window', record.url],
     dropped: (record, row) => [`provider ${record.provider} drops out`, `${row.providerLane} · ${stepOf(record)}`],
     bad: record => [`line ${record.line} is bad`, [record.cause, record.member].filter(Boolean).join(' · ')],
-    end: record => ['end', record.events === 1 ? '1 event' : `${record.events} events`],
-    twins: record => ['twins', `alike up to kept event ${record.quiet}, ${record.compared} requests compared`],
-    'not-twins': record => ['no twins', `clause ${record.clause}, kept event ${record.event}`],
+    end: record => ['end', record.events === undefined ? '' : record.events === 1 ? '1 event' : `${record.events} events`],
     summary: record => ['summary', ['calls', 'events', 'requests', 'dialogs', 'ignored', 'tokens'].map(
       name => `${record[name]} ${name}`).join(', ')],
     ignored: record => [`event on line ${record.line}`, ''],
   };
+
+  function secondsOf(seconds) {
+    if (seconds < 120) return `${seconds} s`;
+    return `${Math.floor(seconds / 60)} min` + (seconds % 60 ? ` ${seconds % 60} s` : '');
+  }
+
+  const sinceText = ({ since, step }) => since === undefined ? '' : `${secondsOf(step)} later, ${secondsOf(since)} after the beginning`;
 
   function momentOf(seconds) {
     const date = new Date(seconds * 1000);
     return Number.isNaN(date.getTime()) ? `${seconds} s` : date.toISOString().replace('T', ' ').replace('.000Z', ' UTC');
   }
 
+  // Whom a request names stands before its target, which is the same for all requests of a kind at a provider.
   function targetOf(record) {
-    const { method, target } = Decoding.requestOf(Decoding.bytesOf(record));
-    return `${method} ${target}`;
+    const { method, target, form } = Decoding.requestOf(Decoding.bytesOf(record));
+    const { account_id: account, account_hint: hint, client_id: client } = Object.fromEntries(form);
+    const names = [account === undefined ? hint : account, client].map((name, at) => name && `${at === 0 ? 'account' : 'client'} ${name}`);
+    return [...names, `${method} ${target}`].filter(Boolean).join(' · ');
   }
+
+  const siteOf = ({ site }) => site === undefined ? '' : ` for ${site}`;
 
   function dialogWords(record) {
-    if (record.dialog === 'choose') return [`chooser for ${record.site}`, list(namesOf(record.accounts), 4)];
-    if (record.dialog === 'prompt') return [`prompt for ${record.site}`, namesOf([record.account])[0]];
-    return [`mismatch for ${record.site}`, stepOf(record)];
+    if (record.dialog === 'choose') return ['chooser' + siteOf(record), list(namesOf(record.accounts ?? []), 4)];
+    if (record.dialog === 'prompt') return ['prompt' + siteOf(record), namesOf([record.account])[0]];
+    return ['mismatch' + siteOf(record), stepOf(record)];
   }
 
-  const stepOf = ({ step, detail }) => detail === undefined ? String(step) : `${step} (${detail})`;
+  const stepOf = ({ step, detail }) => detail === undefined ? String(step ?? '') : `${step} (${detail})`;
 
   function resultWords(record) {
     if (record.see === 'token') return ['token', record.auto ? 'without a choice' : ''];
@@ -180,7 +216,6 @@ const Wording = (() => {
 
   function freshWords(row) {
     const words = () => {
-      if (row.kind === 'divider') return ['second script', ''];
       if (row.kind === 'dialog') return dialogWords(row.record);
       if (row.kind === 'result') return resultWords(row.record);
       if (row.event) return EVENT_WORDS[row.event.do](row.event, row);
@@ -188,24 +223,30 @@ const Wording = (() => {
     };
     const [title, text] = words();
     const why = row.ignored ? `ignored: ${row.ignored}` : row.unread ? 'not read' : '';
-    return { title: Decoding.oneLine(title), text: Decoding.oneLine([text, why].filter(Boolean).join(' · ')) };
+    return { title: Decoding.oneLine(title), text: Decoding.oneLine([why, text].filter(Boolean).join(' · ')) };
   }
 
-  // What stands in a dialog's box below its title.
+  // What stands in a dialog's box below its title. Of several providers those that dropped out before are named too.
   function boxLines(row) {
     const { record } = row;
-    const places = new Set((record.accounts ?? []).map(({ provider }) => provider));
     const nameOf = place => row.providers?.[place]?.replace(/^https:\/\//, '') ?? `provider ${place}`;
+    const away = (row.dropped ?? []).map(({ record: { provider, ...why } }) => `dropped out: ${nameOf(provider)} · ${stepOf(why)}`);
+    return [...linesOf(record, nameOf), ...away];
+  }
+
+  function linesOf(record, nameOf) {
+    const places = new Set((record.accounts ?? []).map(({ provider }) => provider));
     const account = ({ name, id, email, provider, connected }) =>
       [name ?? id, ...(places.size > 1 ? [nameOf(provider)] : []), email ?? '', ...(connected ? ['connected'] : [])].join(' · ');
     if (record.out === 'window') return [record.url];
     if (record.dialog === 'mismatch') return [stepOf(record)];
     if (record.dialog === 'choose') {
-      const shown = record.accounts.slice(0, 4).map(account);
-      return record.accounts.length > 4 ? [...shown, `and ${record.accounts.length - 4} more`] : shown;
+      const accounts = record.accounts ?? [];
+      const shown = accounts.slice(0, 4).map(account);
+      return accounts.length > 4 ? [...shown, `and ${accounts.length - 4} more`] : shown;
     }
     const links = ['privacy', 'terms'].filter(name => record[name] !== undefined);
-    return [account(record.account), ...(record.disclosure ? ['with the disclosure'] : []),
+    return [...(record.account ? [account(record.account)] : []), ...(record.disclosure ? ['with the disclosure'] : []),
       ...(links.length ? ['links: ' + links.join(', ')] : [])];
   }
 
@@ -215,15 +256,23 @@ const Wording = (() => {
     'time-back': 'the time is below the one before it', 'no-next': 'no line divides two scripts',
   };
 
+  // What the page says for itself, of no line.
+  const NOTICES = {
+    'no-transcript': 'There is no transcript: what the browser sends and shows, and which calls are pending, is not drawn. '
+      + './fedcm run FILE writes it.',
+    'two-kept': 'Several files of this kind were given, and the last are shown',
+  };
+
   // What is wrong with a line, with the word of rule 1.13 for it where it has one.
   function problemText({ source, line, cause, member, note }) {
+    if (line === undefined) return [source, NOTICES[cause] ?? note].filter(Boolean).join(': ');
     const known = cause === 'member' ? `the member ${member} is missing or of a wrong kind` : CAUSES[cause];
     const why = [known, note].filter(Boolean).join(': ');
     return Decoding.oneLine(`${source}, line ${line}: ${why} (${cause})`);
   }
 
   const KINDS = { request: 'request', reply: 'reply', decision: 'decision of the user', page: 'page', dialog: 'dialog', window: 'window',
-    result: 'result', dropped: 'provider', note: 'note', divider: 'note' };
+    result: 'result', dropped: 'provider', note: 'note' };
 
   const laneName = lane => lane === 'user' ? 'the user' : lane === 'browser' ? 'the browser' : Decoding.oneLine(lane);
 
@@ -242,16 +291,58 @@ const Wording = (() => {
     return row.kind === 'decision' ? 'the decision before a request that tells both' : 'the permission by which a request tells both';
   }
 
+  // How a call goes on from its beginning, and which row answers which.
+  function tiesText(row) {
+    if (row.of?.began === row && row.event) return row.of.ended ? `pending up to line ${row.of.ended.line}` : 'pending to the end';
+    if (row.answer) return `answered on line ${row.answer.line}`;
+    if (row.kind === 'request' && row.at !== undefined) return 'not answered';
+    if (row.closes) return `ends without a result: call ${row.closes.map(({ number }) => number).join(', ')}`;
+    return row.answers ? `answers the request of line ${row.answers.line}` : '';
+  }
+
+  function faultText({ fault }) {
+    if (!fault) return '';
+    if (fault.out === 'faulty') return `breaks the clause ${fault.clause} of the audit, rule ${faultRule(fault)[0]}`;
+    return `differs from the program's own: ${fault.what}, rule ${faultRule(fault)[0]}`;
+  }
+
   // One sentence that says all that the picture shows of a row.
   function sentenceOf(row) {
+    if (row.sides) return pairSentence(row);
     const { title, text } = wordsOf(row);
     const numbers = [row.line === undefined ? '' : `Line ${row.line}`, row.call === undefined ? '' : `call ${row.call}`];
     const place = numbers.filter(Boolean).join(', ');
     const way = row.from === row.to ? '' : `from ${laneName(row.from)} to ${laneName(row.to)}`;
     const tells = row.tells ? `tells ${TELLS[row.tells]}` : '';
-    const parts = [`${KINDS[row.kind]}: ${title}`, text, way, tells, firstText(row), decidesText(row)].filter(Boolean);
-    return (place ? place + ', ' : '') + parts.join('; ');
+    const parts = [faultText(row), `${KINDS[row.kind]}: ${title}`, text, way, tells, firstText(row), decidesText(row), tiesText(row)];
+    return (place ? place + ', ' : '') + parts.filter(Boolean).join('; ');
   }
 
-  return { wordsOf, boxLines, problemText, sentenceOf, rulesOf, beforeText, firstText, decidesText, laneName, momentOf, KINDS, TELLS };
+  const LINKS = { equal: 'the two requests are equal, byte for byte', differs: 'the two requests differ' };
+
+  function pairSentence(pair) {
+    const [one, two] = pair.sides.map(side => side ? sentenceOf(side) : 'nothing');
+    const kept = pair.kept === undefined ? '' : `Kept event ${pair.kept}`;
+    const parts = [pair.ends ? `here both worlds are quiet no more` : '', `first world: ${one}`, `second world: ${two}`, LINKS[pair.link],
+      pair.isSame ? 'the same in both' : ''];
+    return [kept, parts.filter(Boolean).join('; ')].filter(Boolean).join(', ');
+  }
+
+  // What the program said of a transcript or of two scripts.
+  function verdictText(verdict, fault) {
+    const { out } = verdict;
+    if (out === 'twins') {
+      return `twin: the two scripts are twins; quiet up to kept event ${verdict.quiet}, sign-in requests compared: ${verdict.compared}`;
+    }
+    if (out === 'not-twins') return `twin: the two scripts are no twins, by the clause ${verdict.clause} at kept event ${verdict.event}`;
+    if (out === 'audited') return `audit: every record keeps the rules, of ${verdict.records}`;
+    if (out === 'alike') return `compare: the requests and tokens are the program's own; requests: ${verdict.requests}`;
+    const where = fault ? `, line ${fault.recordLine ?? fault.line} of the ${fault.recordLine ? 'transcript' : 'script'}` : '';
+    if (out === 'faulty') return `audit: line ${verdict.line}${where}, breaks the clause ${verdict.clause} (rule ${faultRule(verdict)[0]})`;
+    return `compare: ${verdict.what} differs at line ${verdict.line}${where} (rule ${faultRule(verdict)[0]})`
+      + (verdict.due === undefined ? '' : `; due is ${verdict.due}`);
+  }
+
+  return { wordsOf, boxLines, problemText, sentenceOf, rulesOf, beforeText, firstText, decidesText, faultText, tiesText,
+    verdictText, stepOf, laneName, momentOf, KINDS, TELLS };
 })();

@@ -46,6 +46,8 @@ def whole_files(tally, page):
     tally.true("no script at all", has_problem(page, "script", 1, "not-json"))
     page.show_texts(empty="")
     tally.true("an empty file", has_problem(page, "script", 1, "not-json"))
+    page.show_texts(mark="\ufeff" + read("examples/sign-up.jsonl"))
+    tally.true("a byte order mark", has_problem(page, "script", 1, "not-json"))
     page.show_texts(header=line(fedcm=2))
     tally.true("another header", has_problem(page, "script", 1, "member"))
     page.show(*sample("bad-line"))
@@ -83,6 +85,6 @@ def harmless(tally, page, where, scripts):
       scripts: document.querySelectorAll('script').length,
       foreign: document.querySelectorAll('img, iframe, object, embed, form:not(#filters), b, [onerror], [onload], base').length,
       links: [...document.querySelectorAll('a')].map(link => link.getAttribute('href'))
-        .filter(href => !/^(#|\\.\\.\\/docs\\/profile\\.md#)/.test(href)).length,
+        .filter(href => !/^(#|rules\\.html#)/.test(href)).length,
     })""")
     tally.same(where, found, {"scripts": scripts, "foreign": 0, "links": 0})

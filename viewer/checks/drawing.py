@@ -104,3 +104,43 @@ def picture(tally, page):
     page.browser.size(700, 900, dark=True)
     page.show(*sample("sign-up"))
     tally.true("the export is the same in a narrow, dark window", page.export() == text)
+
+
+# The page opens with the sign-up, and a window of 1400 by 900 shows its point: the decision and the first request that tells both.
+def opening(tally, page):
+    page.browser.size(1400, 900)
+    page.open()
+    tally.same("opened: drawn", page.drawn(), wanted(*sample("sign-up")))
+    tally.same("opened: chosen", page.get("document.querySelector('#detail h2').textContent"), "Line 10: assertion")
+    below = page.get("[...document.querySelectorAll('#chart .row')].filter(row => row.getBoundingClientRect().bottom > innerHeight).length")
+    tally.same("opened: rows below the window", below, 0)
+    heights = page.get("[...new Set([...document.querySelectorAll('#chart .row:not(.dialog) > .band')]"
+                       ".map(band => band.getAttribute('height')))]")
+    tally.same("opened: heights of rows without a box", heights, ["30"])
+    tally.true("opened: the filters are folded", page.get("!document.querySelector('#filter-box').open"))
+    page.get("(box => { box.value = 'several-calls'; box.dispatchEvent(new Event('change')); })(document.querySelector('#example'))")
+    page.browser.wait("document.querySelector('#summary').textContent.startsWith('95 events')")
+    tally.true("another example: its calls", page.count("#chart .stripe") >= 3)
+
+
+# A script without its transcript says so; what is not known is not drawn.
+def script_alone(tally, page):
+    page.show(sample("sign-up")[0])
+    tally.true("a script alone: said", any("There is no transcript" in text for text in page.problems()))
+    tally.same("a script alone: no stripe and no mark", [page.count("#chart ." + kind) for kind in ("stripe", "mark", "first")], [0, 0, 0])
+    tally.same("a script alone: lanes", lanes(page), ["user", "https://shop.example", "browser", "https://accounts.idp.example",
+                                                     "well-known host of https://accounts.idp.example"])
+
+
+# Where the clock goes on there is a line with the time, and the time of what is in view stands above.
+def times(tally, page):
+    page.browser.size(1400, 900)
+    page.show("viewer/tests/interleaved.jsonl", "viewer/tests/interleaved.out.jsonl")
+    tally.same("the time at the beginning", page.get("document.querySelector('.clock').textContent"), "00:00:00 UTC")
+    page.get("document.querySelector('#chart').scrollTop = 16000")
+    page.browser.wait("document.querySelector('.clock').textContent !== '00:00:00 UTC'")
+    page.set("#filter-kind", "note")
+    number = sum(event.get("do") == "at" for event in values("viewer/tests/interleaved.jsonl"))
+    tally.same("a line for each time", page.count("#chart .moment"), number)
+    tally.true("how long it took", page.get("[...document.querySelectorAll('#chart .row')].some(row => "
+                                           "row.getAttribute('aria-label').includes('60 s later, 60 s after the beginning'))"))

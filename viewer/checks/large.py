@@ -6,6 +6,8 @@ import time
 from .page import line
 
 RECORDS = 100000
+EVENTS = 10000
+WHOLE_PICTURE = 1000
 FIRST_PICTURE = 2000
 ROUNDS = 3
 CONFIG = "https://accounts.idp.example/fedcm.json"
@@ -146,13 +148,35 @@ def early(tally, page, script, transcript):
                [210, "row-9", "row-9"])
 
 
-# Where each call has a page of its own the pages share a lane, and each arrow names its own.
+# 10,000 events with their transcript: all are read, and the picture stands.
+def soon(tally, page):
+    session = Script(5)
+    calls = (EVENTS - 5) // 6 + 1
+    for call in range(calls):
+        session.call(call, call % 5)
+    script, transcript = session.texts()
+    paths = page.file("soon.jsonl", script), page.file("soon.out.jsonl", transcript)
+    page.browser.size(1400, 900)
+    rounds = []
+    for _ in range(ROUNDS):
+        given = share()
+        page.show(*paths)
+        tally.true("10,000 events: all are read", "%d dialogs" % calls in page.text("#summary").replace(",", ""))
+        taken = between(page, "given", "drawn")
+        rounds.append((taken * given, taken, given))
+    counted, taken, given = min(rounds)
+    print("10,000 events: the whole picture after %d ms, with %d%% of a processor" % (taken, given * 100))
+    tally.true("the whole picture comes after %d ms" % counted, counted <= WHOLE_PICTURE)
+
+
+# Where each call has a page of its own, those in view have lanes. The first rows load pages, so the lanes of providers have no name yet.
 def many(tally, page):
     script, transcript, _ = made(page, 15000)
     page.browser.size(1400, 900)
     page.show(script, transcript, mark="whole")
     lanes = page.get("[...document.querySelectorAll('#chart .lanes g > title')].map(title => title.textContent)")
-    tally.same("15,000 pages: lanes", lanes, ["user", "several pages", "browser", "https://idp.example", "https://accounts.idp.example"])
+    tally.same("15,000 pages: lanes", [lane for lane in lanes if "shop" not in lane],
+               ["user", "further pages", "browser", "", ""])
     page.set("#filter-page", "shop77.example")
     lanes = page.get("[...document.querySelectorAll('#chart .lanes g > title')].map(title => title.textContent)")
-    tally.true("one page has its lane", "https://shop77.example" in lanes and "several pages" not in lanes)
+    tally.true("one page has its lane", "https://shop77.example" in lanes and "further pages" not in lanes)

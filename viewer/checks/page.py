@@ -17,14 +17,14 @@ def read(path):
         return file.read()
 
 
-# The examples that are drawn: what `check`, `audit` and `compare` write is no transcript.
+# The examples of scripts with transcripts: what the forms `check`, `twin`, `audit` and `compare` write is none.
 def names():
     found = (os.path.basename(path)[:-len(".out.jsonl")] for path in glob.glob("examples/*.out.jsonl"))
     return sorted(name for name in found if not is_aside("examples/%s.words" % name))
 
 
 def is_aside(words):
-    return os.path.exists(words) and read(words).split() in (["check"], ["audit"], ["compare"])
+    return os.path.exists(words) and read(words).split() in (["check"], ["audit"], ["compare"], ["twin"], ["slice", "shop.example"])
 
 
 # The paths of an example's script and transcript.
@@ -69,14 +69,18 @@ class Page:
             file.write(text)
         return path
 
-    def open(self):
-        self.browser.open(INDEX)
+    # A fresh page with the example that it opens with, or with a named one.
+    def open(self, name=""):
+        self.browser.call("Page.navigate", url="about:blank")
+        self.browser.open(INDEX + ("#" + name if name else ""))
+        self.browser.wait("performance.getEntriesByName('drawn').length > 0")
+        self.get("performance.clearMarks()")
 
     # A fresh page, in which files are chosen.
     def show(self, *paths, mark="drawn"):
         self.open()
         self.browser.choose_files("#files", [os.path.abspath(path) for path in paths if path])
-        self.browser.wait("performance.getEntriesByName('%s').length > 0" % mark, 60)
+        self.browser.wait("performance.getEntriesByName('%s').length > 0" % mark, 180)
 
     def show_texts(self, **texts):
         self.show(*[self.file(name + ".jsonl", text) for name, text in texts.items()])

@@ -15,6 +15,7 @@ def give(page, kind, event, member, texts, as_files):
     adds = ["data.items.add(new File([%s], 'text.jsonl'));" % json.dumps(text) if as_files
             else "data.setData('text/plain', %s);" % json.dumps(text) for text in texts]
     page.open()
+    page.get("document.querySelector('#clear').click()")
     page.get(GIVE % ("\n".join(adds), kind, event, member))
     page.browser.wait("performance.getEntriesByName('drawn').length > 0")
 
@@ -28,6 +29,7 @@ def given(tally, page):
     give(page, "ClipboardEvent", "paste", "clipboardData", [script + transcript], False)
     tally.same("a script with its transcript behind it, pasted", page.drawn(), expected)
     page.open()
+    page.browser.click("#clear")
     page.get("document.querySelector('#pasted').value = %s" % json.dumps(script + transcript))
     page.browser.click("#show-pasted")
     page.browser.wait("document.querySelectorAll('#chart .row').length > 0")
@@ -72,7 +74,7 @@ def keys(tally, page):
     page.show(*sample("sign-up"))
     last = page.count("#chart .row") - 1
     page.get("document.querySelector('#chart').focus()")
-    for key, row in (("ArrowDown", 0), ("ArrowDown", 1), ("ArrowUp", 0), ("End", last), ("Home", 0), ("PageDown", None)):
+    for key, row in (("Home", 0), ("ArrowDown", 1), ("ArrowUp", 0), ("End", last), ("Home", 0), ("PageDown", None)):
         press(key)
         if row is not None:
             tally.same("key " + key, chosen(page), "row-%d" % row)
@@ -82,6 +84,10 @@ def keys(tally, page):
     tally.same("key d: to the decision", chosen(page), page.get("document.querySelector('#chart .decides').id"))
     press("ArrowDown")
     tally.same("below the decision stands the request", chosen(page), first)
+    press("r")
+    tally.true("key r: to the reply", page.text("#said").startswith("Line 11, call 1, reply: assertion"))
+    press("r")
+    tally.same("key r: back to the request", chosen(page), first)
     press("Enter", "\r")
     tally.same("key Enter: to the details", page.get("document.activeElement.textContent"), "Line 10: assertion")
     press("Escape")
@@ -126,23 +132,40 @@ def names_of(page, role):
 
 def spoken(tally, page):
     page.show(*sample("sign-up"))
+    page.get("document.querySelector('#filter-box').open = true")
     for role in ("button", "textbox", "combobox", "searchbox", "listbox", "option", "link", "heading", "complementary"):
         found = names_of(page, role)
         tally.true("each %s has a name: %r" % (role, found), found and all(found) or role in ("textbox", "searchbox"))
     rows = [name for name in names_of(page, "option") if name.startswith("Line 10")]
-    tally.same("the assertion's sentence", rows[1], "Line 10, call 1, request: assertion; POST /assertion; from the browser to "
-               "https://accounts.idp.example; tells the user and the page; first of its call to tell both, after line 10 (continue)")
+    tally.same("the assertion's sentence", rows[1], "Line 10, call 1, request: assertion; account b81e02 · client shop-web · POST "
+               "/assertion; from the browser to https://accounts.idp.example; tells the user and the page; first of its call to tell both, "
+               "after line 10 (continue); answered on line 11")
+    spoken_others(tally, page)
+    page.show(*sample("sign-up"))
     page.get("document.querySelector('#chart').focus()")
     page.browser.press("ArrowDown")
-    tally.true("a chosen row is said", page.text("#said").startswith("Line 2"))
+    tally.true("a chosen row is said", page.text("#said").startswith("Line 11"))
     focused = []
     page.get("document.querySelector('.skip').focus()")
-    for _ in range(14):
+    for _ in range(13):
         page.browser.press("Tab")
         focused.append(page.get("document.activeElement.id || document.activeElement.textContent.trim().slice(0, 20)"))
-    wished = ["files", "Paste", "clear", "export", "view-chart", "view-table", "filter-call", "filter-page", "filter-provider",
-              "filter-kind", "search", "Keys", "chart"]
+    wished = ["example", "files", "Paste", "clear", "export", "print", "view-chart", "view-table", "Filters and search",
+              "How to read it, and ", "chart"]
     tally.same("the order of focus", [name for name in focused if name in wished], wished)
+
+
+# Of calls that interleave, of two worlds and of an audit each row is one sentence too.
+def spoken_others(tally, page):
+    for name, part in (("several-calls", "pending up to line"), ("twins", "the two requests are equal, byte for byte"),
+                       ("faulty", "breaks the clause origin of the audit, rule 18.7")):
+        page.open(name)
+        fields = page.get("[...document.querySelectorAll('select option')].map(option => option.text)")
+        found = [each for each in names_of(page, "option") if each not in fields]
+        tally.same("%s: rows in the tree" % name, len(found), page.count("#chart .row"))
+        said = [bool(re.match(r"(Line|Kept event|first world|note)", each)) for each in found]
+        tally.true("%s: each row has its sentence" % name, found and all(said))
+        tally.true("%s: %s" % (name, part), any(part in each for each in found))
 
 
 def luminance(color):
@@ -159,7 +182,9 @@ def contrast(one, other):
 # Each color of text on each ground that it stands on, in both modes: at least 4.5 to 1.
 def colors(tally, page):
     page.open()
-    grounds = {"paper": ("ink", "faint", "user", "page", "both", "decide", "link"), "soft": ("ink", "faint"), "band": ("ink", "faint"),
+    stripes = tuple("s%d" % at for at in range(6))
+    grounds = {"paper": ("ink", "faint", "user", "page", "both", "decide", "link", *stripes), "soft": ("ink", "faint"),
+               "band": ("ink", "faint"),
                "chosen": ("ink", "faint"), "found": ("ink", "faint"), "both": ("on-both",), "decide": ("paper",)}
     for mode in ("light", "dark"):
         page.browser.size(1400, 900, dark=mode == "dark")
@@ -186,32 +211,35 @@ def widths(tally, page):
     tally.same("nothing moves by itself", page.get("document.getAnimations().length"), 0)
 
 
-def slug(heading):
-    return re.sub(r"[^\w\- ]", "", heading.lower()).replace(" ", "-")
-
-
-# Each link of each row leads to a heading of the profile that is there, and to a rule that stands below it.
+# Each link of each row leads to a rule, or to a row of a table, that is there.
 def links(tally, page):
-    profile = read("docs/profile.md")
-    headings = {slug(match.group(1)) for match in re.finditer(r"^## (.*)$", profile, re.M)}
-    rules = set(re.findall(r"^\*\*(\d+\.\d+) ", profile, re.M))
+    anchors = set(re.findall(r' id="([^"]+)"', read("viewer/rules.html")))
+    rules = {"rule-" + number for number in re.findall(r"^\*\*(\d+\.\d+) ", read("docs/profile.md"), re.M)}
+    tally.same("rules without an anchor", rules - anchors, set())
     missing, number = set(), 0
-    for name in names():
-        page.show(*sample(name))
-        found = page.get("""(() => {
-          const links = new Set();
-          for (const row of document.querySelectorAll('#chart .row')) {
-            row.querySelector('.band').dispatchEvent(new MouseEvent('click', {bubbles: true}));
-            for (const link of document.querySelectorAll('#detail a')) links.add(link.getAttribute('href') + ' ' + link.textContent);
-          }
-          return [...links];
-        })()""")
-        for link in found:
-            href, rule = re.match(r"\.\./docs/profile\.md#(\S+) rule (\d+\.\d+):", link).groups()
+    for shown in [sample(name) for name in names()] + ["twins", "faulty", "differs"]:
+        page.open(shown) if isinstance(shown, str) else page.show(*shown)
+        for link in page.get(LINKS):
+            href, text = link.split(" ", 1)
+            found = re.match(r"rules\.html#((?:rule|row)-\S+)$", href)
             number += 1
-            if href not in headings or rule not in rules or not href.startswith(rule.split(".")[0] + "-"):
+            if not found or found[1] not in anchors or not (text.startswith("rule " + found[1][5:] + ":") or found[1].startswith("row-")):
                 missing.add(link)
     tally.true("%d links, of which these lead nowhere: %r" % (number, missing), number > 0 and not missing)
+    page.browser.open(RULES + "#rule-10.10")
+    tally.true("the rule is in view", page.get("(box => box.top >= 0 && box.bottom <= innerHeight)"
+                                              "(document.querySelector(':target').getBoundingClientRect())"))
+
+
+LINKS = """(() => {
+  const links = new Set();
+  for (const row of document.querySelectorAll('#chart .row')) {
+    document.getElementById(row.id).querySelector('.band').dispatchEvent(new MouseEvent('click', {bubbles: true}));
+    for (const link of document.querySelectorAll('#detail a')) links.add(link.getAttribute('href') + ' ' + link.textContent);
+  }
+  return [...links];
+})()"""
+RULES = INDEX.replace("index.html", "rules.html")
 
 
 # The page asks for its own files alone, and its policy refuses what is tried.

@@ -28,7 +28,8 @@ pub record Judged (script : Script) (said : Record) (older : List Record) (P : S
 -- each request has the Origin and the cookies that are due
 abbrev pub RequestsAreDue : Type 0
 RequestsAreDue =
-    (script : Script) (line call provider : ℕ) (kind : ReplyKind) (bytes : List ℕ) → (p : Passed script (Request line call provider kind bytes))
+    (script : Script) (line call provider : ℕ) (kind : ReplyKind) (bytes : List ℕ)
+    → (p : Passed script (Request line call provider kind bytes))
     → Judged script (Request line call provider kind bytes) p.older (λ s. HasOrigin s call kind bytes × HasCookies s kind bytes)
 
 -- each request for a token has its cause, and is the first of its call

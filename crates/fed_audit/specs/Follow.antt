@@ -1,5 +1,6 @@
 -- What is kept while a transcript is audited, of what happened and of what the records said.
-use Rattle.std.specs.Prelude.{◌≡◌, ℕ, ◌+◌, suc, Bool, false, nat_eq, List, [], ◌∷◌, ◌++◌, length, is_some, Option, Some, None, option_map, unwrap_or, if◌then◌else◌}
+use Rattle.std.specs.Prelude.{◌≡◌, ℕ, ◌+◌, suc, Bool, false, nat_eq, List, [], ◌∷◌, ◌++◌, length, is_some, Option, Some, None, option_map}
+use Rattle.std.specs.Prelude.{unwrap_or, if◌then◌else◌}
 use Rattle.std.specs.Map.{lookup}
 use Rattle.std.specs.List.{list_any}
 use Rattle.std.specs.Option.{option_or}

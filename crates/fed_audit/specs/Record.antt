@@ -1,5 +1,6 @@
 -- What a line of a transcript says, as far as it is audited.
-use Rattle.std.specs.Prelude.{⊤, ℕ, ◌≤◌, Bool, false, ◌||◌, nat_eq, List, [], ◌∷◌, codes, bytes_eq, Option, Some, None, option_and_then, if◌then◌else◌}
+use Rattle.std.specs.Prelude.{⊤, ℕ, ◌≤◌, Bool, false, ◌||◌, nat_eq, List, [], ◌∷◌, codes, bytes_eq, Option, Some, None, option_and_then}
+use Rattle.std.specs.Prelude.{if◌then◌else◌}
 use Rattle.base64.specs.Engines.{standard}
 use Rattle.base64.specs.GeneralPurpose.{decode_of}
 use Rattle.std.specs.Result.{result_ok}
@@ -85,7 +86,8 @@ other_of d = do
 
 -- a dialog, a window, or that an event was not taken or a provider dropped
 abbrev pub is_other : List ℕ → Bool
-is_other out = bytes_eq out (codes "dialog") || bytes_eq out (codes "window") || bytes_eq out (codes "ignored") || bytes_eq out (codes "dropped")
+is_other out =
+    bytes_eq out (codes "dialog") || bytes_eq out (codes "window") || bytes_eq out (codes "ignored") || bytes_eq out (codes "dropped")
 
 -- the record of a value, by its member `out`
 abbrev pub named : List ℕ → Data → Option Record

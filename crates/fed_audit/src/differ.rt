@@ -234,7 +234,7 @@ fn requests(
     bodies(alloc, kind, own.body, said.body)
 }
 
-// The same by the bytes of the other request.
+// What differs first, by the bytes of the other request.
 fn said_request(
     alloc: Global,
     kind: ReplyKind,
@@ -250,7 +250,7 @@ fn said_request(
     }
 }
 
-// The same of a request of more than 16 fields, or without a head.
+// What differs first from a request of more than 16 fields, or without a head.
 #[inline(never)]
 fn long_said_request(
     alloc: Global,

@@ -23,4 +23,5 @@ pub use aspect::{About, Aspect, Subject};
 pub use difference::{Comparison, Difference};
 pub use fault::{AuditClause, AuditFault};
 pub use lines::compare;
+pub use record::Record;
 pub use whole::{audit, count_records};

@@ -82,7 +82,7 @@ fn found_in_request(
     }
 }
 
-// The same of the own token.
+// What differs first between the own token and a record.
 fn found_in_token(alloc: Global, own: &Given<'_>, said: &Record) -> Result<Option<Finding>, NoRoom>
     ensures { (line : ℕ) (call : ℕ) (provider : ℕ) → IfOk result (λ found. spec.DifferIn
         (outs.Answer line call own.now.page (finishes.Token own.now.auto provider own.now.token.now)) said.now found) }
@@ -107,7 +107,7 @@ fn found_in_token(alloc: Global, own: &Given<'_>, said: &Record) -> Result<Optio
     }
 }
 
-// The same of what the page of a call gets.
+// What differs first between what the page of a call gets here and a record.
 fn found_in_finish(
     alloc: Global,
     page: u32,
@@ -129,7 +129,7 @@ fn found_in_finish(
     }
 }
 
-// The same of the own record.
+// What differs first between the own record and another.
 fn found_in(alloc: Global, own: &Out, said: &Record) -> Result<Option<Finding>, NoRoom>
     ensures { IfOk result (λ found. spec.DifferIn own.now said.now found) }
 {
@@ -227,7 +227,7 @@ fn compare_line<L: Ledger>(
     }
 }
 
-// The same of any line: a blank one is passed over.
+// Compares a line with the own records; a blank one is passed over.
 fn compare_any<L: Ledger>(
     rows: &mut Rows<'_>,
     number: u32,
@@ -283,7 +283,7 @@ fn compare_lines<L: Ledger>(
     }
 }
 
-// The same as `compare`, with the counter of its steps.
+// Compares as `compare` does, with the counter of its steps.
 fn compare_by<L: Ledger>(
     alloc: Global,
     counter: Blank,

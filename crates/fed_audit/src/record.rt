@@ -20,7 +20,7 @@ use std::alloc::Global;
 
 /// A record, as far as it is looked at: its other members are read over.
 #[derive(Drop)]
-pub(crate) enum Record {
+pub enum Record {
     /// A request of a call to the provider at this place, and all its bytes.
     Request {
         line: u32,

@@ -162,7 +162,7 @@ fn front_fault(
     Ok(Some(AuditClause::Consent))
 }
 
-// The same by the bytes of the request. Few requests have more than 16 fields.
+// Judges a request by its bytes. Few requests have more than 16 fields.
 fn bytes_fault(
     alloc: Global,
     seen: &Seen,
@@ -183,7 +183,7 @@ fn bytes_fault(
     }
 }
 
-// The same of a request of more than 16 fields, or without a head.
+// Judges a request of more than 16 fields, or without a head.
 #[inline(never)]
 fn long_fault(
     alloc: Global,

@@ -155,7 +155,7 @@ fn judge_any<'e, L: Ledger>(
     judge_line(seen, script, at, line, scratch, steps)
 }
 
-// The same as `audit`, with the counter of its steps.
+// Audits as `audit` does, with the counter of its steps.
 fn audit_by<L: Ledger>(
     alloc: Global,
     counter: Blank,

@@ -1,5 +1,6 @@
 -- How each form ends for the bytes of its source where nothing fails, and what it writes.
-use Rattle.std.specs.Prelude.{◌≡◌, ℕ, ◌≤◌, nat_lt, Bool, true, false, not, List, [], count_by, length, Option, Some, None, IfSome, Result, Ok, Err}
+use Rattle.std.specs.Prelude.{◌≡◌, ℕ, ◌≤◌, nat_lt, Bool, true, false, not, List, [], count_by, length, Option, Some, None, IfSome, Result}
+use Rattle.std.specs.Prelude.{Ok, Err}
 use Rattle.std.specs.Prelude.{◌↔◌, ⊤}
 use Rattle.std.specs.Io.KnownBytes.{Appends, Keeps}
 use Rattle.fed_io.specs.Io.{AppendsLess}
@@ -13,6 +14,8 @@ use Rattle.fed_audit.specs.declared.difference.Comparison.{Comparison}
 use Rattle.fed_audit.specs.declared.difference.Comparison.TheVariants as comes
 use Rattle.fed_audit.specs.declared.fault.AuditFault.{AuditFault}
 use Rattle.fed_print.specs.Lines.{line_of}
+use Rattle.fed_slice.specs.Closure.{IsClosure}
+use Rattle.fed_slice.specs.Lines.{slice_text}
 use Rattle.fed_twin.specs.declared.fault.TwinFault.{TwinFault}
 use Rattle.fed_twin.specs.Compare.{IsQuietLength}
 use Rattle.fed_twin.specs.Fault.{TwinFaultOf}
@@ -21,9 +24,10 @@ use Rattle.fed_twin.specs.Twin.{Twin}
 use Rattle.fed_run.specs.declared.form.Form.{Form}
 use Rattle.fed_run.specs.declared.answer.Whole.{Whole}
 use Rattle.fed_run.specs.declared.answer.Whole.TheVariants as wholes
-use Rattle.fed_run.specs.declared.form.Form.TheVariants.{Run, Check, Twin as TwinForm, Audit, Compare, Make}
+use Rattle.fed_run.specs.declared.form.Form.TheVariants.{Run, Check, Twin as TwinForm, Audit, Compare, Make, Slice}
 use Rattle.fed_run.specs.declared.status.Status.{Status}
 use Rattle.fed_run.specs.declared.status.Status.TheVariants.{Done, BadScript, TooLong, NotTwins, Faulty, Differs}
+use Rattle.fed_run.specs.Alone.{alone_of, alone_bad_within}
 use Rattle.fed_run.specs.Checks.{check_status, check_written, ChecksOnly, ChecksAfter, ChecksShort}
 use Rattle.fed_run.specs.Make.{summary_text}
 use Rattle.fed_run.specs.Recorded.{Recorded, recorded_of, recorded_bad_within}
@@ -105,6 +109,19 @@ abbrev pub TellsComparison : Result Recorded PairStop → Status → List ℕ �
 TellsComparison (Ok recorded) status text = TellsCompared recorded status text
 TellsComparison (Err stop) status text = TellsStop stop status text
 
+-- ---- slice
+
+-- the answer for a script: the lines of its slice by all that the party is linked with
+pub record TellsPart (party bytes : List ℕ) (script : Script) (status : Status) (text : List ℕ) : Type 0 where
+  pub parties : List (List ℕ)
+  pub is_closure : IsClosure script party parties
+  pub ends : status ≡ Done
+  pub writes : text ≡ slice_text script parties bytes
+
+abbrev pub TellsSlice : List ℕ → List ℕ → Result Script PairStop → Status → List ℕ → Type 0
+TellsSlice party bytes (Ok script) status text = TellsPart party bytes script status text
+TellsSlice party bytes (Err stop) status text = TellsStop stop status text
+
 -- ---- the forms that read their source whole
 
 -- the form of the command line
@@ -112,18 +129,21 @@ abbrev pub whole_form : Whole → Form
 whole_form wholes.Twin = TwinForm
 whole_form wholes.Audit = Audit
 whole_form wholes.Compare = Compare
+whole_form (wholes.Slice party) = Slice party
 
 -- what is told of all bytes
 abbrev pub TellsAll : Whole → List ℕ → Status → List ℕ → Type 0
 TellsAll wholes.Twin bytes status text = TellsPair (pair_of bytes) status text
 TellsAll wholes.Audit bytes status text = TellsAudit (recorded_of bytes) status text
 TellsAll wholes.Compare bytes status text = TellsComparison (recorded_of bytes) status text
+TellsAll (wholes.Slice party) bytes status text = TellsSlice party bytes (alone_of bytes) status text
 
 -- the first bad line that ends within the limit
 abbrev pub bad_line_within : Whole → ℕ → List ℕ → Option PairStop
 bad_line_within wholes.Twin limit bytes = bad_within limit bytes
 bad_line_within wholes.Audit limit bytes = recorded_bad_within limit bytes
 bad_line_within wholes.Compare limit bytes = recorded_bad_within limit bytes
+bad_line_within (wholes.Slice party) limit bytes = alone_bad_within limit bytes
 
 -- the bytes are more than the limit: a bad line that ends within it is named
 abbrev pub TellsCut : Option PairStop → Status → List ℕ → Type 0
@@ -152,6 +172,7 @@ Ends limit Check bytes status text = EndsCheck limit bytes status text
 Ends limit TwinForm bytes status text = EndsWhole wholes.Twin limit bytes status text
 Ends limit Audit bytes status text = EndsWhole wholes.Audit limit bytes status text
 Ends limit Compare bytes status text = EndsWhole wholes.Compare limit bytes status text
+Ends limit (Slice party) bytes status text = EndsWhole (wholes.Slice party) limit bytes status text
 Ends limit (Make calls) bytes status text = EndsMake calls status text
 
 -- the form reads its source
@@ -164,6 +185,7 @@ abbrev pub ReadsWhole : Option Form → Type 0
 ReadsWhole (Some TwinForm) = ⊤
 ReadsWhole (Some Audit) = ⊤
 ReadsWhole (Some Compare) = ⊤
+ReadsWhole (Some (Slice party)) = ⊤
 ReadsWhole form = ⊥
 
 -- what is so of a number of calls, where the form makes so many

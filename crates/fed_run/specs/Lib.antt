@@ -4,6 +4,7 @@ pub mod Words
 pub mod Told
 pub mod Streams
 pub mod Checks
+pub mod Alone
 pub mod Recorded
 pub mod Ends
 pub mod Alike

@@ -1,10 +1,11 @@
 -- What the bytes of a script and of a transcript that was written for it are read as, which a line divides.
-use Rattle.std.specs.Prelude.{ℕ, ◌+◌, nat_eq, nat_le, Bool, ◌&&◌, List, length, drop, codes, Option, Some, None, Result, Ok, Err}
+use Rattle.std.specs.Prelude.{ℕ, ◌+◌, nat_eq, Bool, ◌&&◌, List, length, drop, codes, Option, Some, None, Result, Ok, Err}
 use Rattle.std.specs.Prelude.{if◌then◌else◌}
 use Rattle.std.specs.List.{list_any, prefix_len, starts_with, before_first, after_first}
 use Rattle.fed_script.specs.declared.cause.PairStop.{PairStop}
 use Rattle.fed_script.specs.Pair.{Halves, lines_within, stop_after, undivided}
 use Rattle.fed_script.specs.Script.{Script, Stop, is_blank, is_margin, lines_of, script_of_lines}
+use Rattle.fed_run.specs.Alone.{if_among}
 use Rattle.fed_run.specs.declared.recorded.Recorded.{Recorded as RecordedBytes}
 
 -- ---- the dividing line
@@ -56,7 +57,7 @@ recorded_of bytes = recorded_of_lines (lines_of bytes)
 -- the line where both stop, unless it ends after the first so many lines
 abbrev pub recorded_stop_within : ℕ → Result Recorded PairStop → Option PairStop
 recorded_stop_within lines (Ok recorded) = None
-recorded_stop_within lines (Err stop) = if nat_le stop.line lines then Some stop else None
+recorded_stop_within lines (Err stop) = if_among lines stop
 
 -- the first bad line, where it ends with LF within the first so many bytes
 abbrev pub recorded_bad_within : ℕ → List ℕ → Option PairStop

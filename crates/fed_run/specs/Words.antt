@@ -3,7 +3,7 @@ use Rattle.std.specs.Prelude.{ℕ, ◌≤◌, nat_lt, Bool, ◌&&◌, List, [], 
 use Rattle.std.specs.Prelude.{if◌then◌else◌}
 use Rattle.std.specs.Str.Parse.{digits_value}
 use Rattle.fed_run.specs.declared.form.Form.{Form}
-use Rattle.fed_run.specs.declared.form.Form.TheVariants.{Run, Check, Twin, Audit, Compare, Make}
+use Rattle.fed_run.specs.declared.form.Form.TheVariants.{Run, Check, Twin, Audit, Compare, Make, Slice}
 use Rattle.fed_run.specs.declared.status.Status.{Status}
 use Rattle.fed_run.specs.declared.status.Status.TheVariants.{Done, Usage, BadScript, ReadFault, WriteFault, NoRoom, TooLong, NotTwins}
 use Rattle.fed_run.specs.declared.status.Status.TheVariants.{Faulty, Differs}
@@ -32,17 +32,23 @@ calls_if calls word = if names_calls calls word then Some calls else None
 abbrev pub calls_named : List ℕ → Option ℕ
 calls_named word = calls_if (digits_value 10 word) word
 
--- the form of a word and a number
-abbrev pub form_numbered : List ℕ → List ℕ → Option Form
-form_numbered word number =
-    if bytes_eq word (codes "make") then option_map (λ calls. Make calls) (calls_named number) else None
+-- the form `slice` of a party, which has a byte at least
+abbrev pub slice_of : List ℕ → Option Form
+slice_of [] = None
+slice_of (b ∷ party) = Some (Slice (b ∷ party))
+
+-- the form of a word and a second one
+abbrev pub form_with : List ℕ → List ℕ → Option Form
+form_with word second =
+    if bytes_eq word (codes "make") then option_map (λ calls. Make calls) (calls_named second)
+    else (if bytes_eq word (codes "slice") then slice_of second else None)
 
 -- the form of the words of a command line, if they are one
 abbrev pub form_of : List (List ℕ) → Option Form
 form_of [] = None
 form_of (word ∷ []) = form_named word
-form_of (word ∷ number ∷ []) = form_numbered word number
-form_of (word ∷ number ∷ next ∷ words) = None
+form_of (word ∷ second ∷ []) = form_with word second
+form_of (word ∷ second ∷ next ∷ words) = None
 
 -- a form that makes its script makes so many calls as it may
 abbrev pub MayBe : Form → Type 0

@@ -1,4 +1,4 @@
-//! The forms `twin`, `audit` and `compare`: what is told of the bytes of a source, once it was read whole.
+//! The forms `twin`, `audit`, `compare` and `slice`: what is told of the bytes of a source, once it was read whole.
 ghost use Rattle.std.specs.Prelude.{◌≡◌, ◌≤◌, ◌<◌, ◌+◌, ◌++◌, ◌⊎◌, length, List, ℕ, Some, IfOk, IfSome};
 ghost use Rattle.std.specs.Io.KnownBytes.{Appends, Keeps, IsAtEnd};
 ghost use Rattle.fed_io.specs.Io.{Rose, AppendsLess};
@@ -9,17 +9,20 @@ use crate::audit::{audit_of, recorded_front};
 use crate::compare::comparison_of;
 use crate::ran::Ran;
 use crate::read::{LIMIT, ReadEnd, read_all};
+use crate::slice::{slice, slice_of_front};
 use crate::status::Status;
 use crate::twin::{twin, twin_of_front};
+use crate::word::Word;
 use fed_io::{NoRoom, Sink, Source, put_all};
 use std::alloc::Global;
 
 /// A form whose source is read whole.
-#[derive(Clone, Copy, Debug, PartialEq, Eq)]
-pub enum Whole {
+#[derive(Drop)]
+pub enum Whole<'a> {
     Twin,
     Audit,
     Compare,
+    Slice(Word<'a>),
 }
 
 // Writes what is told, and answers how the program ends. Of too many bytes nothing is written.
@@ -27,9 +30,9 @@ fn write<K: Sink>(sink: &mut K, ran: &Ran) -> Status
     ensures ends { (result ≡ ran.now.status) ⊎ (result ≡ Status.WriteFault) }
     ensures nothing { ran.now.status ≡ Status.TooLong → (result ≡ Status.TooLong) × Keeps (K.taken sink.old) (K.taken sink.new) }
     ensures took { ¬ (ran.now.status ≡ Status.TooLong) → ¬ (result ≡ Status.WriteFault)
-        → Appends (K.taken sink.old) (K.taken sink.new) ran.now.text.items }
+        → Appends (K.taken sink.old) (K.taken sink.new) ran.now.text }
     ensures fault { ¬ (ran.now.status ≡ Status.WriteFault) → result ≡ Status.WriteFault
-        → Rose (K.faults sink.old) (K.faults sink.new) × AppendsLess (K.taken sink.old) (K.taken sink.new) ran.now.text.items }
+        → Rose (K.faults sink.old) (K.faults sink.new) × AppendsLess (K.taken sink.old) (K.taken sink.new) ran.now.text }
     ensures faults { K.faults sink.old ≤ K.faults sink.new }
 {
     if ran.status == Status::TooLong {
@@ -42,35 +45,37 @@ fn write<K: Sink>(sink: &mut K, ran: &Ran) -> Status
 }
 
 // What is told of all bytes of a source.
-fn answer_all(alloc: Global, form: Whole, bytes: &[u8]) -> Result<Ran, NoRoom>
+fn answer_all(alloc: Global, form: Whole<'_>, bytes: &[u8]) -> Result<Ran, NoRoom>
     requires { length bytes.now ≤ LIMIT }
-    ensures { IfOk result (λ ran. TellsAll form bytes.now ran.status ran.text.items) }
+    ensures { IfOk result (λ ran. TellsAll form.entry bytes.now ran.status ran.text) }
 {
     match form {
         Whole::Twin => twin(alloc, bytes),
         Whole::Audit => audit_of(alloc, bytes),
         Whole::Compare => comparison_of(alloc, bytes),
+        Whole::Slice(party) => slice(alloc, party.as_slice(), bytes),
     }
 }
 
 // What is told where these are the first bytes of more.
-fn answer_front(alloc: Global, form: Whole, bytes: &[u8]) -> Result<Ran, NoRoom>
+fn answer_front(alloc: Global, form: Whole<'_>, bytes: &[u8]) -> Result<Ran, NoRoom>
     requires { length bytes.now ≤ LIMIT }
     ensures { IfOk result (λ ran. (more : List ℕ) → 0 < length more
-        → TellsCut (bad_line_within form (length bytes.now) (bytes.now ++ more)) ran.status ran.text.items) }
+        → TellsCut (bad_line_within form.entry (length bytes.now) (bytes.now ++ more)) ran.status ran.text) }
 {
     match form {
         Whole::Twin => twin_of_front(alloc, bytes),
         Whole::Audit | Whole::Compare => recorded_front(alloc, bytes),
+        Whole::Slice(_) => slice_of_front(alloc, bytes),
     }
 }
 
 // What is told of the bytes of a source, of which these are all, or the first up to one more than the limit. Of more bytes
 // than the limit only those within it are looked at.
-fn answer(alloc: Global, form: Whole, bytes: &[u8]) -> Result<Ran, NoRoom>
+fn answer(alloc: Global, form: Whole<'_>, bytes: &[u8]) -> Result<Ran, NoRoom>
     requires { length bytes.now ≤ LIMIT + 1 }
     ensures { IfOk result (λ ran. (more : List ℕ) → IsWhole LIMIT bytes.now more
-        → EndsWhole form LIMIT (bytes.now ++ more) ran.status ran.text.items) }
+        → EndsWhole form.entry LIMIT (bytes.now ++ more) ran.status ran.text) }
 {
     if bytes.len() > LIMIT {
         return answer_front(alloc, form, &bytes[..LIMIT]);
@@ -80,34 +85,42 @@ fn answer(alloc: Global, form: Whole, bytes: &[u8]) -> Result<Ran, NoRoom>
 
 /// Reads the source whole, at most 67,108,864 bytes, and writes what the form tells of it.
 #[inline(never)]
-pub fn tell<S: Source, K: Sink>(alloc: Global, form: Whole, source: &mut S, sink: &mut K) -> Status
+pub fn tell<S: Source, K: Sink>(
+    alloc: Global,
+    form: Whole<'_>,
+    source: &mut S,
+    sink: &mut K,
+) -> Status
     ensures ends { result ≡ Status.Usage → ⊥ }
     ensures done { result ≡ Status.Done → IsAtEnd (S.left source.new)
-        × IfSome (S.left source.old) (λ bytes. Writes LIMIT (Some (whole_form form)) bytes Status.Done (K.taken sink.old) (K.taken sink.new)) }
+        × IfSome (S.left source.old)
+        (λ bytes. Writes LIMIT (Some (whole_form form.entry)) bytes Status.Done (K.taken sink.old) (K.taken sink.new)) }
     ensures not_twins { result ≡ Status.NotTwins → IsAtEnd (S.left source.new)
-        × IfSome (S.left source.old) (λ bytes. Writes LIMIT (Some (whole_form form)) bytes Status.NotTwins (K.taken sink.old) (K.taken sink.new)) }
+        × IfSome (S.left source.old)
+        (λ bytes. Writes LIMIT (Some (whole_form form.entry)) bytes Status.NotTwins (K.taken sink.old) (K.taken sink.new)) }
     ensures faulty { result ≡ Status.Faulty → IsAtEnd (S.left source.new)
         × IfSome (S.left source.old)
-        (λ bytes. Writes LIMIT (Some (whole_form form)) bytes Status.Faulty (K.taken sink.old) (K.taken sink.new)) }
+        (λ bytes. Writes LIMIT (Some (whole_form form.entry)) bytes Status.Faulty (K.taken sink.old) (K.taken sink.new)) }
     ensures differs { result ≡ Status.Differs → IsAtEnd (S.left source.new)
         × IfSome (S.left source.old)
-        (λ bytes. Writes LIMIT (Some (whole_form form)) bytes Status.Differs (K.taken sink.old) (K.taken sink.new)) }
-    ensures twin_alone { result ≡ Status.NotTwins → form ≡ Whole.Twin }
-    ensures audit_alone { result ≡ Status.Faulty → form ≡ Whole.Audit }
-    ensures compare_alone { result ≡ Status.Differs → form ≡ Whole.Compare }
+        (λ bytes. Writes LIMIT (Some (whole_form form.entry)) bytes Status.Differs (K.taken sink.old) (K.taken sink.new)) }
+    ensures twin_alone { result ≡ Status.NotTwins → form.entry ≡ Whole.Twin }
+    ensures audit_alone { result ≡ Status.Faulty → form.entry ≡ Whole.Audit }
+    ensures compare_alone { result ≡ Status.Differs → form.entry ≡ Whole.Compare }
     ensures bad_script { result ≡ Status.BadScript → IfSome (S.left source.old)
-        (λ bytes. (length bytes ≤ LIMIT → IsAtEnd (S.left source.new)) × Writes LIMIT (Some (whole_form form)) bytes Status.BadScript
+        (λ bytes. (length bytes ≤ LIMIT → IsAtEnd (S.left source.new)) × Writes LIMIT (Some (whole_form form.entry)) bytes Status.BadScript
         (K.taken sink.old) (K.taken sink.new)) }
     ensures too_long { result ≡ Status.TooLong → Keeps (K.taken sink.old) (K.taken sink.new)
-        × IfSome (S.left source.old) (λ bytes. Writes LIMIT (Some (whole_form form)) bytes Status.TooLong (K.taken sink.old) (K.taken sink.new)) }
+        × IfSome (S.left source.old)
+        (λ bytes. Writes LIMIT (Some (whole_form form.entry)) bytes Status.TooLong (K.taken sink.old) (K.taken sink.new)) }
     ensures past_limit { result ≡ Status.TooLong → TakesExactly (S.left source.old) (S.left source.new) (LIMIT + 1) }
     ensures read_fault { result ≡ Status.ReadFault
         → Rose (S.faults source.old) (S.faults source.new) × Keeps (K.taken sink.old) (K.taken sink.new) }
     ensures write_fault { result ≡ Status.WriteFault → Rose (K.faults sink.old) (K.faults sink.new)
-        × IfSome (S.left source.old) (λ bytes. WritesLess LIMIT (Some (whole_form form)) bytes (K.taken sink.old) (K.taken sink.new)) }
+        × IfSome (S.left source.old) (λ bytes. WritesLess LIMIT (Some (whole_form form.entry)) bytes (K.taken sink.old) (K.taken sink.new)) }
     ensures no_room { result ≡ Status.NoRoom → Keeps (K.taken sink.old) (K.taken sink.new) }
     ensures complete { NoneRose (S.faults source.old) (S.faults source.new) → NoneRose (K.faults sink.old) (K.faults sink.new)
-        → IfSome (S.left source.old) (λ bytes. EndsAs LIMIT (Some (whole_form form)) bytes result ⊎ (result ≡ Status.NoRoom)) }
+        → IfSome (S.left source.old) (λ bytes. EndsAs LIMIT (Some (whole_form form.entry)) bytes result ⊎ (result ≡ Status.NoRoom)) }
     ensures takes { TakesAtMost (S.left source.old) (S.left source.new) (LIMIT + 1) }
     ensures source_faults { S.faults source.old ≤ S.faults source.new }
     ensures sink_faults { K.faults sink.old ≤ K.faults sink.new }

@@ -12,29 +12,29 @@ use crate::ran::{Ran, stopped};
 use crate::recorded::{Recorded, read_recorded};
 use crate::status::Status;
 use fed_audit::{Comparison, Difference, compare};
-use fed_io::{Fault, NoRoom};
+use fed_io::{Bytes, Fault, NoRoom};
 use std::alloc::Global;
 
 // So many requests are this program's own.
 fn alike(alloc: Global, requests: u64) -> Result<Ran, NoRoom>
-    ensures { IfOk result (λ ran. (ran.status ≡ Status.Done) × (ran.text.items ≡ line_of (alike_members requests))) }
+    ensures { IfOk result (λ ran. (ran.status ≡ Status.Done) × (ran.text ≡ line_of (alike_members requests))) }
 {
     let mut text = Vec::new(alloc);
     print_alike(alloc, requests, &mut text)?;
     Ok(Ran {
-        text,
+        text: Bytes::from_vec(text),
         status: Status::Done,
     })
 }
 
 // What differs first.
 fn differing(alloc: Global, difference: &Difference) -> Result<Ran, NoRoom>
-    ensures { IfOk result (λ ran. (ran.status ≡ Status.Differs) × (ran.text.items ≡ line_of (differs_members difference.now))) }
+    ensures { IfOk result (λ ran. (ran.status ≡ Status.Differs) × (ran.text ≡ line_of (differs_members difference.now))) }
 {
     let mut text = Vec::new(alloc);
     print_differs(alloc, difference, &mut text)?;
     Ok(Ran {
-        text,
+        text: Bytes::from_vec(text),
         status: Status::Differs,
     })
 }
@@ -42,7 +42,7 @@ fn differing(alloc: Global, difference: &Difference) -> Result<Ran, NoRoom>
 // What is told of a script and a transcript.
 fn compared(alloc: Global, recorded: &Recorded<'_>) -> Result<Ran, NoRoom>
     requires { recorded.now.first + length (lines_of recorded.now.text.now) < 2 ^ 32 }
-    ensures { IfOk result (λ ran. TellsCompared (recorded_in recorded.now) ran.status ran.text.items) }
+    ensures { IfOk result (λ ran. TellsCompared (recorded_in recorded.now) ran.status ran.text) }
 {
     match compare(alloc, &recorded.script, recorded.text, recorded.first)? {
         Comparison::Alike(requests) => alike(alloc, requests),
@@ -53,7 +53,7 @@ fn compared(alloc: Global, recorded: &Recorded<'_>) -> Result<Ran, NoRoom>
 /// Tells of a script and a transcript where the transcript first leaves this program's own.
 pub fn comparison_of(alloc: Global, bytes: &[u8]) -> Result<Ran, NoRoom>
     requires { length bytes.now < 2 ^ 31 }
-    ensures { IfOk result (λ ran. TellsComparison (recorded_of bytes.now) ran.status ran.text.items) }
+    ensures { IfOk result (λ ran. TellsComparison (recorded_of bytes.now) ran.status ran.text) }
 {
     match read_recorded(alloc, bytes) {
         Ok(recorded) => compared(alloc, &recorded),

@@ -3,12 +3,13 @@ ghost use Rattle.std.specs.Prelude.{◌≡◌, IfSome};
 ghost use Rattle.fed_run.specs.Words as spec;
 ghost use Rattle.fed_run.specs.Words.{MayBe};
 
+use crate::word::Word;
 use fed_io::Text;
 use itoa::Buffer;
 
 /// A form of the command line.
-#[derive(Clone, Copy, Debug, PartialEq, Eq)]
-pub enum Form {
+#[derive(Drop)]
+pub enum Form<'a> {
     /// The word `run`: a script's transcript.
     Run,
     /// The word `check`: the bad lines of a script, and the members that are read over.
@@ -21,10 +22,12 @@ pub enum Form {
     Compare,
     /// The words `make N`: the summary of a script of `N` calls, from 1 to 20,000.
     Make(u32),
+    /// The words `slice PARTY`: the part of a script that concerns a party, which is a word of at least one byte.
+    Slice(Word<'a>),
 }
 
 // The form of one word.
-fn form_named(word: &str) -> Option<Form>
+fn form_named<'a>(word: &str) -> Option<Form<'a>>
     ensures { result ≡ spec.form_named word.now }
 {
     match word {
@@ -59,24 +62,35 @@ fn calls_named(word: &str) -> Option<u32>
     }
 }
 
-// The form of a word and a number.
-fn form_numbered(word: &str, number: &str) -> Option<Form>
-    ensures { result ≡ spec.form_numbered word.now number.now }
+// The form `slice` of a party, which has a byte at least.
+fn slice_of(party: &str) -> Option<Form<'_>>
+    ensures { result ≡ spec.slice_of party.now }
+{
+    if party.is_empty() {
+        return None;
+    }
+    Some(Form::Slice(Word::of(party)))
+}
+
+// The form of a word and a second one.
+fn form_with<'a>(word: &str, second: &'a str) -> Option<Form<'a>>
+    ensures { result ≡ spec.form_with word.now second.now }
 {
     match word {
-        "make" => calls_named(number).map(|calls| Form::Make(calls)),
+        "make" => calls_named(second).map(|calls| Form::Make(calls)),
+        "slice" => slice_of(second),
         _ => None,
     }
 }
 
 /// The form of the words of a command line, which are without the program's name. It takes no memory.
-pub fn form_of(words: &[Text]) -> Option<Form>
+pub fn form_of(words: &[Text]) -> Option<Form<'_>>
     ensures form { result ≡ spec.form_of words.now }
     ensures calls { IfSome result MayBe }
 {
     match words {
         [word] => form_named(word.as_str()),
-        [word, number] => form_numbered(word.as_str(), number.as_str()),
+        [word, second] => form_with(word.as_str(), second.as_str()),
         [] => None,
         [_, _, _, ..] => None,
     }

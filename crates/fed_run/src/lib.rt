@@ -1,6 +1,7 @@
 //! What the program does with a session script, over any source and any sink.
 #![tactic(auto)]
 
+mod alone;
 mod answer;
 mod audit;
 mod check;
@@ -16,12 +17,14 @@ mod ran;
 mod read;
 mod recorded;
 mod run;
+mod slice;
 mod status;
 mod stop;
 mod stream;
 mod summary;
 mod top;
 mod twin;
+mod word;
 
 pub use make::make_script;
 pub use memory::fedcm_in_memory;

@@ -1,16 +1,17 @@
 //! A script and a transcript that was written for it, which a line divides.
-ghost use Rattle.std.specs.Prelude.{◌≡◌, ◌==◌, ℕ, ◌^◌, ◌<◌, ◌≤◌, List, ◌++◌, drop, length, count_by, option_map, Err};
+ghost use Rattle.std.specs.Prelude.{◌≡◌, ℕ, ◌^◌, ◌<◌, ◌≤◌, List, ◌++◌, drop, length, option_map, Err};
 ghost use Rattle.std.specs.Prelude.{IfOk, IfSome, MatchOption};
 ghost use Rattle.std.specs.List.{prefix_len};
-ghost use Rattle.fed_io.specs.Fault.{Answers, AnswersBy};
-ghost use Rattle.fed_script.specs.Half.{half_of, halves_by};
+ghost use Rattle.fed_io.specs.Fault.{AnswersBy};
+ghost use Rattle.fed_script.specs.Half.{halves_by};
 ghost use Rattle.fed_script.specs.Pair.{undivided};
 ghost use Rattle.fed_script.specs.Script.{is_margin, lines_of, script_of};
 ghost use Rattle.fed_run.specs.Recorded as spec;
 ghost use Rattle.fed_run.specs.Recorded.{halves_of, recorded_after, recorded_in, recorded_of, recorded_bad_within};
 
+use crate::alone::{count_lines, if_among, read_alone};
 use fed_io::{Fault, NoRoom};
-use fed_script::{BadLine, PairCause, PairStop, Script, is_blank, next_line, read_script};
+use fed_script::{PairCause, PairStop, Script, is_blank, next_line};
 use std::alloc::Global;
 
 /// A script, and the bytes of a transcript that was written for it, whose first line has this number among all lines.
@@ -68,28 +69,6 @@ fn divide(bytes: &[u8]) -> (u32, Option<(&[u8], &[u8])>)
     (before, None)
 }
 
-// A bad line of the script.
-fn stop_at(bad: BadLine) -> PairStop
-    ensures { result ≡ record { line = bad.line; cause = PairCause.Line bad.cause } }
-{
-    PairStop {
-        line: bad.line,
-        cause: PairCause::Line(bad.cause),
-    }
-}
-
-// A script.
-fn read_before(alloc: Global, bytes: &[u8]) -> Result<Script, Fault<PairStop>>
-    requires { length bytes.now < 2 ^ 31 }
-    ensures { Answers result (half_of 0 (script_of bytes.now)) }
-{
-    match read_script(alloc, bytes) {
-        Ok(script) => Ok(script),
-        Err(Fault::Step(bad)) => Err(Fault::Step(stop_at(bad))),
-        Err(Fault::NoRoom) => Err(Fault::NoRoom),
-    }
-}
-
 // A script of so many lines, and the transcript after the dividing line.
 fn read_divided<'a>(
     alloc: Global,
@@ -101,7 +80,7 @@ fn read_divided<'a>(
     requires few { length script.now < 2 ^ 31 }
     ensures { AnswersBy recorded_in result (recorded_after before (script_of script.now) (lines_of text.now)) }
 {
-    match read_before(alloc, script) {
+    match read_alone(alloc, script) {
         Ok(script) => Ok(Recorded {
             script,
             text,
@@ -121,7 +100,7 @@ fn read_undivided<'a>(
     requires few { length bytes.now < 2 ^ 31 }
     ensures { AnswersBy recorded_in result (Err (undivided lines (script_of bytes.now))) }
 {
-    match read_before(alloc, bytes) {
+    match read_alone(alloc, bytes) {
         Ok(_) => {}
         Err(fault) => return Err(fault),
     }
@@ -145,24 +124,6 @@ pub fn read_recorded(alloc: Global, bytes: &[u8]) -> Result<Recorded<'_>, Fault<
     }
 }
 
-// How many lines end with LF.
-fn count_lines(bytes: &[u8]) -> usize
-    ensures { result ≡ count_by (λ b. b == 10) bytes.now }
-{
-    bytes.iter().filter(|b| **b == b'\n').count()
-}
-
-// A bad line, if it is one of the first so many lines.
-fn stop_within(lines: usize, stop: PairStop) -> Option<PairStop>
-    ensures { result ≡ spec.recorded_stop_within lines (Err stop) }
-{
-    if stop.line as usize <= lines {
-        Some(stop)
-    } else {
-        None
-    }
-}
-
 /// The first bad line of a script and a transcript of which these are the first bytes, where it ends within them: whatever bytes follow,
 /// `read_recorded` refuses that line. None where no line that ends within them is known to be bad.
 pub fn bad_line_before(alloc: Global, bytes: &[u8]) -> Result<Option<PairStop>, NoRoom>
@@ -175,7 +136,7 @@ pub fn bad_line_before(alloc: Global, bytes: &[u8]) -> Result<Option<PairStop>, 
         return Ok(None);
     };
     match fault {
-        Fault::Step(stop) => Ok(stop_within(lines, stop)),
+        Fault::Step(stop) => Ok(if_among(lines, stop)),
         Fault::NoRoom => Err(NoRoom),
     }
 }

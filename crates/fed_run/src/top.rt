@@ -22,8 +22,9 @@ use std::sync::ledger::Ledger;
 /// Runs the program over a source and a sink: `words` are those of the command line without the program's name. At most
 /// 67,108,864 bytes of the source are read. With `run` the transcript of a script is written as it is read, and with `check` what is
 /// found in it; with `twin` the source is read whole, and then it is written whether two scripts are twins, and with `audit` so whether a
-/// transcript that another program wrote for a script keeps the rules, with `compare` where it first leaves this program's own; with
-/// `make N` the source is not read, and the summary of a script of `N` calls is written.
+/// transcript that another program wrote for a script keeps the rules, with `compare` where it first leaves this program's own, with
+/// `slice PARTY` the lines of the part of a script that concerns a party; with `make N` the source is not read, and the summary of a
+/// script of `N` calls is written.
 pub fn fedcm<S: Source, K: Sink, L: Ledger>(
     alloc: Global,
     words: &[Text],
@@ -37,7 +38,7 @@ pub fn fedcm<S: Source, K: Sink, L: Ledger>(
 
     // The sink took the whole text. Where the form reads a source, it was read to its end, and its bytes are within the limit
     // and a script, two scripts that are twins, or a script and a transcript of which each record keeps the rules, or which is
-    // this program's own.
+    // this program's own. With `slice PARTY` the text is lines of the script, each byte for byte (`slice_text`).
     ensures done { result ≡ Status.Done → (Reads (form words.now) → IsAtEnd (S.left source.new))
         × IfSome (S.left source.old) (λ bytes. Writes LIMIT (form words.now) bytes Status.Done (K.taken sink.old) (K.taken sink.new)) }
 
@@ -111,6 +112,7 @@ pub fn fedcm<S: Source, K: Sink, L: Ledger>(
         Some(Form::Twin) => tell(alloc, Whole::Twin, source, sink),
         Some(Form::Audit) => tell(alloc, Whole::Audit, source, sink),
         Some(Form::Compare) => tell(alloc, Whole::Compare, source, sink),
+        Some(Form::Slice(party)) => tell(alloc, Whole::Slice(party), source, sink),
         Some(Form::Make(calls)) => tell_summary(alloc, calls, sink, steps),
     }
 }

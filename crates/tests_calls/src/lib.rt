@@ -17,7 +17,6 @@ mod call_inputs;
 mod call_windows;
 #[cfg(test)]
 mod call_words;
-pub mod callers;
 #[cfg(test)]
 mod consent;
 #[cfg(test)]

@@ -3,7 +3,6 @@
 
 #[cfg(test)]
 mod accounts;
-pub mod callers;
 #[cfg(test)]
 mod damage;
 #[cfg(test)]

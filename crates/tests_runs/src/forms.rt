@@ -34,7 +34,12 @@ make|20001
 make|4294967299
 make|x
 make|3|3
-run|3"
+run|3
+slice
+slice||
+slice|a|b
+slices|a
+Slice|a"
 }
 
 // The first words that are taken as a form, or "", and how many are not.
@@ -51,7 +56,7 @@ fn first_form<'a>(alloc: Global, rows: &'a str) -> Result<(&'a str, u32), Fail> 
 
 #[test]
 fn other_words_are_no_form(rt: HostRuntime) -> Result<(), Fail> {
-    assert_eq!(rt; first_form(rt.alloc(), no_forms())?, ("", 21));
+    assert_eq!(rt; first_form(rt.alloc(), no_forms())?, ("", 26));
     Ok(())
 }
 

@@ -28,6 +28,8 @@ mod runs;
 #[cfg(test)]
 mod several;
 #[cfg(test)]
+mod slices;
+#[cfg(test)]
 mod tokens;
 #[cfg(test)]
 mod twins;

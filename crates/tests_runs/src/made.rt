@@ -57,7 +57,8 @@ TOKEN 2 https://rp2.example t2
 TOKEN 3 https://rp3.example t3"##
 }
 
-fn script_of_three(alloc: Global) -> Result<String, NoRoom> {
+/// The script of `make 3`.
+pub fn script_of_three(alloc: Global) -> Result<String, NoRoom> {
     let rows = block(blocks(), "# The script of three calls").unwrap_or("");
     told(alloc, blocks(), rows)
 }

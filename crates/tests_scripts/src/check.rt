@@ -1,11 +1,11 @@
 //! What is found in scripts: bad lines, and members that are read over.
 ghost use Rattle.std.specs.Prelude.{◌<◌, length};
 
-use crate::callers::check_both;
 use fed_check::Finding;
 use fed_script::LineCause;
 use std::alloc::{AllocError, Global};
 use std::test::Fail;
+use tests_callers::scripts::check_both;
 
 // Appends a bad line: its number, and after a `!` the word of its cause with the member that it names.
 fn push_bad(

@@ -1,7 +1,6 @@
 //! Tests of script lines and transcript lines.
 #![tactic(auto)]
 
-pub mod callers;
 #[cfg(test)]
 mod check;
 #[cfg(test)]

@@ -1,11 +1,11 @@
 //! Scripts that come in pieces.
 ghost use Rattle.std.specs.Prelude.{◌<◌, length};
 
-use crate::callers::read_both;
 use crate::script_pairs::{bytes_of, lines_of};
 use fed_script::Line;
 use std::alloc::{AllocError, Global};
 use std::test::Fail;
+use tests_callers::scripts::read_both;
 
 // The word of a line, and its number.
 fn word_of(line: &Line) -> (&'static str, u32) {

@@ -1,8 +1,6 @@
 //! Tests of sessions, and of two scripts.
 #![tactic(auto)]
 
-pub mod callers;
-pub mod laws;
 #[cfg(test)]
 mod limits;
 #[cfg(test)]

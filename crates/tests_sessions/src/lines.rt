@@ -1,5 +1,4 @@
 //! Scripts of named lines, and what a session shows after a script.
-use crate::callers::view_after;
 use fed_io::NoRoom;
 use fed_origin::Stage;
 use fed_script::{Script, read_script};
@@ -8,6 +7,7 @@ use std::alloc::Global;
 use std::marker::Brand;
 use std::sync::ledger::Blank;
 use std::test::Fail;
+use tests_callers::sessions::view_after;
 
 const GET: &str = concat!(
     r#"{"do":"get","page":#,"call":#,"#,

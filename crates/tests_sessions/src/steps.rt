@@ -1,7 +1,6 @@
 //! What callers conclude of steps, over a real session.
 ghost use Rattle.std.specs.Prelude.{◌≡◌, ◌<◌};
 
-use crate::callers::load_twice;
 use fed_io::Steps;
 use fed_origin::WebUrl;
 use fed_script::read_header;
@@ -10,6 +9,7 @@ use std::alloc::Global;
 use std::marker::Brand;
 use std::sync::ledger::{Blank, Ledger};
 use std::test::Fail;
+use tests_callers::sessions::load_twice;
 
 // Loads a page twice in a new session: whether the loads found memory.
 fn loads<L: Ledger>(alloc: Global, blank: Blank) -> Result<(bool, bool), Fail>

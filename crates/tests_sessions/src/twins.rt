@@ -1,10 +1,10 @@
 //! How far whole scripts are compared.
-use crate::callers::compared;
 use crate::lines::{script_of, told};
 use fed_script::Script;
 use fed_twin::twin_fault;
 use std::alloc::Global;
 use std::test::Fail;
+use tests_callers::sessions::compared;
 
 // Two sites with a call each.
 const SITES: &str = r#"{"fedcm":1,"now":1700000000,"rules":""}

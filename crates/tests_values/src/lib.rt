@@ -1,7 +1,6 @@
 //! Tests of URLs, suffixes, cookies and statuses.
 #![tactic(auto)]
 
-pub mod callers;
 #[cfg(test)]
 mod cookie;
 #[cfg(test)]

@@ -100,9 +100,12 @@ is_sent (Sent kind c p (asks.Assertion ask) cookies ∷ effects) call provider i
         all = ap (λ (x : ℕ × ℕ). Sent kind x.0 x.1 (asks.Assertion ask) cookies ∷ effects) both;
       };
     }
-is_sent (Sent kind c p (asks.WellKnown to) cookies ∷ effects) call provider is = later _ effects call provider (is_sent effects call provider is)
-is_sent (Sent kind c p (asks.Config to) cookies ∷ effects) call provider is = later _ effects call provider (is_sent effects call provider is)
-is_sent (Sent kind c p (asks.Accounts to) cookies ∷ effects) call provider is = later _ effects call provider (is_sent effects call provider is)
+is_sent (Sent kind c p (asks.WellKnown to) cookies ∷ effects) call provider is =
+    later _ effects call provider (is_sent effects call provider is)
+is_sent (Sent kind c p (asks.Config to) cookies ∷ effects) call provider is =
+    later _ effects call provider (is_sent effects call provider is)
+is_sent (Sent kind c p (asks.Accounts to) cookies ∷ effects) call provider is =
+    later _ effects call provider (is_sent effects call provider is)
 is_sent (Sent kind c p (asks.Metadata to client origin) cookies ∷ effects) call provider is =
     later _ effects call provider (is_sent effects call provider is)
 is_sent (Sent kind c p (asks.Disconnect to client hint origin) cookies ∷ effects) call provider is =

@@ -130,7 +130,8 @@ follows_on seen T line event session asks taken h stands is count =
       taken = omega (arith, count, h.taken);
       calls = λ q.
           ap (lookup (nat_eq q)) (noted_calls T event seen)
-          ∙ kept_one (row_of T line event) T.rows q (seen.taken + 1) (begun_by T event) seen.calls (omega (arith, h.taken)) (begins_is T event q)
+          ∙ kept_one (row_of T line event) T.rows q (seen.taken + 1) (begun_by T event) seen.calls (omega (arith, h.taken)) (begins_is T
+          event q)
           (h.calls q);
       replaced = λ q. noted_pages T event seen (length T.rows) q (row_replaced q T.rows) h.taken (h.replaced q);
       asks = is;

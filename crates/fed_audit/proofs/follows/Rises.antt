@@ -6,7 +6,8 @@ use Rattle.fed_script.specs.declared.event.Event.{Event}
 use Rattle.fed_script.specs.declared.event.Header.{Header}
 use Rattle.fed_script.specs.declared.event.Numbered.{Numbered}
 use Rattle.fed_script.specs.Line.{header_of, event_of}
-use Rattle.fed_script.specs.Script.{Script, Events, is_blank, after_line, events_of, ended_by, lines_of, script_after, script_of, script_of_lines}
+use Rattle.fed_script.specs.Script.{Script, Events, is_blank, after_line, events_of, ended_by, lines_of, script_after, script_of}
+use Rattle.fed_script.specs.Script.{script_of_lines}
 use Rattle.fed_script.specs.Used.{UsedState, unused, used_after}
 use Rattle.fed_audit.specs.Walk.{AreAbove, AreRising, IsRising}
 

@@ -1,5 +1,6 @@
 -- Lines are compared one after the other.
-use Rattle.std.proofs.Common.{◌≡◌, ℕ, suc, ◌+◌, ◌≤◌, Bool, true, false, cond, List, [], ◌∷◌, Option, Some, None, refl, sym, ap, subst, ◌∙◌, arith, not}
+use Rattle.std.proofs.Common.{◌≡◌, ℕ, suc, ◌+◌, ◌≤◌, Bool, true, false, cond, List, [], ◌∷◌, Option, Some, None, refl, sym, ap, subst, ◌∙◌}
+use Rattle.std.proofs.Common.{arith, not}
 use Rattle.std.specs.Prelude.{◌&&◌, Result, Ok, Err, IfOk, MatchResult}
 use Rattle.std.proofs.lemmas.List.Sums.{sum_by-cons}
 use Rattle.fed_script.specs.Script.{first_line, is_blank, lines_of}
@@ -35,7 +36,8 @@ goes_first at first text rows is =
     record { now = at; is = is; leaves = λ d h. h; count = omega arith }
 
 -- one line more
-pub goes_on : (at : At) (first : ℕ) (text : List ℕ) (rows new : Rows) (next : At) (number : ℕ) (rest line after : List ℕ) (requests more : ℕ)
+pub goes_on : (at : At) (first : ℕ) (text : List ℕ) (rows new : Rows) (next : At) (number : ℕ) (rest line after : List ℕ)
+    (requests more : ℕ)
     (request : Bool) → (g : Goes at first text rows number rest requests) → lines_of rest ≡ line ∷ lines_of after
     → request ≡ says_request line → more ≡ requests + cond request 1 0 → IsAt new next → GoesOn number line g.now next
     → Goes at first text new (number + 1) after more

@@ -15,7 +15,8 @@ use Rattle.fed_audit.specs.declared.own.Rows.{Rows}
 use Rattle.fed_audit.specs.declared.record.Record.{Record}
 use Rattle.fed_audit.specs.declared.record.Record.TheVariants as records
 use Rattle.fed_audit.specs.Audit.{ByBlank}
-use Rattle.fed_audit.specs.Compare.{At, Arrival, Comes, Lacks, Leaves, Meets, Arrives, IfAbout, SaysLine, DifferIn, arrive, found_of, is_request, own_about}
+use Rattle.fed_audit.specs.Compare.{At, Arrival, Comes, Lacks, Leaves, Meets, Arrives, IfAbout, SaysLine, DifferIn, arrive, found_of}
+use Rattle.fed_audit.specs.Compare.{is_request, own_about}
 use Rattle.fed_audit.specs.Differ.{bare}
 use Rattle.fed_audit.specs.Record.{record_of, line_of}
 use Rattle.fed_audit.specs.Rows.{IsAt, HasArrived, MeetsAnd, MeetsNot, GoesOn, StopsHere, rows_after}

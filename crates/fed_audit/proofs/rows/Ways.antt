@@ -1,5 +1,6 @@
 -- The way to the row of a line, and to the end.
-use Rattle.std.proofs.Common.{◌≡◌, ℕ, ◌<◌, ◌≤◌, Bool, true, false, List, [], ◌∷◌, length, Option, Some, None, refl, sym, ap, subst, ◌∙◌, arith, true≢false}
+use Rattle.std.proofs.Common.{◌≡◌, ℕ, ◌<◌, ◌≤◌, Bool, true, false, List, [], ◌∷◌, length, Option, Some, None, refl, sym, ap, subst, ◌∙◌}
+use Rattle.std.proofs.Common.{arith, true≢false}
 use Rattle.std.specs.Prelude.{⊤, is_some, slice_get, nat_le, nat_lt, ◌||◌, if◌then◌else◌}
 use Rattle.fed_script.specs.declared.event.Numbered.{Numbered}
 use Rattle.std.proofs.lemmas.Bool.Decides.{nat_tests}
@@ -85,7 +86,8 @@ abbrev told_of : ℕ → Option Out → Option Difference
 told_of line (Some out) = Some (lacks line out)
 told_of line None = None
 
-pub one_missing : (line : ℕ) (left : Told) (out : Out) → Some out ≡ slice_get (values_of left) 0 → missing_in line left ≡ Some (lacks line out)
+pub one_missing : (line : ℕ) (left : Told) (out : Out) → Some out ≡ slice_get (values_of left) 0
+    → missing_in line left ≡ Some (lacks line out)
 one_missing line (entry ∷ left) out is = ap (told_of line) (sym is)
 one_missing line [] out is = absurd (cc)
 

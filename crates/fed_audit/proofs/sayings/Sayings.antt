@@ -6,7 +6,8 @@ use Rattle.fed_head.specs.Section.{FieldPair}
 use Rattle.fed_origin.specs.declared.stage.ReplyKind.{ReplyKind}
 use Rattle.fed_audit.specs.declared.differ.Finding.{Finding}
 use Rattle.fed_audit.specs.declared.parts.Request.{Request}
-use Rattle.fed_audit.specs.Differ.{Parts, Differ, DifferFrom, FromSaying, FromNoHead, BySaying, HasNoHead, parts_differ, parts_in, parts_read}
+use Rattle.fed_audit.specs.Differ.{Parts, Differ, DifferFrom, FromSaying, FromNoHead, BySaying, HasNoHead, parts_differ, parts_in}
+use Rattle.fed_audit.specs.Differ.{parts_read}
 use Rattle.fed_audit.specs.Front.{Front, IsRead, fields_of, fields_read}
 
 abbrev parts : List ℕ → List ℕ → List FieldPair → List ℕ → Parts

@@ -58,7 +58,8 @@ judged_request s line call provider kind bytes fault seen new first n frame is =
 
 -- ---- results
 
-pub judged_token : (s : Scene) (line call provider : ℕ) (token : List ℕ) (page : Option ℕ) (auto : Option Bool) (fault : Option AuditClause) (seen new : Seen)
+pub judged_token : (s : Scene) (line call provider : ℕ) (token : List ℕ) (page : Option ℕ) (auto : Option Bool) (fault : Option AuditClause)
+    (seen new : Seen)
     → IsFirst s (Token line call provider token page auto) fault → Notes seen s.earlier
     → new ≡ record seen { answered = new.answered } → new.answered ≡ answered_with call seen.answered
     → Judged s (Token line call provider token page auto) fault new

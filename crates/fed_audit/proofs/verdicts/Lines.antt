@@ -1,5 +1,6 @@
 -- Lines pass one after the other.
-use Rattle.std.proofs.Common.{◌≡◌, ℕ, ◌+◌, inl, Bool, true, false, List, [], ◌∷◌, ◌++◌, length, Option, Some, None, refl, sym, ap, subst, ◌∙◌, arith, append-nil, length-append}
+use Rattle.std.proofs.Common.{◌≡◌, ℕ, ◌+◌, inl, Bool, true, false, List, [], ◌∷◌, ◌++◌, length, Option, Some, None, refl, sym, ap, subst}
+use Rattle.std.proofs.Common.{◌∙◌, arith, append-nil, length-append}
 use Rattle.std.specs.Prelude.{Result, Ok, Err, MatchResult}
 use Rattle.fed_script.specs.declared.event.Numbered.{Numbered}
 use Rattle.fed_script.specs.Script.{Script, is_blank, lines_of}
@@ -22,7 +23,8 @@ other_by true P Q is h = absurd (cc)
 pub blank_passes : (script : Script) (line : List ℕ) (earlier : List Record) → is_blank line ≡ true
     → PassInTurn script (line ∷ []) earlier earlier
 blank_passes script line earlier is =
-    blank_by (is_blank line) (earlier ≡ earlier) ((r : Record) × (record_of line ≡ Some r) × Passes script earlier r × (earlier ≡ r ∷ earlier)) is refl
+    blank_by (is_blank line) (earlier ≡ earlier) ((r : Record) × (record_of line ≡ Some r) × Passes script earlier r
+    × (earlier ≡ r ∷ earlier)) is refl
 
 pub record_passes : (script : Script) (line : List ℕ) (earlier : List Record) (r : Record) → is_blank line ≡ false → record_of line ≡ Some r
     → Passes script earlier r → PassInTurn script (line ∷ []) earlier (r ∷ earlier)
@@ -75,7 +77,8 @@ goes_first script first text seen left notes walks =
     }
 
 -- one line more passes
-pub goes_on : (script : Script) (first : ℕ) (text : List ℕ) (seen new : Seen) (last next : Option Numbered) (left kept : List Numbered) (number : ℕ)
+pub goes_on : (script : Script) (first : ℕ) (text : List ℕ) (seen new : Seen) (last next : Option Numbered) (left kept : List Numbered)
+    (number : ℕ)
     (line rest after : List ℕ) (records : List Record)
     → (g : Goes script first text seen last left number rest) → lines_of rest ≡ line ∷ lines_of after
     → PassInTurn script (line ∷ []) g.records records → Notes new records → AreFrom (last_line next) records → Walks script new next kept
@@ -116,7 +119,8 @@ fault_found script first text seen last left number line rest after clause g is 
     }
 
 pub none_found : (script : Script) (first : ℕ) (text : List ℕ) (seen : Seen) (last : Option Numbered) (left : List Numbered) (number : ℕ)
-    (rest : List ℕ) → Goes script first text seen last left number rest → lines_of rest ≡ [] → AuditFaultOf script first (lines_of text) None
+    (rest : List ℕ) → Goes script first text seen last left number rest → lines_of rest ≡ []
+    → AuditFaultOf script first (lines_of text) None
 none_found script first text seen last left number rest g is = (
   g.records,
   subst (λ xs. PassInTurn script xs [] g.records) (sym (g.lines ∙ (ap (λ xs. g.passed ++ xs) is ∙ append-nil g.passed))) g.pass,
@@ -129,7 +133,8 @@ pub line_judged : {X : Type 0} (P P' : X → Type 0) (Q Q' : AuditClause → Typ
 line_judged P P' Q Q' (Ok x) f g h = f x h
 line_judged P P' Q Q' (Err e) f g h = g e h
 
-pub ok_case : {X : Type 0} (P : X → Type 0) (Q : AuditClause → Type 0) (r : Result X AuditClause) (x : X) → MatchResult r P Q → r ≡ Ok x → P x
+pub ok_case : {X : Type 0} (P : X → Type 0) (Q : AuditClause → Type 0) (r : Result X AuditClause) (x : X) → MatchResult r P Q → r ≡ Ok x
+    → P x
 ok_case P Q r x h is = subst (λ r. MatchResult r P Q) is h
 
 pub err_case : {X : Type 0} (P : X → Type 0) (Q : AuditClause → Type 0) (r : Result X AuditClause) (e : AuditClause) → MatchResult r P Q

@@ -1,5 +1,6 @@
 -- An audit has one answer.
-use Rattle.std.proofs.Common.{◌≡◌, ℕ, zero, suc, ◌≤◌, Bool, true, false, List, [], ◌∷◌, ◌++◌, length, Some, None, refl, sym, ap, subst, ◌∙◌, arith}
+use Rattle.std.proofs.Common.{◌≡◌, ℕ, zero, suc, ◌≤◌, Bool, true, false, List, [], ◌∷◌, ◌++◌, length, Some, None, refl, sym, ap, subst, ◌∙◌}
+use Rattle.std.proofs.Common.{arith}
 use Rattle.std.specs.Prelude.{nat_lt}
 use Rattle.std.proofs.lemmas.Bool.{ltb-false}
 use Rattle.std.proofs.lemmas.Bool.Decides.{nat_tests}
@@ -51,7 +52,8 @@ record SameCut (a b : Row) (older aged : List Row) : Type 0 where
   row : a ≡ b
   rows : older ≡ aged
 
-same_cut : (xs ys : List Row) (a b : Row) (older aged : List Row) → xs ++ a ∷ older ≡ ys ++ b ∷ aged → Distinct (xs ++ a ∷ older) → a.line ≡ b.line
+same_cut : (xs ys : List Row) (a b : Row) (older aged : List Row) → xs ++ a ∷ older ≡ ys ++ b ∷ aged → Distinct (xs ++ a ∷ older)
+    → a.line ≡ b.line
     → SameCut a b older aged
 unfolding Distinct
 same_cut [] [] a b older aged is d line = record { row = cc; rows = cc }

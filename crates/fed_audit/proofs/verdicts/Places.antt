@@ -1,5 +1,6 @@
 -- Which row a record is judged by.
-use Rattle.std.proofs.Common.{◌≡◌, ◌≢◌, ℕ, nat_eq, ◌<◌, ◌≤◌, ◌⊎◌, inl, inr, List, [], ◌∷◌, ◌++◌, Option, Some, None, refl, sym, ap, subst, ◌∙◌, arith}
+use Rattle.std.proofs.Common.{◌≡◌, ◌≢◌, ℕ, nat_eq, ◌<◌, ◌≤◌, ◌⊎◌, inl, inr, List, [], ◌∷◌, ◌++◌, Option, Some, None, refl, sym, ap, subst}
+use Rattle.std.proofs.Common.{◌∙◌, arith}
 use Rattle.std.specs.List.{list_any}
 use Rattle.std.specs.Map.{lookup}
 use Rattle.fed_script.specs.declared.event.Numbered.{Numbered}
@@ -89,7 +90,8 @@ unfolding NoneAt
 none_there line [] before row none is = none.0 is
 none_there line (x ∷ later) before row none is = none_there line later before row none.1 is
 
-pub no_place : (script : Script) (seen : Seen) (earlier : List Record) (last : Option Numbered) (left : List Numbered) (r : Record) (line : ℕ)
+pub no_place : (script : Script) (seen : Seen) (earlier : List Record) (last : Option Numbered) (left : List Numbered) (r : Record)
+    (line : ℕ)
     → Walks script seen last left → last_line last < line → AreAbove line left → line_of r ≡ Some line
     → (s : Scene) → HasPlace script earlier r s → ⊥
 no_place script seen earlier last left r line w below above at s place =
@@ -150,7 +152,8 @@ from_end low r earlier from at =
     go (inl is) = inl is
     go (inr reached) = inr (inr reached)
 
-pub placed : (script : Script) (seen : Seen) (earlier : List Record) (n : Numbered) (low : ℕ) (r : Record) → (x : Scened script seen earlier n)
+pub placed : (script : Script) (seen : Seen) (earlier : List Record) (n : Numbered) (low : ℕ) (r : Record)
+    → (x : Scened script seen earlier n)
     → AreFrom low earlier → low ≤ n.line → line_of r ≡ Some n.line → HasPlace script earlier r x.scene
 placed script seen earlier n low r x from h at =
     record { line = n.line; is_line = at; scene = x.is; rises = up_more low n.line earlier h from.most }

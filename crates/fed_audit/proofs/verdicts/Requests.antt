@@ -98,7 +98,8 @@ abbrev found_of : (s : Scene) (call provider : ℕ) (kind : ReplyKind) (bytes : 
 found_of s call provider kind bytes r url =
     head_fault (trace_through s) kind r.begun.origin url (fields_of r.front.head)
 
-provided : (s : Scene) (call provider : ℕ) (kind : ReplyKind) (bytes : List ℕ) → Read s call provider kind bytes → HasProvider s call provider
+provided : (s : Scene) (call provider : ℕ) (kind : ReplyKind) (bytes : List ℕ) → Read s call provider kind bytes
+    → HasProvider s call provider
 provided s call provider kind bytes r = (r.begun, r.began, r.has)
 
 same_begun : (s : Scene) (call provider : ℕ) (kind : ReplyKind) (bytes : List ℕ) → (r : Read s call provider kind bytes) → (b : Begun)
@@ -139,7 +140,8 @@ no_origin s line call provider kind bytes r url to names =
     }
 
 -- it names the page as it should, and has other cookies
-no_cookies : (s : Scene) (line call provider : ℕ) (kind : ReplyKind) (bytes : List ℕ) → (r : Read s call provider kind bytes) → (url : Parts)
+no_cookies : (s : Scene) (line call provider : ℕ) (kind : ReplyKind) (bytes : List ℕ) → (r : Read s call provider kind bytes)
+    → (url : Parts)
     → url_of kind r.front.head ≡ Some url → names_page kind r.begun.origin (fields_of r.front.head) ≡ true
     → has_cookies (trace_through s) kind url (fields_of r.front.head) ≡ false
     → FailsFirst clauses.Cookie s (Request line call provider kind bytes)
@@ -177,7 +179,8 @@ pub Comes : (s : Scene) (line call provider : ℕ) (kind : ReplyKind) (bytes : L
 Comes s line call provider kind bytes r None = Good s call provider kind bytes r
 Comes s line call provider kind bytes r (Some clause) = FailsFirst clause s (Request line call provider kind bytes)
 
-comes : (s : Scene) (line call provider : ℕ) (kind : ReplyKind) (bytes : List ℕ) → (r : Read s call provider kind bytes) → (fault : Option AuditClause)
+comes : (s : Scene) (line call provider : ℕ) (kind : ReplyKind) (bytes : List ℕ) → (r : Read s call provider kind bytes)
+    → (fault : Option AuditClause)
     → fault ≡ found_of s call provider kind bytes r (url_of kind r.front.head) → Comes s line call provider kind bytes r fault
 unfolding Comes
 comes s line call provider kind bytes r fault is =

@@ -1,5 +1,6 @@
 -- Which clause a token fails first.
-use Rattle.std.proofs.Common.{◌≡◌, ℕ, suc, ◌<◌, ◌≤◌, ◌&&◌, ◌||◌, Bool, true, false, nat_lt, List, [], ◌∷◌, length, Option, Some, None, refl, sym, ap, ap₂, ◌∙◌, arith, cond}
+use Rattle.std.proofs.Common.{◌≡◌, ℕ, suc, ◌<◌, ◌≤◌, ◌&&◌, ◌||◌, Bool, true, false, nat_lt, List, [], ◌∷◌, length, Option, Some, None, refl}
+use Rattle.std.proofs.Common.{sym, ap, ap₂, ◌∙◌, arith, cond}
 use Rattle.std.proofs.lemmas.Bool.Decides.{nat_tests}
 use Rattle.std.proofs.lemmas.Slice.Eq.{bytes_eq-Decides}
 use Rattle.std.specs.Prelude.{is_some, not, Result, Ok, Err}
@@ -28,7 +29,8 @@ use Rattle.fed_audit.specs.Token.{IsGiven, is_replaced, rows_since}
 
 -- ---- the clauses
 
-met : (s : Scene) (line call provider : ℕ) (token : List ℕ) (page : Option ℕ) (auto : Option Bool) (n : ℕ) → HasProvider s call provider → n ≤ 6
+met : (s : Scene) (line call provider : ℕ) (token : List ℕ) (page : Option ℕ) (auto : Option Bool) (n : ℕ) → HasProvider s call provider
+    → n ≤ 6
     → (c : AuditClause) → place c < n → Meets c s (Token line call provider token page auto)
 met s line call provider token page auto n has few clauses.Record h = tt
 met s line call provider token page auto n has few clauses.Call h = has
@@ -48,7 +50,8 @@ only_record s line call provider token page auto clauses.Cookie h = tt
 only_record s line call provider token page auto clauses.Consent h = tt
 only_record s line call provider token page auto clauses.Token h = absurd (omega (arith, h))
 
-pub fails_call : (s : Scene) (line call provider : ℕ) (token : List ℕ) (page : Option ℕ) (auto : Option Bool) → (HasProvider s call provider → ⊥)
+pub fails_call : (s : Scene) (line call provider : ℕ) (token : List ℕ) (page : Option ℕ) (auto : Option Bool)
+    → (HasProvider s call provider → ⊥)
     → FailsFirst clauses.Call s (Token line call provider token page auto)
 fails_call s line call provider token page auto lacks = record { before = only_record s line call provider token page auto; fails = lacks }
 
@@ -57,7 +60,8 @@ pub fails_token : (s : Scene) (line call provider : ℕ) (token : List ℕ) (pag
 fails_token s line call provider token page auto has lacks =
     record { before = met s line call provider token page auto 6 has (omega arith); fails = lacks }
 
-pub passes_token : (s : Scene) (line call provider : ℕ) (token : List ℕ) (page : Option ℕ) (auto : Option Bool) → HasProvider s call provider → IsGiven s call provider token
+pub passes_token : (s : Scene) (line call provider : ℕ) (token : List ℕ) (page : Option ℕ) (auto : Option Bool)
+    → HasProvider s call provider → IsGiven s call provider token
     → (c : AuditClause) → Meets c s (Token line call provider token page auto)
 passes_token s line call provider token page auto has given clauses.Record = tt
 passes_token s line call provider token page auto has given clauses.Call = has

@@ -3,9 +3,10 @@ use Rattle.std.proofs.Common.{◌≡◌, ◌∙◌, ◌+◌, ◌≤◌, ℕ, Lis
 use Rattle.std.specs.Prelude.{Option, ◌⊎◌, IsSome}
 use Rattle.fed_io.specs.Io.{AppendsLess, Rose}
 use Rattle.fed_run.specs.declared.form.Form.{Form}
-use Rattle.fed_run.specs.declared.form.Form.TheVariants.{Run, Check, Twin, Audit, Compare, Make}
+use Rattle.fed_run.specs.declared.form.Form.TheVariants.{Run, Check, Twin, Audit, Compare, Make, Slice}
 use Rattle.fed_run.specs.declared.status.Status.{Status}
-use Rattle.fed_run.specs.declared.status.Status.TheVariants.{Done, Usage, BadScript, ReadFault, WriteFault, NoRoom, TooLong, NotTwins, Faulty}
+use Rattle.fed_run.specs.declared.status.Status.TheVariants.{Done, Usage, BadScript, ReadFault, WriteFault, NoRoom, TooLong, NotTwins}
+use Rattle.fed_run.specs.declared.status.Status.TheVariants.{Faulty}
 use Rattle.fed_run.specs.declared.status.Status.TheVariants.{Differs}
 use Rattle.fed_run.specs.Checks.{check_status, check_written}
 use Rattle.fed_run.specs.Ends.{Writes, WriteFaultLeaves}
@@ -43,6 +44,8 @@ never-full (Some Audit) bytes start taken left' room some fits leaves full =
     room-left start taken _ room leaves.took (fits leaves.status leaves.ends) full
 never-full (Some Compare) bytes start taken left' room some fits leaves full =
     room-left start taken _ room leaves.took (fits leaves.status leaves.ends) full
+never-full (Some (Slice party)) bytes start taken left' room some fits leaves full =
+    room-left start taken _ room leaves.took (fits leaves.status leaves.ends) full
 
 -- how it ends, where the source never fails and the sink only where it is full
 pub completes : (form : Option Form) (bytes start taken : List ℕ) (left' : Option (List ℕ)) (room : ℕ) (status : Status) → IsSome form
@@ -55,7 +58,8 @@ pub completes : (form : Option Form) (bytes start taken : List ℕ) (left' : Opt
     → (status ≡ BadScript → Writes 67108864 form bytes BadScript (Some start) (Some taken))
     → (status ≡ TooLong → Writes 67108864 form bytes TooLong (Some start) (Some taken))
     → (status ≡ ReadFault → ⊥)
-    → (status ≡ WriteFault → (length taken ≡ length start + room) × WriteFaultLeaves 67108864 form (Some bytes) left' (Some start) (Some taken))
+    → (status ≡ WriteFault → (length taken ≡ length start + room)
+    × WriteFaultLeaves 67108864 form (Some bytes) left' (Some start) (Some taken))
     → Writes 67108864 form bytes status (Some start) (Some taken) ⊎ (status ≡ NoRoom)
 completes form bytes start taken left' room status some fits usage done not faulty differs bad long read write = by status refl
   where

@@ -36,7 +36,7 @@ zero n = omega arith
 -- ---- the script
 
 -- a line's stop, if it is one of the first k lines
-abbrev line_early : ℕ → LineCause → ℕ → Option PairStop
+abbrev pub line_early : ℕ → LineCause → ℕ → Option PairStop
 line_early k cause line = cond (leb line k) (Some (record { line = line; cause = Line cause })) None
 
 -- a bad line, if it is one of the first k lines
@@ -45,7 +45,7 @@ bad_early k None = None
 bad_early k (Some bad) = line_early k bad.1 bad.0
 
 -- where a script stops, if it is at one of the first k lines
-abbrev stop_early : ℕ → Result Script Stop → Option PairStop
+abbrev pub stop_early : ℕ → Result Script Stop → Option PairStop
 stop_early k (Ok script) = None
 stop_early k (Err stop) = line_early k stop.cause stop.line
 
@@ -88,7 +88,7 @@ no_stop (Ok script) from = refl
 no_stop (Err stop) from = let least = from stop refl in above stop.line 0 (omega arith) _
 
 -- the stop of a script of some lines is that of these and further ones, up to the last of these
-script_further : (lines more : List (List ℕ))
+pub script_further : (lines more : List (List ℕ))
     → stop_early (length lines) (script_of_lines (lines ++ more)) ≡ stop_early (length lines) (script_of_lines lines)
 script_further [] more =
     no_stop (script_of_lines more) (λ stop is. (stop_is_among more stop is).from)
@@ -164,7 +164,8 @@ stops_undivided k lines none few =
     ∙ undivided_early (length lines) k (script_of_lines lines) few
 
 found_further : (lines more : List (List ℕ)) → Found lines
-    → recorded_stop_within (length lines) (recorded_of_lines (lines ++ more)) ≡ recorded_stop_within (length lines) (recorded_of_lines lines)
+    → recorded_stop_within (length lines) (recorded_of_lines (lines ++ more))
+    ≡ recorded_stop_within (length lines) (recorded_of_lines lines)
 found_further lines more so =
     let all : lines ++ more ≡ so.first ++ so.line ∷ (so.second ++ more) =
     ap (λ ls. ls ++ more) so.is ∙ append_assoc so.first (so.line ∷ so.second) more in
@@ -193,7 +194,8 @@ alone lines more true none others = by (found more others)
 
 -- the stop at one of these lines is the same, whatever lines follow
 further : (lines more : List (List ℕ))
-    → recorded_stop_within (length lines) (recorded_of_lines (lines ++ more)) ≡ recorded_stop_within (length lines) (recorded_of_lines lines)
+    → recorded_stop_within (length lines) (recorded_of_lines (lines ++ more))
+    ≡ recorded_stop_within (length lines) (recorded_of_lines lines)
 further lines more = by (list_any is_divider lines) refl
   where
     by : (any : Bool) → list_any is_divider lines ≡ any
@@ -215,23 +217,28 @@ count_whole (b ∷ bytes) = sum_by-cons (λ x. cond (is_lf x) 1 0) b bytes ∙ b
     by false [] count = omega (arith, count)
     by false (line ∷ lines) count = omega (arith, count)
 
--- the stop at a line that ends in bytes is the same, whatever bytes follow
-same_stop : (bytes more : List ℕ)
-    → recorded_stop_within (count_by is_lf bytes) (recorded_of (bytes ++ more))
-    ≡ recorded_stop_within (count_by is_lf bytes) (recorded_of bytes)
-same_stop bytes more =
-    let k = count_by is_lf bytes in
+-- what is told of the first so many lines is told of those that end in bytes, whatever bytes follow
+pub same_of_bytes : (stop : ℕ → List (List ℕ) → Option PairStop)
+    → ((lines more : List (List ℕ)) → stop (length lines) (lines ++ more) ≡ stop (length lines) lines)
+    → (bytes more : List ℕ)
+    → stop (count_by is_lf bytes) (lines_of (bytes ++ more)) ≡ stop (count_by is_lf bytes) (lines_of bytes)
+same_of_bytes stop same bytes more =
     let whole = whole_lines bytes in
-    let stop = λ (n : ℕ) (ls : List (List ℕ)). recorded_stop_within n (recorded_of_lines ls) in
     let all = lines_of-append bytes more in
     let here : lines_of bytes ≡ whole ++ lines_of (rest_of bytes ++ []) =
     ap lines_of (sym (append-nil bytes)) ∙ lines_of-append bytes [] in
     ap (λ n. stop n (lines_of (bytes ++ more))) (count_whole bytes)
     ∙ ap (stop (length whole)) all
-    ∙ further whole (lines_of (rest_of bytes ++ more))
-    ∙ sym (further whole (lines_of (rest_of bytes ++ [])))
+    ∙ same whole (lines_of (rest_of bytes ++ more))
+    ∙ sym (same whole (lines_of (rest_of bytes ++ [])))
     ∙ ap (stop (length whole)) (sym here)
     ∙ ap (λ n. stop n (lines_of bytes)) (sym (count_whole bytes))
+
+-- the stop at a line that ends in bytes is the same, whatever bytes follow
+same_stop : (bytes more : List ℕ)
+    → recorded_stop_within (count_by is_lf bytes) (recorded_of (bytes ++ more))
+    ≡ recorded_stop_within (count_by is_lf bytes) (recorded_of bytes)
+same_stop bytes more = same_of_bytes (λ n ls. recorded_stop_within n (recorded_of_lines ls)) further bytes more
 
 -- so is the first bad line within bytes
 within-more : (bytes more : List ℕ)

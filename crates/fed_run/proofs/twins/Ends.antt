@@ -22,7 +22,7 @@ told a b found (Err e) status text is_found twins tells = tt
 
 -- what is told of the scripts of a pair is told of what the bytes are read as
 pub told_pair : (bytes : List ℕ) (pair : Pair) (result : Result Ran NoRoom) → pair_of bytes ≡ Ok pair
-    → IfOk result (λ ran. TellsScripts pair.first pair.second ran.status ran.text.items)
-    → IfOk result (λ ran. TellsPair (pair_of bytes) ran.status ran.text.items)
-told_pair bytes pair (Ok ran) is tells = subst (λ r. TellsPair r ran.status ran.text.items) (sym is) tells
+    → IfOk result (λ ran. TellsScripts pair.first pair.second ran.status ran.text)
+    → IfOk result (λ ran. TellsPair (pair_of bytes) ran.status ran.text)
+told_pair bytes pair (Ok ran) is tells = subst (λ r. TellsPair r ran.status ran.text) (sym is) tells
 told_pair bytes pair (Err e) is tells = tt

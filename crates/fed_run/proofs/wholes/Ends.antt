@@ -15,11 +15,14 @@ use Rattle.fed_twin.specs.declared.fault.TwinFault.{TwinFault}
 use Rattle.fed_run.specs.declared.answer.Whole.{Whole}
 use Rattle.fed_run.specs.declared.answer.Whole.TheVariants as wholes
 use Rattle.fed_run.specs.declared.status.Status.{Status}
-use Rattle.fed_run.specs.declared.status.Status.TheVariants.{Done, Usage, BadScript, ReadFault, WriteFault, NoRoom, TooLong, NotTwins, Faulty}
+use Rattle.fed_run.specs.declared.status.Status.TheVariants.{Done, Usage, BadScript, ReadFault, WriteFault, NoRoom, TooLong, NotTwins}
+use Rattle.fed_run.specs.declared.status.Status.TheVariants.{Faulty}
 use Rattle.fed_run.specs.declared.status.Status.TheVariants.{Differs}
-use Rattle.fed_run.specs.Ends.{EndsWhole, EndsWholeBy, HasEnded, IsWhole, TellsAll, TellsAudit, TellsCut, TellsFound, TellsPair, TellsVerdict}
+use Rattle.fed_run.specs.Ends.{EndsWhole, EndsWholeBy, HasEnded, IsWhole, TellsAll, TellsAudit, TellsCut, TellsFound, TellsPair, TellsSlice}
+use Rattle.fed_run.specs.Ends.{TellsVerdict}
 use Rattle.fed_run.specs.Ends.{TellsComparison, TellsFinding}
 use Rattle.fed_run.specs.Ends.{bad_line_within}
+use Rattle.fed_run.specs.Alone.{alone_of}
 use Rattle.fed_run.specs.Recorded.{Recorded, recorded_of}
 
 -- bytes within the limit are not above it
@@ -96,10 +99,16 @@ comparison_told : (recorded : Result Recorded PairStop) (status : Status) (text 
 comparison_told (Ok recorded) status text h = finding_told h.comparison status text h.tells
 comparison_told (Err stop) status text h = subst (IsTold wholes.Compare) (sym h.0) tt
 
+slice_told : (party bytes : List ℕ) (script : Result Script PairStop) (status : Status) (text : List ℕ)
+    → TellsSlice party bytes script status text → IsTold (wholes.Slice party) status
+slice_told party bytes (Ok script) status text h = subst (IsTold (wholes.Slice party)) (sym h.ends) tt
+slice_told party bytes (Err stop) status text h = subst (IsTold (wholes.Slice party)) (sym h.0) tt
+
 all_told : (form : Whole) (bytes : List ℕ) (status : Status) (text : List ℕ) → TellsAll form bytes status text → IsTold form status
 all_told wholes.Twin bytes status text h = pair_told (pair_of bytes) status text h
 all_told wholes.Audit bytes status text h = audit_told (recorded_of bytes) status text h
 all_told wholes.Compare bytes status text h = comparison_told (recorded_of bytes) status text h
+all_told (wholes.Slice party) bytes status text h = slice_told party bytes (alone_of bytes) status text h
 
 -- a form ends so: its bytes are more than the limit, or it was told all of them
 pub data Ending (form : Whole) (limit : ℕ) (bytes : List ℕ) (status : Status) (text : List ℕ) : Type 0 where
@@ -141,6 +150,11 @@ told_ended wholes.Compare ReadFault h = absurd h
 told_ended wholes.Compare WriteFault h = absurd h
 told_ended wholes.Compare NoRoom h = absurd h
 told_ended wholes.Compare TooLong h = absurd h
+told_ended (wholes.Slice party) Usage h = absurd h
+told_ended (wholes.Slice party) ReadFault h = absurd h
+told_ended (wholes.Slice party) WriteFault h = absurd h
+told_ended (wholes.Slice party) NoRoom h = absurd h
+told_ended (wholes.Slice party) TooLong h = absurd h
 
 pub ended : (form : Whole) (limit : ℕ) (bytes : List ℕ) (status : Status) (text : List ℕ) → Ending form limit bytes status text
     → HasEnded status
@@ -164,15 +178,18 @@ twin_alone form limit bytes text (Cut long stop c) = absurd (cut_shared stop Not
 twin_alone wholes.Twin limit bytes text (All short h) = refl
 twin_alone wholes.Audit limit bytes text (All short h) = absurd h
 twin_alone wholes.Compare limit bytes text (All short h) = absurd h
+twin_alone (wholes.Slice party) limit bytes text (All short h) = absurd h
 
 pub audit_alone : (form : Whole) (limit : ℕ) (bytes text : List ℕ) → Ending form limit bytes Faulty text → form ≡ wholes.Audit
 audit_alone form limit bytes text (Cut long stop c) = absurd (cut_shared stop Faulty text c)
 audit_alone wholes.Twin limit bytes text (All short h) = absurd h
 audit_alone wholes.Audit limit bytes text (All short h) = refl
 audit_alone wholes.Compare limit bytes text (All short h) = absurd h
+audit_alone (wholes.Slice party) limit bytes text (All short h) = absurd h
 
 pub compare_alone : (form : Whole) (limit : ℕ) (bytes text : List ℕ) → Ending form limit bytes Differs text → form ≡ wholes.Compare
 compare_alone form limit bytes text (Cut long stop c) = absurd (cut_shared stop Differs text c)
 compare_alone wholes.Twin limit bytes text (All short h) = absurd h
 compare_alone wholes.Audit limit bytes text (All short h) = absurd h
 compare_alone wholes.Compare limit bytes text (All short h) = refl
+compare_alone (wholes.Slice party) limit bytes text (All short h) = absurd h

@@ -6,9 +6,9 @@ use Rattle.std.specs.Io.KnownBytes.{Appends, Keeps, Consumes, IsAtEnd}
 use Rattle.fed_io.specs.Io.{AppendsLess}
 use Rattle.fed_run.specs.declared.answer.Whole.{Whole}
 use Rattle.fed_run.specs.declared.answer.Whole.TheVariants as wholes
-use Rattle.fed_run.specs.declared.form.Form.TheVariants.{Twin, Audit, Compare}
+use Rattle.fed_run.specs.declared.form.Form.TheVariants.{Twin, Audit, Compare, Slice}
 use Rattle.fed_run.specs.declared.status.Status.{Status}
-use Rattle.fed_run.specs.declared.status.Status.TheVariants.{Done, WriteFault, TooLong, NotTwins, Faulty, Differs}
+use Rattle.fed_run.specs.declared.status.Status.TheVariants.{Done, WriteFault, NoRoom, TooLong, NotTwins, Faulty, Differs}
 use Rattle.fed_run.specs.Run.{TakesExactly}
 use Rattle.fed_run.specs.Ends.{EndsWhole, EndsAs, Writes, WritesLess, HasEnded, IsWhole, whole_form}
 use Rattle.fed_run.proofs.wholes.Ends.{Ending, Cut, All, ending, ended, twin_alone, audit_alone, compare_alone}
@@ -60,6 +60,8 @@ ends_as wholes.Audit limit bytes status status' text is h =
     record { is = Audit; named = refl; text = text; ends = subst (λ s. EndsWhole wholes.Audit limit bytes s text) is h }
 ends_as wholes.Compare limit bytes status status' text is h =
     record { is = Compare; named = refl; text = text; ends = subst (λ s. EndsWhole wholes.Compare limit bytes s text) is h }
+ends_as (wholes.Slice party) limit bytes status status' text is h =
+    record { is = Slice party; named = refl; text = text; ends = subst (λ s. EndsWhole (wholes.Slice party) limit bytes s text) is h }
 
 -- and the sink took its text
 writes_as : (form : Whole) (limit : ℕ) (bytes : List ℕ) (status status' : Status) (text : List ℕ) (taken taken' : Option (List ℕ))
@@ -72,6 +74,8 @@ writes_as wholes.Audit limit bytes status status' text taken taken' is h took =
     record { ends = ends_as wholes.Audit limit bytes status status' text is h; took = took }
 writes_as wholes.Compare limit bytes status status' text taken taken' is h took =
     record { ends = ends_as wholes.Compare limit bytes status status' text is h; took = took }
+writes_as (wholes.Slice party) limit bytes status status' text taken taken' is h took =
+    record { ends = ends_as (wholes.Slice party) limit bytes status status' text is h; took = took }
 
 less_as : (form : Whole) (limit : ℕ) (bytes : List ℕ) (status : Status) (text : List ℕ) (taken taken' : Option (List ℕ))
     → EndsWhole form limit bytes status text → (status ≡ TooLong → ⊥) → AppendsLess taken taken' text
@@ -83,6 +87,8 @@ less_as wholes.Audit limit bytes status text taken taken' h some took =
     record { status = status; ends = ends_as wholes.Audit limit bytes status status text refl h; some = some; took = took }
 less_as wholes.Compare limit bytes status text taken taken' h some took =
     record { status = status; ends = ends_as wholes.Compare limit bytes status status text refl h; some = some; took = took }
+less_as (wholes.Slice party) limit bytes status text taken taken' h some took =
+    record { status = status; ends = ends_as (wholes.Slice party) limit bytes status status text refl h; some = some; took = took }
 
 -- ---- what a write says
 
@@ -138,6 +144,14 @@ writes form limit read old new taken taken' status other text takes end comes is
       writes_as form limit (read ++ more) status other text taken taken' is (comes more whole) took,
     ))
 
+-- it ends as the form does
+pub ends_so : (form : Whole) (limit : ℕ) (read : List ℕ) (old new : Option (List ℕ)) (status other : Status) (text : List ℕ)
+    → Consumes old new read → (length read ≤ limit → IsAtEnd new) → Comes form limit read status text → status ≡ other
+    → IfSome old (λ bytes. EndsAs limit (Some (whole_form form)) bytes other ⊎ (other ≡ NoRoom))
+ends_so form limit read old new status other text takes end comes is =
+    of_source (λ bytes. EndsAs limit (Some (whole_form form)) bytes other ⊎ (other ≡ NoRoom)) limit old new read takes end
+    (λ more whole. inl (ends_as form limit (read ++ more) status other text is (comes more whole)))
+
 -- of both facts, the second
 pub second_of : (Q P : List ℕ → Type 0) (old : Option (List ℕ)) → IfSome old (λ bytes. Q bytes × P bytes) → IfSome old P
 second_of Q P None h = tt
@@ -161,6 +175,7 @@ long_text form limit bytes text (Cut long (Some stop) c) = absurd (search (c.0, 
 long_text wholes.Twin limit bytes text (All short h) = absurd h
 long_text wholes.Audit limit bytes text (All short h) = absurd h
 long_text wholes.Compare limit bytes text (All short h) = absurd h
+long_text (wholes.Slice party) limit bytes text (All short h) = absurd h
 
 keeps_appends : (taken taken' : Option (List ℕ)) → Keeps taken taken' → Appends taken taken' []
 keeps_appends None taken' keeps = tt
@@ -186,6 +201,7 @@ long_bytes form limit bytes text (Cut long stop c) = long
 long_bytes wholes.Twin limit bytes text (All short h) = absurd h
 long_bytes wholes.Audit limit bytes text (All short h) = absurd h
 long_bytes wholes.Compare limit bytes text (All short h) = absurd h
+long_bytes (wholes.Slice party) limit bytes text (All short h) = absurd h
 
 -- the byte after the limit was read
 pub past : (form : Whole) (limit : ℕ) (read : List ℕ) (old new : Option (List ℕ)) (status : Status) (text : List ℕ)

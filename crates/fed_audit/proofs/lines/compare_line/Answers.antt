@@ -30,7 +30,8 @@ returns-in-Some-3 g c = λ at h.
       about_is = sym a.ensures.about;
     } in
     let w : Came c.arrive.new.self (arrive a.place at.line at.left at.rows) =
-    came c.arrive.new.self (arrive a.place at.line at.left at.rows) c.in_ok-missing.field-0 (c.in_ok-missing.ensures at h) c.in_default-2.is in
+    came c.arrive.new.self (arrive a.place at.line at.left at.rows) c.in_ok-missing.field-0 (c.in_ok-missing.ensures at h) c.in_default-2.is
+    in
     met_stops c.args.number c.args.line.now at w.at c.in-Some.said a.place a.about c.in-Some-3.difference s w.is
     (subst (HasMet c.meet.new.rows c.in-Some.said a.place a.about w.at) c.in-Some-3.is (c.in_ok-difference.ensures w.at w.stands))
 
@@ -45,7 +46,8 @@ returns g c = λ at h.
       about_is = sym a.ensures.about;
     } in
     let w : Came c.arrive.new.self (arrive a.place at.line at.left at.rows) =
-    came c.arrive.new.self (arrive a.place at.line at.left at.rows) c.in_ok-missing.field-0 (c.in_ok-missing.ensures at h) c.in_default-2.is in
+    came c.arrive.new.self (arrive a.place at.line at.left at.rows) c.in_ok-missing.field-0 (c.in_ok-missing.ensures at h) c.in_default-2.is
+    in
     let m = subst (HasMet c.meet.new.rows c.in-Some.said a.place a.about w.at) c.in-None.is (c.in_ok-difference.ensures w.at w.stands) in (
       c.is_request.ensures ∙ sym (ap is_request s.is),
       m.0,

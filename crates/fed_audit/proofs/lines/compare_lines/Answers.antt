@@ -27,7 +27,8 @@ loop-line-preserved g c =
           let w = i.goes at h in
           let x = ok_case _ _ c.in_ok-request.field-0 c.in-Ok.request (c.in_ok-request.ensures w.now w.is) c.in-Ok.is in
           goes_on at c.args.first c.args.text.now c.loop-line.rows c.compare_any.new.rows x.1 c.loop-line.number c.loop-line.rest.now
-          c.in-Some.line.now c.in-Some.after.now c.loop-line.requests c.with_request-requests.result c.in-Ok.request w c.in-Some.ensures.lines x.0
+          c.in-Some.line.now c.in-Some.after.now c.loop-line.requests c.with_request-requests.result c.in-Ok.request w
+          c.in-Some.ensures.lines x.0
           c.with_request-requests.ensures x.2 x.3;
       fits =
           let fits = i.fits in
@@ -48,7 +49,8 @@ pub returns-in-Some-2 : goal.returns-in-Some-2
 returns-in-Some-2 g c = λ at h.
     let i = c.loop-line.invariant.goes at h in
     ends_lacking at c.args.first c.args.text.now c.loop-line.rows c.loop-line.number c.loop-line.rest.now c.loop-line.requests
-    c.in_ok-missing.field-0 c.in-Some-2.missing i (none_left c.loop-line.rest.now c.in_default.ensures.line) (c.in_ok-missing.ensures i.now i.is)
+    c.in_ok-missing.field-0 c.in-Some-2.missing i (none_left c.loop-line.rest.now c.in_default.ensures.line)
+    (c.in_ok-missing.ensures i.now i.is)
     c.in-Some-2.is
 
 pub returns-in-None : goal.returns-in-None

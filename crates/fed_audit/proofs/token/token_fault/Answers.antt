@@ -13,7 +13,8 @@ returns-then-are_given c = λ s line page auto h n is.
     (c.in-Some.ensures ∙ h.calls c.args.giving.now.call) in
     let few = ap (λ (x : Call). x.providers) kept.is in
     let below = c.if-giving-begun.false in
-    let f : FoundToken s c.args.giving.now.call c.args.giving.now.provider c.args.giving.now.token.now c.is_place-asked.result c.has-answered.result
+    let f : FoundToken s c.args.giving.now.call c.args.giving.now.provider c.args.giving.now.token.now c.is_place-asked.result
+    c.has-answered.result
     c.is_replaced-replaced.result c.in_ok-reply.reply =
     record {
       begun = kept.begun;
@@ -26,11 +27,18 @@ returns-then-are_given c = λ s line page auto h n is.
           ∙ ap (λ (x : Call). row_replaced x.page (s.row ∷ s.before)) (sym kept.is))
           ∙ sym (replaced_is c.args.giving.now.call kept.begun.page (s.row ∷ s.before)));
       reply_is = c.in_ok-reply.ensures
-          ∙ (ap (λ e. found.is_reply c.args.giving.now.call c.args.giving.now.provider e c.in-Some.begun.now.origin c.args.giving.now.token.now) is
-          ∙ ap (λ (x : Call). found.is_reply c.args.giving.now.call c.args.giving.now.provider s.row.event x.origin c.args.giving.now.token.now) (sym kept.is));
+          ∙ (ap (λ e. found.is_reply c.args.giving.now.call c.args.giving.now.provider e c.in-Some.begun.now.origin
+          c.args.giving.now.token.now) is
+          ∙ ap (λ (x : Call). found.is_reply c.args.giving.now.call c.args.giving.now.provider s.row.event x.origin
+          c.args.giving.now.token.now) (sym kept.is));
     } in
-    passes_token s line c.args.giving.now.call c.args.giving.now.provider c.args.giving.now.token.now page auto (kept.begun, kept.began, omega (arith, few, below))
-    (given s c.args.giving.now.call c.args.giving.now.provider c.args.giving.now.token.now c.is_place-asked.result c.has-answered.result c.is_replaced-replaced.result
+    passes_token s line c.args.giving.now.call c.args.giving.now.provider c.args.giving.now.token.now page auto (
+      kept.begun,
+      kept.began,
+      omega (arith, few, below),
+    )
+    (given s c.args.giving.now.call c.args.giving.now.provider c.args.giving.now.token.now c.is_place-asked.result c.has-answered.result
+    c.is_replaced-replaced.result
     c.in_ok-reply.reply f (sym c.are_given.ensures ∙ c.if-are_given.true))
 
 pub returns : goal.returns
@@ -39,7 +47,8 @@ returns c = λ s line page auto h n is.
     (c.in-Some.ensures ∙ h.calls c.args.giving.now.call) in
     let few = ap (λ (x : Call). x.providers) kept.is in
     let below = c.if-giving-begun.false in
-    let f : FoundToken s c.args.giving.now.call c.args.giving.now.provider c.args.giving.now.token.now c.is_place-asked.result c.has-answered.result
+    let f : FoundToken s c.args.giving.now.call c.args.giving.now.provider c.args.giving.now.token.now c.is_place-asked.result
+    c.has-answered.result
     c.is_replaced-replaced.result c.in_ok-reply.reply =
     record {
       begun = kept.begun;
@@ -52,9 +61,16 @@ returns c = λ s line page auto h n is.
           ∙ ap (λ (x : Call). row_replaced x.page (s.row ∷ s.before)) (sym kept.is))
           ∙ sym (replaced_is c.args.giving.now.call kept.begun.page (s.row ∷ s.before)));
       reply_is = c.in_ok-reply.ensures
-          ∙ (ap (λ e. found.is_reply c.args.giving.now.call c.args.giving.now.provider e c.in-Some.begun.now.origin c.args.giving.now.token.now) is
-          ∙ ap (λ (x : Call). found.is_reply c.args.giving.now.call c.args.giving.now.provider s.row.event x.origin c.args.giving.now.token.now) (sym kept.is));
+          ∙ (ap (λ e. found.is_reply c.args.giving.now.call c.args.giving.now.provider e c.in-Some.begun.now.origin
+          c.args.giving.now.token.now) is
+          ∙ ap (λ (x : Call). found.is_reply c.args.giving.now.call c.args.giving.now.provider s.row.event x.origin
+          c.args.giving.now.token.now) (sym kept.is));
     } in
-    fails_token s line c.args.giving.now.call c.args.giving.now.provider c.args.giving.now.token.now page auto (kept.begun, kept.began, omega (arith, few, below))
-    (not_given s c.args.giving.now.call c.args.giving.now.provider c.args.giving.now.token.now c.is_place-asked.result c.has-answered.result c.is_replaced-replaced.result
+    fails_token s line c.args.giving.now.call c.args.giving.now.provider c.args.giving.now.token.now page auto (
+      kept.begun,
+      kept.began,
+      omega (arith, few, below),
+    )
+    (not_given s c.args.giving.now.call c.args.giving.now.provider c.args.giving.now.token.now c.is_place-asked.result c.has-answered.result
+    c.is_replaced-replaced.result
     c.in_ok-reply.reply f (sym c.are_given.ensures ∙ c.if-are_given.false))

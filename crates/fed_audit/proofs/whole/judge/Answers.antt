@@ -16,7 +16,8 @@ pub returns-in_ok-note_request-in-Request-clause-judged : goal.returns-in_ok-not
 returns-in_ok-note_request-in-Request-clause-judged c = λ s h n is.
     subst (λ r. Judged s r c.in_ok-fault-in-Request.fault c.note_request.new.self) (sym c.in-Request.is)
     (judged_request s c.in-Request.line c.in-Request.call c.in-Request.provider c.in-Request.kind c.in-Request.bytes
-    c.in_ok-fault-in-Request.fault c.args.seen.now c.note_request.new.self (subst (λ bs. IsFirst s (Request c.in-Request.line c.in-Request.call c.in-Request.provider c.in-Request.kind bs)
+    c.in_ok-fault-in-Request.fault c.args.seen.now c.note_request.new.self
+    (subst (λ bs. IsFirst s (Request c.in-Request.line c.in-Request.call c.in-Request.provider c.in-Request.kind bs)
     c.in_ok-fault-in-Request.fault) c.as_slice.ensures (c.in_ok-fault-in-Request.ensures s c.in-Request.line h n)) n
     c.note_request.ensures.frame c.in_ok-note_request-in-Request.ensures.ok)
 
@@ -25,14 +26,17 @@ returns-else-is_none-clause-judged c = λ s h n is.
     subst (λ r. Judged s r c.in_ok-fault-in-Request.fault c.args.seen.now) (sym c.in-Request.is)
     (judged_fault s _ c.in_ok-fault-in-Request.fault c.args.seen.now c.is_none.result
     (subst (λ bs. IsFirst s (Request c.in-Request.line c.in-Request.call c.in-Request.provider c.in-Request.kind bs)
-    c.in_ok-fault-in-Request.fault) c.as_slice.ensures (c.in_ok-fault-in-Request.ensures s c.in-Request.line h n)) c.is_none.ensures c.if-is_none.false)
+    c.in_ok-fault-in-Request.fault) c.as_slice.ensures (c.in_ok-fault-in-Request.ensures s c.in-Request.line h n)) c.is_none.ensures
+    c.if-is_none.false)
 
 pub returns-in_ok-note_result-in-Token-clause-judged : goal.returns-in_ok-note_result-in-Token-clause-judged
 returns-in_ok-note_result-in-Token-clause-judged c = λ s h n is.
     subst (λ r. Judged s r c.in_ok-fault-in-Token.fault c.note_result.new.self) (sym c.in-Token.is)
     (judged_token s c.in-Token.line c.in-Token.call c.in-Token.provider c.in-Token.token c.in-Token.page c.in-Token.auto
-    c.in_ok-fault-in-Token.fault c.args.seen.now c.note_result.new.self (subst (λ t. IsFirst s (Token c.in-Token.line c.in-Token.call c.in-Token.provider t c.in-Token.page c.in-Token.auto)
-    c.in_ok-fault-in-Token.fault) c.as_str.ensures (c.in_ok-fault-in-Token.ensures s c.in-Token.line c.in-Token.page c.in-Token.auto h n is)) n
+    c.in_ok-fault-in-Token.fault c.args.seen.now c.note_result.new.self
+    (subst (λ t. IsFirst s (Token c.in-Token.line c.in-Token.call c.in-Token.provider t c.in-Token.page c.in-Token.auto)
+    c.in_ok-fault-in-Token.fault) c.as_str.ensures
+    (c.in_ok-fault-in-Token.ensures s c.in-Token.line c.in-Token.page c.in-Token.auto h n is)) n
     c.note_result.ensures.frame c.in_ok-note_result-in-Token.ensures.ok)
 
 pub returns-else-is_none-2-clause-judged : goal.returns-else-is_none-2-clause-judged
@@ -40,7 +44,9 @@ returns-else-is_none-2-clause-judged c = λ s h n is.
     subst (λ r. Judged s r c.in_ok-fault-in-Token.fault c.args.seen.now) (sym c.in-Token.is)
     (judged_fault s _ c.in_ok-fault-in-Token.fault c.args.seen.now c.is_none-in-Token.result
     (subst (λ t. IsFirst s (Token c.in-Token.line c.in-Token.call c.in-Token.provider t c.in-Token.page c.in-Token.auto)
-    c.in_ok-fault-in-Token.fault) c.as_str.ensures (c.in_ok-fault-in-Token.ensures s c.in-Token.line c.in-Token.page c.in-Token.auto h n is)) c.is_none-in-Token.ensures c.if-is_none-2.false)
+    c.in_ok-fault-in-Token.fault) c.as_str.ensures
+    (c.in_ok-fault-in-Token.ensures s c.in-Token.line c.in-Token.page c.in-Token.auto h n is)) c.is_none-in-Token.ensures
+    c.if-is_none-2.false)
 
 pub returns-in_ok-note_result-in-Answer-clause-judged : goal.returns-in_ok-note_result-in-Answer-clause-judged
 returns-in_ok-note_result-in-Answer-clause-judged c = λ s h n is.

@@ -5,8 +5,13 @@ use Rattle.fed_audit.proofs.verdicts.Lines.{blank_passes, record_passes, line_ju
 use Rattle.fed_audit.proofs.whole.judge_any.Goals as goal
 
 pub returns-then-is_blank : goal.returns-then-is_blank
-returns-then-is_blank g c = λ earlier n from.
-    (earlier, blank_passes c.args.script.now c.args.line.now earlier (sym c.is_blank.ensures ∙ c.if-is_blank.true), n, from, c.requires.walks)
+returns-then-is_blank g c = λ earlier n from. (
+  earlier,
+  blank_passes c.args.script.now c.args.line.now earlier (sym c.is_blank.ensures ∙ c.if-is_blank.true),
+  n,
+  from,
+  c.requires.walks,
+)
 
 pub returns : goal.returns
 returns g c = λ earlier n from.

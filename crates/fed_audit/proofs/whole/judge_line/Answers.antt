@@ -55,7 +55,8 @@ returns-in-Some-2 g c = λ earlier n from.
     let notes = notes_moved c.args.seen.now c.take_to.new.self earlier c.take_to.ensures.asked c.take_to.ensures.answered n in
     let judged = c.in_ok-clause.ensures.judged x.scene x.follows (subst (Notes c.take_to.new.self) (sym x.earlier_is) notes) x.event in
     FailsClause c.in-Some.record x.scene c.in-Some-2.clause (sym c.in_ok-record.ensures ∙ c.in-Some.is)
-    (placed c.args.script.now c.take_to.new.self earlier c.in-Some-last.n.now (last_line (option_copied c.args.at.last)) c.in-Some.record x from
+    (placed c.args.script.now c.take_to.new.self earlier c.in-Some-last.n.now (last_line (option_copied c.args.at.last)) c.in-Some.record x
+    from
     low at')
     (subst (IsFirst x.scene c.in-Some.record) c.in-Some-2.is judged.0)
 
@@ -75,7 +76,8 @@ returns g c = λ earlier n from.
       c.in-Some.record,
       sym c.in_ok-record.ensures ∙ c.in-Some.is,
       AtLine x.scene
-          (placed c.args.script.now c.take_to.new.self earlier c.in-Some-last.n.now (last_line (option_copied c.args.at.last)) c.in-Some.record x
+          (placed c.args.script.now c.take_to.new.self earlier c.in-Some-last.n.now (last_line (option_copied c.args.at.last))
+          c.in-Some.record x
           from low at')
           (subst (IsFirst x.scene c.in-Some.record) c.in-None.is judged.0),
       subst (λ rs. Notes c.judge.new.seen (c.in-Some.record ∷ rs)) x.earlier_is (judged.1 c.in-None.is),

@@ -14,11 +14,11 @@ answer_front-requires c = simp length-take (omega arith)
 pub returns-then-bytes-gt-LIMIT : goal.returns-then-bytes-gt-LIMIT
 returns-then-bytes-gt-LIMIT c =
     IfOk-weaker c.answer_front.result _ _
-    (λ ran h more whole. ends_of_more c.args.form 67108864 c.args.bytes.now more ran.status ran.text.items c.if-bytes-gt-LIMIT.true h)
+    (λ ran h more whole. ends_of_more c.args.form 67108864 c.args.bytes.now more ran.status ran.text c.if-bytes-gt-LIMIT.true h)
     c.answer_front.ensures
 
 pub returns : goal.returns
 returns c =
     IfOk-weaker c.answer_all.result _ _
-    (λ ran h more whole. ends_of_all c.args.form 67108864 c.args.bytes.now more ran.status ran.text.items (omega arith) whole h)
+    (λ ran h more whole. ends_of_all c.args.form 67108864 c.args.bytes.now more ran.status ran.text (omega arith) whole h)
     c.answer_all.ensures

@@ -8,4 +8,4 @@ pub returns-in-Step : goal.returns-in-Step
 returns-in-Step c =
     λ more some.
     stop_is_within c.args.bytes.now more _ c.in-Step.stop _ c.count_lines-lines.ensures (rw c.in-Step.is at c.in-Err.ensures)
-    c.stop_within.ensures
+    c.if_among.ensures

@@ -8,14 +8,17 @@ rows-init g c = λ at h. record { now = at; is = h; same = refl }
 
 pub returns-then-is_some : goal.returns-then-is_some
 returns-then-is_some g c = λ at h.
-    let m = is_missing c.missing-missing.result c.rows.self.line c.rows.self.left c.is_some.result c.missing-missing.ensures c.is_some.ensures
+    let m =
+    is_missing c.missing-missing.result c.rows.self.line c.rows.self.left c.is_some.result c.missing-missing.ensures c.is_some.ensures
     c.if-is_some.true in
-    end_lacking c.rows.self (end_lacks at.line at.left at.rows) c.missing-missing.result m.difference (c.rows.invariant at h) c.missing-missing.ensures m.is
+    end_lacking c.rows.self (end_lacks at.line at.left at.rows) c.missing-missing.result m.difference (c.rows.invariant at h)
+    c.missing-missing.ensures m.is
 
 pub returns-in_default : goal.returns-in_default
 returns-in_default g c = λ at h.
     end_done c.rows.self (end_lacks at.line at.left at.rows) (c.rows.invariant at h)
-    (not_missing c.missing-missing.result c.rows.self.line c.rows.self.left c.is_some.result c.missing-missing.ensures c.is_some.ensures c.if-is_some.false)
+    (not_missing c.missing-missing.result c.rows.self.line c.rows.self.left c.is_some.result c.missing-missing.ensures c.is_some.ensures
+    c.if-is_some.false)
     (no_events c.rows.self.events.now c.in_default.ensures.cases)
 
 pub take-requires : goal.take-requires
@@ -25,7 +28,8 @@ take-requires g c =
       w.is,
       c.in-Some.ensures.cases.0,
       none_left_over c.rows.self.line c.rows.self.left
-          (not_missing c.missing-missing.result c.rows.self.line c.rows.self.left c.is_some.result c.missing-missing.ensures c.is_some.ensures
+          (not_missing c.missing-missing.result c.rows.self.line c.rows.self.left c.is_some.result c.missing-missing.ensures
+          c.is_some.ensures
           c.if-is_some.false),
     )
 
@@ -33,5 +37,6 @@ pub rows-preserved : goal.rows-preserved
 rows-preserved g c = λ at h.
     let w = c.rows.invariant at h in
     end_further c.rows.self c.take.new.self (end_lacks at.line at.left at.rows) w
-    (not_missing c.missing-missing.result c.rows.self.line c.rows.self.left c.is_some.result c.missing-missing.ensures c.is_some.ensures c.if-is_some.false)
+    (not_missing c.missing-missing.result c.rows.self.line c.rows.self.left c.is_some.result c.missing-missing.ensures c.is_some.ensures
+    c.if-is_some.false)
     (c.in_ok-take.ensures.took w.now w.is)

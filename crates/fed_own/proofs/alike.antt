@@ -1,0 +1,4 @@
+-- A comparison of the own records finds nothing.
+pub mod Said
+pub mod Early
+pub mod Alike

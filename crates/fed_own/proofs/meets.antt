@@ -1,0 +1,5 @@
+-- Each own record meets all clauses, where the requests are readable.
+pub mod Recorded
+pub mod Carried
+pub mod Meets
+pub mod Whole

@@ -1,0 +1,2 @@
+-- The text of a script, as this program writes it.
+pub mod Texts

@@ -1,0 +1,11 @@
+pub mod Own
+pub mod Line
+pub mod Text
+pub mod Once
+pub mod Clauses
+pub mod Consent
+pub mod Tokens
+pub mod Request
+pub mod Calls
+pub mod Laws
+pub mod Whole

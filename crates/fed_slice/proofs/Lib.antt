@@ -1,0 +1,2 @@
+pub mod joined
+pub mod gathered

@@ -1,0 +1,4 @@
+pub mod Mine
+pub mod Side
+pub mod Laws
+pub mod Reads

@@ -1,0 +1,4 @@
+//! The part of a session that concerns a site.
+#![tactic(auto)]
+
+pub mod laws;

@@ -1,2 +1,0 @@
-pub mod runs
-pub mod others
