@@ -29,15 +29,15 @@ def transcript(path):
         return subprocess.run([PROGRAM, "run"], stdin=script, stdout=subprocess.PIPE, check=True).stdout.decode()
 
 
-def instructions(path, word="run", most=COUNTED):
-    """The instructions that the program with this word takes over the input at this path, as valgrind counts them: they do not hang on
-    what else the machine does. `nan` where there is no valgrind or the input has more than so many bytes."""
+def instructions(path, *words, most=COUNTED):
+    """The instructions that the program with these words, `run` without any, takes over the input at this path, as valgrind counts them:
+    they do not hang on what else the machine does. `nan` where there is no valgrind or the input has more than so many bytes."""
     need_program()
     if os.path.getsize(path) > most or not shutil.which("valgrind"):
         return float("nan")
     with open(path, "rb") as script:
         told = subprocess.run(
-            [*COUNT, PROGRAM, word],
+            [*COUNT, PROGRAM, *(words or ["run"])],
             stdin=script,
             stdout=subprocess.DEVNULL,
             stderr=subprocess.PIPE,

@@ -142,24 +142,27 @@ const Chart = (() => {
         && (this.drawn.last === this.rows.length - 1 || this.drawn.bottom >= bottom + BEYOND / 2);
     }
 
-    // What is drawn stands at heights from a base on, since far heights are not exact in SVG. Behind the rows come what ties them, and the
-    // whole text of the chosen one.
+    // What is drawn stands at heights from a base on, since far heights are not exact in SVG. Behind the rows stand the lanes and the bars
+    // of the chosen call, so that words stay whole; before them the stripes, and the whole text of the chosen row.
     clear(base) {
       const height = Math.max(0, Math.min(this.picture.height - base, 2 * BASE));
       this.options = new Map();
-      this.ties = Drawing.make('g');
+      this.bars = Drawing.make('g');
+      this.stripes = Drawing.make('g');
       this.svg.setAttribute('width', this.picture.width);
       this.svg.setAttribute('height', height + CALLOUT);
-      this.svg.replaceChildren(Drawing.drawLives(this.picture, height), this.ties);
+      this.svg.replaceChildren(Drawing.drawLives(this.picture, height), this.bars, this.stripes);
     }
 
     add(first, last, base) {
       const chosen = this.rows[this.chosen];
-      const ties = Drawing.drawTies(this.picture, [first, last], base, chosen);
-      if (this.chosen >= first && this.chosen <= last) this.addCallout(ties, base);
-      this.ties.replaceWith(ties);
-      this.ties = ties;
-      let next = ties;
+      const bars = Drawing.drawBars(this.picture, [first, last], base, chosen);
+      const stripes = Drawing.drawStripes(this.picture, [first, last], base, chosen);
+      if (this.chosen >= first && this.chosen <= last) this.addCallout(stripes, base);
+      this.bars.replaceWith(bars);
+      this.stripes.replaceWith(stripes);
+      Object.assign(this, { bars, stripes });
+      let next = stripes;
       for (let at = last; at >= first; at -= 1) {
         if (!this.options.has(at)) {
           const option = this.option(at, base);
@@ -170,10 +173,10 @@ const Chart = (() => {
       }
     }
 
-    addCallout(ties, base) {
+    addCallout(front, base) {
       const option = this.options.get(this.chosen) ?? this.option(this.chosen, base);
       const end = this.top() + this.viewHeight();
-      if (option.classList.contains('cut')) ties.append(Drawing.drawCallout(this.picture, this.chosen, base, end));
+      if (option.classList.contains('cut')) front.append(Drawing.drawCallout(this.picture, this.chosen, base, end));
     }
 
     // Whether a row is another call's than the chosen one, where there are several.

@@ -95,7 +95,7 @@ const Decoding = (() => {
 
   function parsed(text) {
     try {
-      return JSON.parse(text);
+      return Bytes.isDeep(text) ? undefined : JSON.parse(text);
     } catch {
       return undefined;
     }

@@ -97,8 +97,9 @@ class Sums:
     # The tables, in Markdown.
     def text(self):
         names = "Chromium %s, %d recordings: %s." % (" and ".join(sorted(self.versions)), len(self.names), ", ".join(self.names))
-        lines = [textwrap.fill(names, 140, break_on_hyphens=False), "", "%d of %d requests that both sent are alike in method, target, the profile's fields and the members of forms."
-                 % (self.alike, self.requests), "", "| of | what differs | how often | in |", "|---|---|---|---|"]
+        alike = "%d of %d requests that both sent are alike in method, target, the profile's fields and the members of forms."
+        lines = [textwrap.fill(names, 140, break_on_hyphens=False), "", alike % (self.alike, self.requests), "",
+                 "| of | what differs | how often | in |", "|---|---|---|---|"]
         order = list(KINDS) + ["dialog", "result"]
         for (kind, words), names in sorted(self.found.items(), key=lambda each: (order.index(each[0][0]), -len(each[1]), each[0][1])):
             where = sorted(set(names))

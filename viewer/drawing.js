@@ -68,6 +68,7 @@ const Drawing = (() => {
     .chart .open { stroke-dasharray: 4 3; }
     .chart .stripe.own { stroke-width: 5; }
     .chart .knot { fill: currentColor; }
+    .chart .knot.own { fill: var(--paper); stroke: currentColor; stroke-width: 2.5; }
     .chart .tie { fill: currentColor; fill-opacity: .35; stroke: currentColor; }
     .chart .tie.own { fill-opacity: 1; }
     .chart .moment { stroke: var(--ink); stroke-width: 1; stroke-dasharray: 1 3; }
@@ -112,7 +113,9 @@ const Drawing = (() => {
   }
 
   const boldWidth = words => Layout.widthOf(words, LABEL * 1.1);
-  const faultWords = ({ out, clause, what }) => out === 'faulty' ? `breaks ${clause}` : `differs: ${what}`;
+  const FAULT_WORDS = { faulty: ({ clause }) => `breaks ${clause}`, differs: ({ what }) => `differs: ${what}`,
+    'not-twins': ({ clause }) => `no twins: ${clause}` };
+  const faultWords = fault => FAULT_WORDS[fault.out](fault);
 
   // The marks in front of a row's title: the clause that it breaks, and what a request tells.
   function marksOf(row) {
@@ -216,18 +219,18 @@ const Drawing = (() => {
     return classes.join(' ');
   }
 
+  const callsOf = row => row.of ? [row.of] : row.closes ?? [];
+
+  const knot = (part, { column }, y, kind, r) => make('circle',
+    { class: `${kind} s${column % Layout.COLORS}`, cx: part.stripeX(column), cy: y + WORDS - 4, r });
+
   // The numbers of line and call, and a knot in the stripe of the call.
   function gutter(row, part) {
     const drawn = [];
     if (row.line !== undefined) drawn.push(text(String(row.line), 8, WORDS, 'faint'));
     if (row.call !== undefined) drawn.push(text(String(row.call), part.callAt, WORDS, 'faint'));
-    for (const call of row.of ? [row.of] : row.closes ?? []) {
-      const stripe = part.stripes.of.get(call);
-      if (!stripe) continue;
-      const place = { cx: part.stripeX(stripe.column), cy: WORDS - 4, r: part.pitch > 5 ? 3.5 : 2.5 };
-      drawn.push(make('circle', { class: `knot s${stripe.column % Layout.COLORS}`, ...place }));
-    }
-    return drawn;
+    const stripes = callsOf(row).map(call => part.stripes.of.get(call)).filter(Boolean);
+    return [...drawn, ...stripes.map(stripe => knot(part, stripe, 0, 'knot', part.pitch > 5 ? 3.5 : 2.5))];
   }
 
   // What is drawn of a row, by a part of the picture.
@@ -257,7 +260,8 @@ const Drawing = (() => {
   }
 
   function pairRow(pair, picture, height, place) {
-    const group = make('g', { class: ['row', 'pair', pair.link, pair.ends && 'ends'].filter(Boolean).join(' '), ...place },
+    const kinds = ['row', 'pair', pair.link, pair.ends && 'ends', pair.fault && 'fault'];
+    const group = make('g', { class: kinds.filter(Boolean).join(' '), ...place },
       make('rect', { class: 'band', x: 0, y: 0, width: picture.width, height }));
     const lead = pair.ends ? ROW : 0;
     if (pair.ends) {
@@ -272,8 +276,16 @@ const Drawing = (() => {
       if (isCut) group.classList.add('cut');
     });
     if (pair.link) group.append(...link(pair, picture, lead));
+    if (pair.fault) group.append(...faultBetween(pair, picture, lead));
     if (group.classList.contains('cut')) cut(group, pair);
     return group;
+  }
+
+  // The clause by which two scripts are no twins, between the worlds.
+  function faultBetween(pair, { second }, lead) {
+    const [{ box, kind, words, width }] = marksOf({ fault: pair.fault });
+    return [make('rect', { class: box, x: second - 8 - width / 2, y: lead + WORDS - 11.5, width, height: 15, rx: 7.5 }),
+      text(words, second - 8, lead + WORDS, kind)];
   }
 
   // What ties a request of one world to that of the other.
@@ -292,11 +304,22 @@ const Drawing = (() => {
     return make('g', { class: 'lives' }, ...picture.parts.map((part, at) => placed(picture, at, lives(part))));
   }
 
-  // The stripes between two rows, that of a call thicker, and over the lanes of that call's providers a bar from each request to its reply.
-  function drawTies(picture, [first, last], top, chosen) {
-    const drawn = (part, at) => [...stripesOf(part, [first, last], top, chosen?.of),
-      ...(chosen?.of && picture.parts.length === 1 ? barsOf(part, [first, last], top, chosen) : [])];
-    return make('g', { class: 'ties' }, ...picture.parts.map((part, at) => placed(picture, at, drawn(part, at))));
+  // The stripes between two rows, which stand before these; that of the chosen row's call is thicker, with rings in place of its knots.
+  function drawStripes(picture, range, top, chosen) {
+    const drawn = part => [...stripesOf(part, range, top, chosen?.of), ...ringsOf(part, range, top, chosen?.of)];
+    return make('g', { class: 'stripes' }, ...picture.parts.map((part, at) => placed(picture, at, drawn(part))));
+  }
+
+  function ringsOf(part, [first, last], top, call) {
+    const stripe = call && part.stripes.of.get(call);
+    if (!stripe) return [];
+    return part.rows.slice(first, last + 1).flatMap((row, at) => !row || !callsOf(row).includes(call) ? []
+      : [knot(part, stripe, part.offsets[first + at] - top, 'knot own', part.pitch > 5 ? 4 : 3)]);
+  }
+
+  // Behind the rows, over the lanes of the chosen row's call, a bar from each of its requests to the reply.
+  function drawBars(picture, range, top, chosen) {
+    return make('g', { class: 'bars' }, ...(chosen?.of && picture.parts.length === 1 ? barsOf(picture, range, top, chosen) : []));
   }
 
   function stripesOf(part, [first, last], top, call) {
@@ -311,10 +334,18 @@ const Drawing = (() => {
         const y = offsets[start] - top + (start === from ? WORDS - 4 : 0);
         const below = offsets[end + 1] - top - (end === to && !isOpen ? offsets[end + 1] - offsets[end] - WORDS + 4 : 0);
         const kind = ['stripe', `s${column % Layout.COLORS}`, (isOpen || isShared) && 'open', list[at] === own && 'own'];
-        drawn.push(make('path', { class: kind.filter(Boolean).join(' '), d: `M${part.stripeX(column)} ${y}V${below}` }));
+        const x = part.stripeX(column);
+        drawn.push(make('path', { class: kind.filter(Boolean).join(' '), d: `M${x} ${y}${quietGap(part, start, end, x, top)}V${below}` }));
       }
     }
     return drawn;
+  }
+
+  // Where a stripe leaves out the words of the quiet line.
+  function quietGap({ quietLine, offsets }, start, end, x, top) {
+    if (!(quietLine > start && quietLine <= end)) return '';
+    const y = offsets[quietLine] - top;
+    return `V${y}M${x} ${y + ROW}`;
   }
 
   // The last stripe of a column that begins before a row, or the first of all.
@@ -377,7 +408,7 @@ const Drawing = (() => {
   function boxedName({ name, role }, at, part) {
     const x = part.laneX(at);
     const width = part.gap - 10;
-    const lines = Layout.nameLines(name, width - 6, LABEL).map(words => [words, 'title']);
+    const lines = Layout.nameLines(name, width - 6, LABEL * 1.17).map(words => [words, 'title']);
     if (role && name && lines.length < 2) lines.unshift([role, 'faint']);
     const first = part.header / 2 + 5 - (lines.length - 1) * 7.5;
     return make('g', { class: 'lane' }, nameTitle(name),
@@ -396,5 +427,5 @@ const Drawing = (() => {
       text(words, x, y, 'title', { transform: `rotate(${-Layout.SLANT} ${x} ${y})`, 'font-size': SMALL }));
   }
 
-  return { make, text, drawRow, drawLives, drawTies, drawCallout, drawHeader, STYLE, COLORS };
+  return { make, text, drawRow, drawLives, drawStripes, drawBars, drawCallout, drawHeader, STYLE, COLORS };
 })();

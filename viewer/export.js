@@ -31,7 +31,7 @@ const Export = (() => {
     const height = picture.header + picture.height + LEGEND;
     const body = Drawing.make('g', { transform: `translate(0 ${picture.header})` }, Drawing.drawLives(picture, picture.height));
     shown.forEach((row, at) => body.append(Drawing.drawRow(picture, at, 0)));
-    body.append(Drawing.drawTies(picture, [0, shown.length - 1], 0));
+    body.append(Drawing.drawStripes(picture, [0, shown.length - 1], 0));
     const sizes = { width: picture.width, height, viewBox: `0 0 ${picture.width} ${height}` };
     return Drawing.make('svg', { class: 'chart', role: 'img', ...sizes },
       Drawing.make('title', {}, 'A session of federated sign-in'), Drawing.make('desc', {}, words),

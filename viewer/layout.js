@@ -304,7 +304,9 @@ const Layout = (() => {
       this.header = 22 + Math.max(...this.parts.map(({ header }) => header));
       this.offsets = offsetsOf(pairs, ({ sides, ends }) => Math.max(...sides.map(heightOf)) + (ends ? ROW : 0));
       this.height = this.offsets[pairs.length];
-      for (const part of this.parts) part.offsets = this.offsets;
+      // Stripes leave out the words of the quiet line.
+      const quietLine = pairs.findIndex(({ ends }) => ends);
+      for (const part of this.parts) Object.assign(part, { offsets: this.offsets, quietLine });
     }
   }
 

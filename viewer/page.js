@@ -121,11 +121,25 @@
     session = built;
     document.body.classList.add('has-session');
     byId('summary').textContent = words;
+    choice();
     verdict();
     problems();
     suggestions();
     filter(place);
     if (!place) begin();
+  }
+
+  // Two scripts that were given one after the other can be drawn side by side, or the second alone.
+  const CHOICES = {
+    alone: ['The two scripts that were given one after the other are drawn as two worlds.', 'Draw the second alone'],
+    beside: ['This script is drawn in place of the one before.', 'Draw both side by side, as two worlds'],
+  };
+
+  function choice() {
+    const [said, words] = CHOICES[given.choice()] ?? ['', ''];
+    byId('choice').hidden = words === '';
+    byId('choice-said').textContent = said;
+    byId('turn').textContent = words;
   }
 
   // What the program said of the transcript or of the two scripts.
@@ -335,8 +349,7 @@
   function showExample(name) {
     const example = Examples.find(each => each.name === name);
     if (!example) return;
-    given.clear();
-    given.add(example.texts);
+    given.setExample(example.texts);
     byId('example').value = name;
     show();
   }
@@ -368,6 +381,10 @@
     });
     byId('show-pasted').addEventListener('click', () => take([byId('pasted').value].filter(Boolean)));
     byId('clear').addEventListener('click', clear);
+    byId('turn').addEventListener('click', () => {
+      given.turn();
+      show();
+    });
   }
 
   function listenForViews() {

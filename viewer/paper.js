@@ -22,7 +22,7 @@ const Paper = (() => {
     const height = picture.offsets[last + 1] - top;
     const body = Drawing.make('g', { transform: `translate(0 ${picture.header})` }, Drawing.drawLives(picture, height));
     for (let at = first; at <= last; at += 1) body.append(Drawing.drawRow(picture, at, top));
-    body.append(Drawing.drawTies(picture, [first, last], top));
+    body.append(Drawing.drawStripes(picture, [first, last], top));
     return Drawing.make('svg', { class: 'chart', viewBox: `0 0 ${picture.width} ${picture.header + height}` }, body,
       Drawing.drawHeader(picture, titles));
   }

@@ -3,6 +3,7 @@
 // Reads a session script and its transcript, line by line (docs/profile.md, sections 1 and 13). A line that cannot be read is named
 // with its cause, and the others are kept: a picture of a damaged file is worth more than none.
 const Reading = (() => {
+  const LONG_LINE = 5000;
   const REQUEST_KINDS = ['wellknown', 'config', 'accounts', 'metadata', 'assertion', 'disconnect'];
   const LINES_AT_ONCE = 2000;
   const MOST_PROVIDERS = 10;
@@ -149,6 +150,9 @@ const Reading = (() => {
   }
 
   function parse(source) {
+    if (source.length > LONG_LINE && Bytes.isDeep(source)) {
+      return { wrong: { cause: 'not-json', note: 'it is nested deeper than is read' } };
+    }
     try {
       return { value: JSON.parse(source) };
     } catch (error) {

@@ -5,6 +5,9 @@
 const Bytes = (() => {
   const LATEST = 1e14;
   const WHOLE = 'the whole';
+  const QUOTE = 34;
+  const BACKSLASH = 92;
+  const DEEPEST = 1000;
 
   // What makes a recording unreadable, in words for whoever gave it.
   class Unreadable extends Error {}
@@ -55,21 +58,84 @@ const Bytes = (() => {
   const named = (fields, name) => (fields ?? []).filter(([field]) => field.toLowerCase() === name).map(([, value]) => value);
   const lines = fields => fields.map(([name, value]) => `${name}: ${value}\r\n`).join('');
 
+  // No name of a host is longer.
+  const MOST_HOST = 253;
+
   function url(text, base) {
     try {
-      return new URL(text, base);
+      const found = new URL(text, base);
+      return found.hostname.length > MOST_HOST ? undefined : found;
     } catch {
       return undefined;
     }
   }
 
+  const MOST_PLACES = 50000;
+  const places = new Map();
+
+  // The parts of a URL that many requests share, read once; nothing where it is none.
+  function place(text) {
+    if (!places.has(text)) {
+      if (places.size === MOST_PLACES) places.clear();
+      const { protocol, hostname, origin, pathname } = url(text) ?? {};
+      places.set(text, protocol && { protocol, hostname, origin, pathname });
+    }
+    return places.get(text);
+  }
+
   // A URL as requests have it: without its fragment.
-  const plain = text => text.split('#')[0];
+  const plain = text => text.includes('#') ? text.slice(0, text.indexOf('#')) : text;
+
+  // The place behind a text of JSON that begins at a quote.
+  function behindText(text, start) {
+    for (let at = start + 1; ;) {
+      const end = text.indexOf('"', at);
+      if (end < 0) return text.length;
+      let back = end;
+      while (text.charCodeAt(back - 1) === BACKSLASH) back -= 1;
+      if ((end - back) % 2 === 0) return end + 1;
+      at = end + 1;
+    }
+  }
+
+  // Whether a text of JSON is nested deeper than what anybody reads: one of millions of brackets ends a browser's page.
+  function isDeep(text) {
+    let depth = 0;
+    for (let at = 0; at < text.length && depth <= DEEPEST; at += 1) {
+      const code = text.charCodeAt(at);
+      if (code === QUOTE) at = behindText(text, at) - 1;
+      else if (code === 123 || code === 91) depth += 1;
+      else if (code === 125 || code === 93) depth -= 1;
+    }
+    return depth > DEEPEST;
+  }
+
+  // The JSON value of a text, or nothing.
+  function parsed(text) {
+    try {
+      return isDeep(text) ? undefined : JSON.parse(text);
+    } catch {
+      return undefined;
+    }
+  }
 
   // The JSON value of a body, or nothing.
-  function json(bytes) {
+  const json = bytes => parsed(toText(bytes ?? '').replace(/^\ufeff/, ''));
+
+  const bodies = new WeakMap();
+
+  // The JSON value of the body of an exchange's reply, read once.
+  function replyJson(exchange) {
+    if (!exchange) return undefined;
+    const { replyBody: body } = exchange;
+    if (!bodies.has(exchange) || bodies.get(exchange).body !== body) bodies.set(exchange, { body, value: json(body) });
+    return bodies.get(exchange).value;
+  }
+
+  // The text of a JSON value, or nothing where it is nested deeper than can be written.
+  function written(value) {
     try {
-      return JSON.parse(toText(bytes ?? '').replace(/^\ufeff/, ''));
+      return JSON.stringify(value);
     } catch {
       return undefined;
     }
@@ -105,8 +171,9 @@ const Bytes = (() => {
     return undefined;
   }
 
-  return { Unreadable, ofText, toText, strict, isAscii, ofEvent, ofRecord, decoded, splitField, named, lines, url, plain, json, form,
-    sorted, isText, isTruth, isNumber, isObject, isTexts, isTable, isTime, wrong };
+  return { Unreadable, ofText, toText, strict, isAscii, ofEvent, ofRecord, decoded, splitField, named, lines, url, place, plain,
+    behindText, isDeep, parsed, json, replyJson, written, form, sorted, isText, isTruth, isNumber, isObject, isTexts, isTable, isTime,
+    wrong };
 })();
 
 // What a conversion says of itself: what it made up, moved and left out, each with where, and what the capture does not show.

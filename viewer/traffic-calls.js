@@ -10,18 +10,26 @@ const TrafficCalls = (() => {
   const MOST_PROVIDERS = 10;
   const BESIDE = 60;
   const PAIR = 1500;
+  const ENDPOINTS = ['accounts_endpoint', 'client_metadata_endpoint', 'id_assertion_endpoint', 'disconnect_endpoint'];
   const KNOWN = ['configURL', 'clientId', 'nonce', 'loginHint', 'domainHint', 'params'];
 
   const textOf = value => ['string', 'number', 'boolean'].includes(typeof value) ? String(value) : undefined;
   const oneOf = (value, words) => words.includes(value) ? value : undefined;
   const isWeb = url => url !== undefined && /^https?:$/.test(url.protocol) && !url.username && !url.password;
-  const originOf = text => Bytes.named(text.requestFields, 'origin')[0];
   const isBelow = (host, domain) => host === domain || host.endsWith('.' + domain);
+
+  const origins = new WeakMap();
+
+  // The Origin field of a request, looked for once.
+  function originOf(x) {
+    if (!origins.has(x)) origins.set(x, Bytes.named(x.requestFields, 'origin')[0]);
+    return origins.get(x);
+  }
 
   // Whether an origin or URL is of a site, as a NetLog writes it.
   function isOfSite(site, text) {
-    const one = Bytes.url(site);
-    const other = Bytes.url(text);
+    const one = Bytes.place(site);
+    const other = Bytes.place(text);
     return Boolean(one && other) && one.protocol === other.protocol && isBelow(other.hostname, one.hostname);
   }
 
@@ -37,7 +45,7 @@ const TrafficCalls = (() => {
     const { params } = options;
     return { config: url.href, client: textOf(options.clientId) ?? '', nonce: textOf(options.nonce),
       login_hint: textOf(options.loginHint) || undefined, domain_hint: textOf(options.domainHint) || undefined,
-      params: params === undefined || params === null ? undefined : JSON.stringify(params) };
+      params: params === undefined || params === null ? undefined : Bytes.written(params) };
   }
 
   const emptyCall = (work, more) => ({ number: work.calls.length + 1, until: Infinity, untilOrder: Infinity, slots: new Map(), dialogs: [],
@@ -117,17 +125,17 @@ const TrafficCalls = (() => {
 
   // A configuration request begins a call, with the well-known request beside it.
   function begun(work, x, paired) {
-    const url = new URL(x.url);
+    const url = Bytes.place(x.url);
     if (x.method !== 'GET' || url.pathname === WELL_KNOWN || originOf(x)) return;
-    const files = work.fed.filter(w => Math.abs(w.start - x.start) < PAIR && !paired.has(w) && new URL(w.url).pathname === WELL_KNOWN
-      && isBelow(url.hostname, new URL(w.url).hostname));
-    const value = Bytes.json(x.replyBody);
+    const file = work.fed.find(w => Math.abs(w.start - x.start) < PAIR && !paired.has(w) && Bytes.place(w.url).pathname === WELL_KNOWN
+      && isBelow(url.hostname, Bytes.place(w.url).hostname));
+    const value = file && Bytes.replyJson(x);
     const looksLikeAccounts = isObject(value) && value.accounts !== undefined && value.accounts_endpoint === undefined
       && value.id_assertion_endpoint === undefined;
-    if (files.length === 0 || looksLikeAccounts) return;
-    paired.add(files[0]);
+    if (!file || looksLikeAccounts) return;
+    paired.add(file);
     const site = (x.isolation ?? '').split(' ')[0];
-    work.calls.push(emptyCall(work, { at: Math.min(files[0].start, x.start), order: 0, kind: 'get', isMade: true, site, target: x.target,
+    work.calls.push(emptyCall(work, { at: Math.min(file.start, x.start), order: 0, kind: 'get', isMade: true, site, target: x.target,
       providers: [{ config: x.url, client: '' }] }));
   }
 
@@ -135,15 +143,15 @@ const TrafficCalls = (() => {
   function tellMore(work, call, at) {
     const [provider] = call.providers;
     const isHttp = /^https?:/.test(call.site);
-    const origin = new URL(provider.config).origin;
-    const next = work.calls.slice(at + 1).find(each => each.site === call.site && (!call.target || call.target === each.target)
+    const { origin } = Bytes.place(provider.config);
+    const next = work.calls.find((each, place) => place > at && each.site === call.site && (!call.target || call.target === each.target)
       && each.providers[0].config === provider.config);
     const mine = work.fed.filter(x => x.start >= call.at - 1 && (!x.target || !call.target || x.target === call.target)
-      && (!next || x.start < next.at - 1) && new URL(x.url).origin === origin);
+      && (!next || x.start < next.at - 1) && Bytes.place(x.url).origin === origin);
     const said = mine.map(x => originOf(x) ?? x.initiator).find(each => each && (!isHttp || isOfSite(call.site, each)));
     const post = mine.find(({ method }) => method === 'POST');
     const links = mine.find(x => x.method === 'GET' && originOf(x));
-    const form = Bytes.form(post && bodyOf(post));
+    const form = post ? formOf(post) : {};
     provider.client = form.client_id ?? (links && new URL(links.url).searchParams.get('client_id')) ?? '';
     if (!post && !links) work.notes.put('made', 'an empty client, where no request names one', provider.config);
     Object.assign(provider, { nonce: form.nonce, params: form.params });
@@ -160,9 +168,9 @@ const TrafficCalls = (() => {
       if (own) return own;
     }
     const fits = ({ event }) => {
-      if (said) return new URL(event.url).origin === said;
+      if (said) return Bytes.place(event.url).origin === said;
       if (/^https?:/.test(call.site)) return isOfSite(call.site, event.url);
-      return new URL(event.url).origin !== new URL(call.providers[0].config).origin;
+      return Bytes.place(event.url).origin !== Bytes.place(call.providers[0].config).origin;
     };
     return loads.findLast(each => each.at <= call.at + 5 && fits(each));
   }
@@ -196,6 +204,27 @@ const TrafficCalls = (() => {
     return requestExact ? requestExact.slice(requestExact.indexOf('\r\n\r\n') + 4) : frameBody;
   }
 
+  const forms = new WeakMap();
+
+  // The members of a request's form, read once.
+  function formOf(x) {
+    if (!forms.has(x)) forms.set(x, Bytes.form(x.method === 'POST' ? bodyOf(x) : undefined));
+    return forms.get(x);
+  }
+
+  const endpoints = new WeakMap();
+
+  // The URLs of the endpoints that the reply for a configuration names, read once.
+  function endpointsOf(exchange, config) {
+    if (endpoints.get(exchange)?.config !== config) {
+      const value = Bytes.replyJson(exchange);
+      const named = ENDPOINTS.filter(name => isText(value?.[name]));
+      const urls = named.map(name => [name, Bytes.plain(Bytes.url(value[name], config)?.href ?? '')]);
+      endpoints.set(exchange, { config, urls: Object.fromEntries(urls) });
+    }
+    return endpoints.get(exchange).urls;
+  }
+
   // Whether a request can be of a call, by its tab, its origin, and the site for which the browser sent it.
   function canBeOf(call, x, origin) {
     if (x.start < call.at - BESIDE || x.start > call.until + BESIDE) return false;
@@ -207,16 +236,14 @@ const TrafficCalls = (() => {
   }
 
   // Which kind of request of a call to one of its providers it is, if any.
-  function kindOf(call, place, x, { url, origin, form }) {
+  function kindOf(call, place, x, { url, href, origin, form }) {
     const provider = call.providers[place];
-    const config = new URL(provider.config);
-    const value = Bytes.json(slot(call, place, 'config').at(-1)?.replyBody);
-    const endpoint = name => isText(value?.[name]) ? Bytes.plain(Bytes.url(value[name], provider.config)?.href ?? '') : undefined;
-    const href = Bytes.plain(url.href);
+    const config = slot(call, place, 'config').at(-1);
+    const endpoint = name => config && endpointsOf(config, provider.config)[name];
     const isClient = client => call.isMade || client === provider.client;
     if (x.method === 'GET' && !origin) {
-      if (url.pathname === WELL_KNOWN && isBelow(config.hostname, url.hostname)) return 'wellknown';
-      if (href === Bytes.plain(config.href)) return 'config';
+      if (url.pathname === WELL_KNOWN && isBelow(Bytes.place(provider.config).hostname, url.hostname)) return 'wellknown';
+      if (href === Bytes.plain(provider.config)) return 'config';
       return href === endpoint('accounts_endpoint') ? 'accounts' : undefined;
     }
     if (x.method === 'GET') {
@@ -230,7 +257,8 @@ const TrafficCalls = (() => {
 
   function findCall(work, x) {
     const origin = originOf(x);
-    const read = { url: new URL(x.url), origin, form: x.form };
+    const url = new URL(x.url);
+    const read = { url, href: Bytes.plain(url.href), origin, form: x.form };
     const found = [];
     for (const call of work.calls) {
       if (!canBeOf(call, x, origin)) continue;
@@ -251,7 +279,7 @@ const TrafficCalls = (() => {
     for (const x of work.fed) {
       const body = x.method === 'POST' ? bodyOf(x) : undefined;
       if (x.method === 'POST' && !body) work.notes.put('left', 'the body of a POST, which is not in the capture', x.url);
-      x.form = Bytes.form(body);
+      x.form = formOf(x);
       const [first, second] = findCall(work, x);
       if (!first) {
         work.leftOver.push(x);

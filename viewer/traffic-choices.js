@@ -7,7 +7,7 @@ const TrafficChoices = (() => {
   const BESIDE = 60;
   const DIALOG_BESIDE = 250;
   const byTime = (a, b) => a.at - b.at || a.order - b.order;
-  const originOf = url => new URL(url).origin;
+  const originOf = url => Bytes.place(url)?.origin;
 
   // ---- replies
 
@@ -120,7 +120,7 @@ const TrafficChoices = (() => {
       work.notes.put('left', 'a choice, since no dialog with the account of the assertion request stood', x.url);
       return;
     }
-    const listed = requestsOf(call, 'accounts').reduce((sum, { replyBody }) => sum + (Bytes.json(replyBody)?.accounts?.length ?? 0), 0);
+    const listed = requestsOf(call, 'accounts').reduce((sum, x) => sum + (Bytes.replyJson(x)?.accounts?.length ?? 0), 0);
     work.notes.put('made', 'a choice, from the account of the assertion request: nobody saw the click', x.url);
     call.isChoiceMade = true;
     decide(work, call, { at: x.start - 0.01, place: x.place, account, isOneOfSeveral: (dialog ? dialog.accounts.length : listed) > 1,
@@ -150,7 +150,7 @@ const TrafficChoices = (() => {
 
   function loginUrls(call) {
     return call.providers.map(({ config }, place) => {
-      const value = Bytes.json(slot(call, place, 'config').at(-1)?.replyBody);
+      const value = Bytes.replyJson(slot(call, place, 'config').at(-1));
       return Bytes.isText(value?.login_url) ? Bytes.url(value.login_url, config)?.href : undefined;
     });
   }
@@ -185,8 +185,7 @@ const TrafficChoices = (() => {
     const isOfProvider = url => call.providers.some(({ config }) => originOf(config) === originOf(url));
     const inTime = each => each.at <= at + 5 && each.at >= after;
     const told = work.events.filter(each => each.resume && inTime(each) && isOfProvider(each.resume)).sort(byTime).at(-1);
-    return told ?? work.events.filter(each => each.load && inTime(each) && isOfProvider(each.event.url)
-      && Bytes.named(each.load.replyFields, 'set-login').length > 0).sort(byTime).at(-1);
+    return told ?? work.events.filter(each => each.saysLogin && inTime(each) && isOfProvider(each.event.url)).sort(byTime).at(-1);
   }
 
   // ---- the profile's order

@@ -35,6 +35,7 @@ const Har = (() => {
 
   function read(text, notes) {
     let har;
+    if (Bytes.isDeep(text)) throw new Bytes.Unreadable('the HAR is nested deeper than any is');
     try {
       har = JSON.parse(text);
     } catch (error) {

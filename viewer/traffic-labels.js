@@ -8,6 +8,7 @@ const TrafficLabels = (() => {
   const PUBLIC = ['approved_clients', 'code'];
   const FIELDS = ['content-type', 'content-encoding', 'set-login', 'access-control-allow-origin', 'access-control-allow-credentials'];
   const FRAMING = ['content-length', 'transfer-encoding'];
+  const DEEPEST = 100;
   const CREDENTIALED = ['accounts', 'assertion', 'disconnect'];
   const CONTROL = /[\x00-\x08\x0a-\x1f\x7f]/;
   const FIELD = /^([!#$%&'*+.^_`|~0-9a-z-]+):(.*)$/is;
@@ -45,12 +46,12 @@ const TrafficLabels = (() => {
     return isGood ? body.slice(0, Number(lengths[0])) : undefined;
   }
 
-  // Whether a value of JSON is one to every reader: no lone surrogates, no numbers beyond floats.
-  function isPlain(value) {
+  // Whether a value of JSON is one to every reader: no lone surrogates, no numbers beyond floats, and not nested deep.
+  function isPlain(value, depth = 0) {
     if (typeof value === 'string') return value.isWellFormed();
     if (typeof value === 'number') return Number.isFinite(value);
     if (typeof value !== 'object' || value === null) return true;
-    return Object.entries(value).every(([name, each]) => name.isWellFormed() && isPlain(each));
+    return depth < DEEPEST && Object.entries(value).every(([name, each]) => name.isWellFormed() && isPlain(each, depth + 1));
   }
 
   class Labels {

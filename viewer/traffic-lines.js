@@ -92,10 +92,10 @@ const TrafficLines = (() => {
   function token(work, call, { token: given, config, auto }) {
     const provider = placeOf(call, config);
     const asked = assertionsOf(call).filter(x => x.reply);
-    const x = asked.find(each => each.place === provider && Bytes.json(each.replyBody)?.token === given) ?? asked.at(-1);
+    const x = asked.find(each => each.place === provider && Bytes.replyJson(each)?.token === given) ?? asked.at(-1);
     work.records.push({ at: call.until, cause: () => x?.reply ?? lastOf(call, call.until),
       record: Bytes.sorted({ out: 'result', call: call.number, page: call.page, see: 'token',
-        token: typeof given === 'string' ? given : JSON.stringify(given), provider, auto: auto === true }) });
+        token: typeof given === 'string' ? given : Bytes.written(given) ?? '', provider, auto: auto === true }) });
   }
 
   function result(work, call) {
@@ -138,7 +138,7 @@ const TrafficLines = (() => {
 
   // Of the rest of the browsing nothing is told: pages with calls and the providers' own sites are kept.
   function leaveOut(work) {
-    const site = url => TrafficRules.partyOf(new URL(url).hostname, work.rules);
+    const site = url => TrafficRules.partyOf(Bytes.place(url).hostname, work.rules);
     const sites = new Set(work.calls.flatMap(({ providers, origin }) => [...providers.map(({ config }) => site(config)),
       ...origin ? [site(origin)] : []]));
     const used = new Set(work.calls.map(({ page }) => page));

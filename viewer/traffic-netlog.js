@@ -4,7 +4,6 @@
 const NetLog = (() => {
   const { isText, isNumber, isObject, isTexts, isTable, isTime } = Bytes;
   const QUOTE = 34;
-  const BACKSLASH = 92;
   const isHeads = value => isTexts(value) && value.length > 0 || isTable(value);
   const isNumbers = value => isObject(value) && Object.values(value).every(isNumber);
   const DEPENDENCY = { id: isNumber, type: isNumber };
@@ -35,18 +34,6 @@ const NetLog = (() => {
 
   const turned = table => new Map(Object.entries(table ?? {}).map(([name, value]) => [value, name]));
 
-  // The place behind a text of JSON that begins at a quote.
-  function behindText(text, start) {
-    for (let at = start + 1; ;) {
-      const end = text.indexOf('"', at);
-      if (end < 0) return text.length;
-      let back = end;
-      while (text.charCodeAt(back - 1) === BACKSLASH) back -= 1;
-      if ((end - back) % 2 === 0) return end + 1;
-      at = end + 1;
-    }
-  }
-
   // A log that was cut off, closed behind its last whole event; nothing where its events do not begin.
   function mended(text) {
     let depth = 0;
@@ -54,7 +41,7 @@ const NetLog = (() => {
     for (let at = 0; at < text.length; at += 1) {
       const code = text.charCodeAt(at);
       if (code === QUOTE) {
-        at = behindText(text, at) - 1;
+        at = Bytes.behindText(text, at) - 1;
       } else if (code === 123 || code === 91) {
         depth += 1;
         if (depth === 2 && code === 91) end = at + 1;
@@ -67,6 +54,7 @@ const NetLog = (() => {
   }
 
   function parsed(text) {
+    if (Bytes.isDeep(text)) throw new Bytes.Unreadable('the NetLog is nested deeper than any is');
     try {
       return { log: JSON.parse(text) };
     } catch (error) {
@@ -121,7 +109,8 @@ const NetLog = (() => {
       } else if (name === 'COOKIE_STORE_COOKIE_ADDED') {
         this.cookieWrites.push({ at: event.at, ...params });
       } else if (params.source_dependency) {
-        this.wire.bound(event, this.sources.get(params.source_dependency.type));
+        const isKept = this.wire.bound(event, this.sources.get(params.source_dependency.type));
+        if (!isKept) this.lost(event.order, name, 'params.source_dependency, which is one of too many');
       } else if (source === 'URL_REQUEST') {
         this.request(event, this.open.get(id));
       }

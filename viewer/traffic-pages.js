@@ -106,7 +106,8 @@ const TrafficPages = (() => {
     } else if ([204, 205].includes(statusOf(own))) {
       notes.put('left', 'a load with status 204 or 205, after which the page stays', own.url);
     } else {
-      work.push(own.headAt ?? own.end, { do: 'load', page: own.page, url: own.url, ...headOf(own) }, { load: own });
+      const saysLogin = Bytes.named(own.replyFields, 'set-login').length > 0;
+      work.push(own.headAt ?? own.end, { do: 'load', page: own.page, url: own.url, ...headOf(own) }, { load: own, saysLogin });
     }
   }
 
@@ -151,6 +152,17 @@ const TrafficPages = (() => {
     }
   }
 
+  // The place of the first of sorted numbers that is greater.
+  function firstAfter(numbers, bound) {
+    let low = 0;
+    for (let high = numbers.length; low < high;) {
+      const middle = (low + high) >> 1;
+      if (numbers[middle] > bound) high = middle;
+      else low = middle + 1;
+    }
+    return low;
+  }
+
   // Cookies that no reply set: those of scripts.
   function scriptCookies(work) {
     if (!work.netlog?.hasValues) return;
@@ -162,13 +174,13 @@ const TrafficPages = (() => {
         set.get(key).push(own.headAt ?? own.end);
       }
     }
-    const hosts = new Set(work.all.map(({ url }) => new URL(url).hostname));
-    const isUsed = domain => [...hosts].some(host => host === domain || host.endsWith('.' + domain));
+    for (const times of set.values()) times.sort((a, b) => a - b);
+    const used = new Set(work.all.flatMap(({ url }) => TrafficRules.above(Bytes.place(url).hostname)));
     for (const cookie of work.netlog.cookieWrites) {
       const times = set.get(`${cookie.name}=${cookie.value}`) ?? [];
-      const found = times.findIndex(at => Math.abs(at - cookie.at) < COOKIE_NEAR);
-      if (found >= 0) times.splice(found, 1);
-      else if (isUsed(cookie.domain.replace(/^\./, ''))) scriptCookie(work, cookie);
+      const found = firstAfter(times, cookie.at - COOKIE_NEAR);
+      if (times[found] < cookie.at + COOKIE_NEAR) times.splice(found, 1);
+      else if (used.has(cookie.domain.replace(/^\./, ''))) scriptCookie(work, cookie);
     }
   }
 
@@ -218,5 +230,5 @@ const TrafficPages = (() => {
     startCookies(work);
   }
 
-  return { Work, place, statusLine, statusOf, CARRIER };
+  return { Work, place, isFed, statusLine, statusOf, CARRIER };
 })();

@@ -48,14 +48,6 @@ const ProtocolLog = (() => {
   // Fields of a table, where several values of one name stand in one text.
   const fieldsOf = table => Object.entries(table).flatMap(([name, value]) => value.split('\n').map(each => [name, each]));
 
-  function parsed(text) {
-    try {
-      return JSON.parse(text);
-    } catch {
-      return undefined;
-    }
-  }
-
   class Reader {
     constructor(notes) {
       Object.assign(this, { notes, exchanges: [], told: [], dialogs: [], commands: [], targets: new Map(), gone: [],
@@ -72,7 +64,7 @@ const ProtocolLog = (() => {
 
     line(text, order) {
       if (text.trim() === '') return;
-      const value = parsed(text);
+      const value = Bytes.parsed(text);
       if (value === undefined) {
         this.notes.put('left', 'a line of the DevTools log that is no JSON', `line ${order}`);
         return;
@@ -162,7 +154,7 @@ const ProtocolLog = (() => {
     // What the recorder's script in a page told; a page can tell through it whatever it likes.
     page({ name, payload }, own) {
       if (name !== BINDING) return;
-      const told = parsed(payload);
+      const told = Bytes.parsed(payload);
       const isPlaced = /^https?:/.test(Bytes.url(told?.url ?? '')?.origin ?? '') || told?.what === 'result';
       const wrong = Bytes.wrong(told, TOLD) ?? (isPlaced ? undefined : 'url');
       if (wrong) {
@@ -230,7 +222,7 @@ const ProtocolLog = (() => {
 
   // Whether a text is such a log, by its first line.
   const isLog = text => {
-    const first = parsed(text.slice(0, text.indexOf('\n') + 1 || undefined));
+    const first = Bytes.parsed(text.slice(0, text.indexOf('\n') + 1 || undefined));
     return isObject(first) && first.t !== undefined && isText(first.d);
   };
 

@@ -7,12 +7,20 @@ const Wire = (() => {
   const DATA = 0;
   const PADDED = 8;
   const CLOSE = 50;
+  const MOST_BOUND = 100;
 
   const add = (map, key, value) => {
     if (!map.has(key)) map.set(key, []);
     map.get(key).push(value);
   };
   const lastBefore = (list, order) => (list ?? []).findLast(each => each.order < order);
+
+  // Adds to what one source is bound to: that are never many, so more are not kept.
+  const bind = (map, key, value) => {
+    const isKept = (map.get(key)?.length ?? 0) < MOST_BOUND;
+    if (isKept) add(map, key, value);
+    return isKept;
+  };
   const joined = list => (list ?? []).map(({ bytes }) => bytes).join('');
 
   // The bytes of DATA frames by the number of their stream.
@@ -47,12 +55,12 @@ const Wire = (() => {
       add(this[way], socket, part);
     }
 
-    // What a request or a job stands on: a job, a socket, a stream of a session.
+    // What a request or a job stands on: a job, a socket, a stream of a session. Whether it is kept.
     bound({ name, params, id, order, at }, kind) {
       const to = params.source_dependency.id;
-      if (name === 'HTTP2_SESSION_SEND_HEADERS') add(this.streams, to, { session: id, stream: params.stream_id, order, at });
-      else if (kind === 'SOCKET') add(this.sockets, id, { socket: to, order });
-      else if (name === 'HTTP_STREAM_REQUEST_BOUND_TO_JOB') add(this.jobs, id, { job: to, order });
+      if (name === 'HTTP2_SESSION_SEND_HEADERS') return bind(this.streams, to, { session: id, stream: params.stream_id, order, at });
+      if (kind === 'SOCKET') return bind(this.sockets, id, { socket: to, order });
+      return name !== 'HTTP_STREAM_REQUEST_BOUND_TO_JOB' || bind(this.jobs, id, { job: to, order });
     }
 
     give(exchanges) {

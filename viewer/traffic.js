@@ -28,8 +28,21 @@ const Traffic = (() => {
       sources[kind] = kind === 'list' ? text : READERS[kind].read(text, notes);
     }
     if (!sources.netlog && !sources.protocol && !sources.har) throw new Bytes.Unreadable('no recording is given');
+    for (const [kind, source] of Object.entries(sources)) if (kind !== 'list') refuseMany(kind, source);
     refuse(sources);
     return { sources, notes };
+  }
+
+  // What would take a conversion hours is refused.
+  const MOST = [['requests', 50000, () => true], ['loads of pages', 10000, ({ isMain }) => isMain],
+    ['FedCM requests', 2000, TrafficPages.isFed]];
+
+  function refuseMany(kind, { exchanges }) {
+    for (const [words, most, test] of MOST) {
+      const count = exchanges.filter(test).length;
+      if (count <= most) continue;
+      throw new Bytes.Unreadable(`${NAMES[kind]} with ${count} ${words} is given, and at most ${most} are converted: record fewer minutes`);
+    }
   }
 
   // A NetLog without bytes has no replies: it serves only beside a source that has them.

@@ -44,6 +44,7 @@ const Wording = (() => {
     cookie: '18.15', token: '18.17', page: '18.17', auto: '18.17' };
 
   function faultRule({ out, clause, what }) {
+    if (out === 'not-twins') return ['15.3', `the clause ${clause}`];
     return out === 'faulty' ? [CLAUSE_RULES[clause] ?? '18.3', `the clause ${clause}`]
       : [DIFFERENCE_RULES[what] ?? '18.16', `where a transcript differs: ${what}`];
   }
@@ -75,7 +76,7 @@ const Wording = (() => {
 
   // What two worlds have in common, where they are compared.
   function pairRules(pair) {
-    const rules = [];
+    const rules = pair.fault ? [faultRule(pair.fault)] : [];
     if (pair.link) rules.push(['15.8', 'sign-in requests']);
     if (pair.ends) rules.push(['15.6', 'quiet scripts'], ['15.7', 'the quiet length']);
     rules.push(pair.kept === undefined ? ['15.2', 'kept events'] : ['15.4', 'what is free']);
@@ -129,9 +130,9 @@ const Wording = (() => {
 
   function haveText(event) {
     if (event.what === 'login') return `${event.origin} is ${event.status}`;
-    if (event.what === 'kept') return `permission of account ${event.account} for ${event.page} at ${event.provider}`;
-    if (event.what === 'silent') return `silent access is prevented for ${event.origin}`;
-    return `a cookie of ${event.url}`;
+    if (event.what === 'kept') return `account ${event.account} has a permission for ${event.page} at ${event.provider}`;
+    if (event.what === 'silent') return `${event.origin} has silent access prevented`;
+    return `${event.url} has a cookie`;
   }
 
   function chosenText({ account, provider }, { name }) {
@@ -302,6 +303,7 @@ const Wording = (() => {
 
   function faultText({ fault }) {
     if (!fault) return '';
+    if (fault.out === 'not-twins') return `the scripts are no twins, by the clause ${fault.clause}, rule 15.3`;
     if (fault.out === 'faulty') return `breaks the clause ${fault.clause} of the audit, rule ${faultRule(fault)[0]}`;
     return `differs from the program's own: ${fault.what}, rule ${faultRule(fault)[0]}`;
   }
@@ -323,8 +325,8 @@ const Wording = (() => {
   function pairSentence(pair) {
     const [one, two] = pair.sides.map(side => side ? sentenceOf(side) : 'nothing');
     const kept = pair.kept === undefined ? '' : `Kept event ${pair.kept}`;
-    const parts = [pair.ends ? `here both worlds are quiet no more` : '', `first world: ${one}`, `second world: ${two}`, LINKS[pair.link],
-      pair.isSame ? 'the same in both' : ''];
+    const parts = [faultText(pair), pair.ends ? `here both worlds are quiet no more` : '', `first world: ${one}`,
+      `second world: ${two}`, LINKS[pair.link], pair.isSame ? 'the same in both' : ''];
     return [kept, parts.filter(Boolean).join('; ')].filter(Boolean).join(', ');
   }
 

@@ -113,6 +113,8 @@ const Worlds = (() => {
   function of(worlds, verdict) {
     const builder = new Builder(worlds);
     builder.build();
+    const apart = verdict?.out === 'not-twins' && builder.pairs.find(({ kept }) => kept === verdict.event);
+    if (apart) Object.assign(apart, { fault: verdict, isFaint: false });
     const named = worlds.flatMap(({ problems }, at) => problems.map(problem => ({ ...problem,
       source: `${['first', 'second'][at]} world` + (problem.source ? ', ' + problem.source : '') })));
     return { rows: builder.pairs, worlds, verdict, titles: worlds.map((world, at) => titleOf(['First world', 'Second world'][at], world)),

@@ -108,8 +108,8 @@ class Reader:
     def item(self, start, place, home, is_public, is_test):
         scope, module, owner, trait = home
         word = self.text_at(place)
-        while word in ("unsafe", "default") or word == "const" and self.text_at(place + 1) == "fn":
-            place += 1
+        while word in ("unsafe", "default", "extern") or word == "const" and self.text_at(place + 1) == "fn":
+            place += 2 if word == "extern" else 1
             word = self.text_at(place)
         name = self.text_at(place + 1)
         if word == "fn":

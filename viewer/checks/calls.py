@@ -36,7 +36,7 @@ def stripes(tally, page):
         most = max(most, len(pending))
         pending -= results.get(number, set())
     tally.same("60 calls: as many columns as calls are pending at once", len(columns), most)
-    knots = page.get("document.querySelectorAll('#chart .knot').length")
+    knots = page.get("document.querySelectorAll('#chart .row .knot').length")
     tally.same("60 calls: knots", knots, page.get("document.querySelectorAll('#chart .row').length - [...document.querySelectorAll("
                                                  "'#chart .row')].filter(row => !row.querySelectorAll(':scope > .faint')[1]).length"))
 
@@ -60,6 +60,33 @@ def chosen(tally, page):
     tally.same("key c: the next row is of the call", page.get(NUMBER), call)
 
 
+# On the chosen call's stripe, which is thicker, a ring stands for each of its rows: over the stripe, wider, and of another color inside.
+def knots(tally, page):
+    for height, given in ((34000, FILES), (6000, SEVERAL_CALLS)):
+        page.browser.size(1400, height)
+        page.show(*given)
+        choose(page, "#chart .row.first")
+        found = page.get(RINGS)
+        tally.true("%s: a ring for each row of the call: %r" % (given[0], found), found["rings"] == found["rows"] and found["rows"] > 5)
+        tally.same("%s: at the heights of their knots" % given[0], found["heights"], found["knots"])
+        tally.same("%s: rings that the stripe hides" % given[0], found["hidden"], 0)
+        tally.same("%s: none in the exported picture" % given[0], 'class="knot own' in page.export(), False)
+
+
+SEVERAL_CALLS = "viewer/tests/several-calls.jsonl", "viewer/tests/several-calls.out.jsonl"
+RINGS = """(() => {
+  const rows = [...document.querySelectorAll('#chart .row:not(.dim)')].filter(row => row.querySelector('.knot'));
+  const rings = [...document.querySelectorAll('#chart .knot.own')];
+  const stripe = document.querySelector('#chart .stripe.own');
+  const middle = item => (box => Math.round(box.top + box.height / 2))(item.getBoundingClientRect());
+  const isHidden = ring => getComputedStyle(ring).fill === getComputedStyle(stripe).stroke
+    || 2 * ring.r.baseVal.value <= parseFloat(getComputedStyle(stripe).strokeWidth)
+    || !(stripe.compareDocumentPosition(ring) & Node.DOCUMENT_POSITION_FOLLOWING);
+  return { rows: rows.length, rings: rings.length, heights: rings.map(middle), knots: rows.map(row => middle(row.querySelector('.knot'))),
+    hidden: rings.filter(isHidden).length };
+})()"""
+
+
 # Each request of the chosen call is tied to its reply, over the provider's lane; the chosen pair stands out.
 def ties(tally, page):
     shown(page)
@@ -75,6 +102,9 @@ def ties(tally, page):
       return [bar.top - row.top, bar.bottom - reply.getBoundingClientRect().bottom, bar.left + bar.width / 2 - row.right];
     })()""")
     tally.true("it goes from the request to its reply: %r" % ends, all(abs(part) < 8 for part in ends))
+    tally.true("it stands behind the words of the rows", page.get(
+        "(tie => [...document.querySelectorAll('#chart .row')].every(row => tie.compareDocumentPosition(row) & "
+        "Node.DOCUMENT_POSITION_FOLLOWING))(document.querySelector('#chart .tie.own'))"))
 
 
 # Where there are more origins than room for lanes, those in view have lanes of their own, wherever the view is.

@@ -3,6 +3,7 @@ and for a machine that is free: where other work takes processors, a time counts
 import json
 import time
 
+from .calls import IN_VIEW
 from .page import line
 
 RECORDS = 100000
@@ -169,14 +170,31 @@ def soon(tally, page):
     tally.true("the whole picture comes after %d ms" % counted, counted <= WHOLE_PICTURE)
 
 
-# Where each call has a page of its own, those in view have lanes. The first rows load pages, so the lanes of providers have no name yet.
+LANES = "[...document.querySelectorAll('#chart .lanes g > title')].map(title => title.textContent)"
+
+
+# Where each call has a page of its own, those in view have lanes. The first rows load pages alone, so no provider has a lane there yet;
+# in the middle calls run, and then each of their requests and replies ends at the lane that it names.
 def many(tally, page):
     script, transcript, _ = made(page, 15000)
     page.browser.size(1400, 900)
     page.show(script, transcript, mark="whole")
-    lanes = page.get("[...document.querySelectorAll('#chart .lanes g > title')].map(title => title.textContent)")
-    tally.same("15,000 pages: lanes", [lane for lane in lanes if "shop" not in lane],
-               ["user", "further pages", "browser", "", ""])
+    tally.same("15,000 pages: lanes at the first rows", further(page.get(LANES)), ["user", "further pages", "browser", "", ""])
+    tally.same("15,000 pages: requests and replies at the first rows", page.get(IN_VIEW)["count"], 0)
+    page.get("(box => { box.scrollTop = box.scrollHeight / 2; })(document.querySelector('#chart'))")
+    page.get("new Promise(done => requestAnimationFrame(() => setTimeout(done, 50)))")
+    middle = further(page.get(LANES))
+    tally.same("15,000 pages: lanes in the middle", middle[:3], ["user", "further pages", "browser"])
+    tally.same("15,000 pages: providers in the middle, whichever came first", sorted(middle[3:]),
+               ["https://accounts.idp.example", "https://idp.example"])
+    found = page.get(IN_VIEW)
+    tally.true("15,000 pages: %d requests and replies in the middle, of which these do not end at their lane: %r"
+               % (found["count"], found["wrong"]), found["count"] > 8 and not found["wrong"])
     page.set("#filter-page", "shop77.example")
-    lanes = page.get("[...document.querySelectorAll('#chart .lanes g > title')].map(title => title.textContent)")
+    lanes = page.get(LANES)
     tally.true("one page has its lane", "https://shop77.example" in lanes and "further pages" not in lanes)
+
+
+# Lanes without those of the single pages.
+def further(lanes):
+    return [lane for lane in lanes if "shop" not in lane]

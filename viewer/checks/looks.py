@@ -5,7 +5,9 @@ import re
 import tempfile
 
 from .page import sample
+from .worlds import TWINS
 
+SEVERAL = "viewer/tests/several.jsonl", "viewer/tests/several.out.jsonl"
 INTERLEAVED = "viewer/tests/interleaved.jsonl", "viewer/tests/interleaved.out.jsonl"
 
 # How far each label is from its arrow, and whether it stands within the picture. One that is long may begin before its arrow.
@@ -36,9 +38,38 @@ def labels(tally, page):
     tally.same("what is cut stands whole below it", whole, sentence)
 
 
+# Of rows of one kind what differs stands before what repeats, where a narrow window cuts them too.
+def words(tally, page):
+    for width in (1400, 400):
+        page.browser.size(width, 34000)
+        page.show(*INTERLEAVED)
+        found = page.get("""[...document.querySelectorAll('#chart .row .label')].map(label =>
+          [...label.querySelectorAll('tspan')].map(part => part.textContent))""")
+        for title, least in (("get", 6), ("before", 6), ("assertion", 6), ("choose", 3)):
+            starts = {parts[1][:30] for parts in found if len(parts) > 1 and parts[0] == title}
+            tally.true("%d pixels: how labels of %s begin: %r" % (width, title, sorted(starts)), len(starts) >= least)
+
+
+# The name of each lane stands within its box.
+def lane_names(tally, page):
+    for width in (1000, 1400, 1900):
+        for given in (sample("sign-up"), sample("login-window"), sample("not-twins"), SEVERAL):
+            page.browser.size(width, 900)
+            page.show(*given)
+            beyond = page.get(BEYOND)
+            tally.same("%s, %d pixels: names beyond their boxes" % (given[0], width), beyond, [])
+
+
+BEYOND = """[...document.querySelectorAll('#chart .lane')].filter(lane => lane.querySelector('.head')).flatMap(lane => {
+  const box = lane.querySelector('.head').getBoundingClientRect();
+  const isBeyond = ({ left, right }) => left < box.left + 1 || right > box.right - 1;
+  return [...lane.querySelectorAll('text')].filter(text => isBeyond(text.getBoundingClientRect())).map(text => text.textContent);
+})"""
+
+
 # Every row stands on paper, once, each page with the names of the lanes; nothing of the screen does.
 def printed(tally, page):
-    for given in (sample("sign-up"), INTERLEAVED):
+    for given in (sample("sign-up"), INTERLEAVED, TWINS):
         page.browser.size(1400, 900)
         page.show(*given)
         page.set("#filter-call", "")
@@ -85,6 +116,9 @@ def forced(tally, page):
             style('#chart .first .mark', 'fill'), getComputedStyle(document.body).backgroundColor];
         })()""")
         ground = found.pop()
+        pill = page.get("(({ color, backgroundColor, forcedColorAdjust }) => [color, backgroundColor, forcedColorAdjust])("
+                        "getComputedStyle(document.querySelector('.pill.both')))")
+        tally.true("forced colors, %s: the legend's words: %r" % (mode, pill), pill[0] != pill[1] and pill[2] == "none")
         tally.true("forced colors, %s: nothing has the color of the ground: %r on %s" % (mode, found, ground), ground not in found)
     page.browser.call("Emulation.setEmulatedMedia", features=[{"name": "forced-colors", "value": "none"}])
 

@@ -17,14 +17,14 @@ def read(path):
         return file.read()
 
 
-# The examples of scripts with transcripts: what the forms `check`, `twin`, `audit` and `compare` write is none.
+# The examples of scripts with transcripts: what the forms `check`, `twin`, `audit`, `compare`, `save` and `slice` write is none.
 def names():
     found = (os.path.basename(path)[:-len(".out.jsonl")] for path in glob.glob("examples/*.out.jsonl"))
     return sorted(name for name in found if not is_aside("examples/%s.words" % name))
 
 
 def is_aside(words):
-    return os.path.exists(words) and read(words).split() in (["check"], ["audit"], ["compare"], ["twin"], ["slice", "shop.example"])
+    return os.path.exists(words) and read(words).split() in (["check"], ["audit"], ["compare"], ["twin"], ["save"], ["slice", "shop.example"])
 
 
 # The paths of an example's script and transcript.

@@ -152,6 +152,20 @@ def labels(tally, page):
     tally.true("values, where they are asked for", "account_id=u2&" in plain["transcript"])
 
 
+# What a person wrote in docs/browsers.md stands apart from what was measured: in the first part no table but those of the program, with the
+# version and the names of the recordings; in the second none of them.
+def apart(tally, page):
+    text = read("docs/browsers.md")
+    tally.same("docs/browsers.md: its parts", re.findall(r"^## (.+)$", text, re.M), ["Measured", "Written by a person"])
+    first, _, second = text.partition("\n## Written by a person\n")
+    before, _, rest = first.partition("<!-- made by viewer/differ: begin -->\n")
+    made, _, behind = rest.partition("<!-- made by viewer/differ: end -->\n")
+    tally.same("docs/browsers.md: tables beside those that were made", ("\n|" in before + behind, "made by viewer/differ" in second),
+               (False, False))
+    versions = {json.loads(read(paths[0]))["constants"]["clientInfo"]["version"] for _, paths in stored()}
+    names = " ".join(made.split("\n\n")[0].split())
+    tally.same("docs/browsers.md: what was measured", names, "Chromium %s, %d recordings: %s." % (
+        " and ".join(sorted(versions)), len(stored()), ", ".join(name for name, _ in stored())))
 
 
 # The tables of docs/browsers.md that a program made are those that it makes now.

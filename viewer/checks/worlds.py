@@ -1,7 +1,8 @@
 """Two worlds side by side, and what the program says of transcripts of others."""
 import json
+import os
 
-from .page import read, sample
+from .page import read, sample, wanted
 
 TWINS = (*sample("sign-up"), "viewer/tests/other-world.jsonl", "viewer/tests/other-world.out.jsonl")
 VERDICT = "examples/twins.out.jsonl"
@@ -17,6 +18,8 @@ def twins(tally, page):
     words = page.text("#chart .ends .title:not(title)")
     tally.true("twins: the quiet length is said", "Quiet up to kept event %d." % said["quiet"] in words)
     tally.same("twins: one line", page.count("#chart .quiet"), 1)
+    tally.true("twins: no stripe crosses its words", page.get(
+        "[...document.querySelectorAll('#chart .stripe')].every(stripe => stripe.getAttribute('d').split('M').length === 3)"))
     after = page.get("(pairs => pairs.slice(pairs.findIndex(pair => pair.classList.contains('ends'))).every(pair => "
                      "[...pair.querySelectorAll('.side')].every(side => side.classList.contains('dim'))))"
                      "([...document.querySelectorAll('#chart .pair')])")
@@ -51,6 +54,74 @@ def given(tally, page):
     verdict = json.dumps({"compared": 4, "out": "twins", "quiet": 6})
     page.show_texts(one=read(TWINS[0]), first=read(TWINS[1]), two=read(TWINS[2]), second=read(TWINS[3]), said=verdict)
     tally.true("another quiet length is named", any("6 kept events are quiet" in text for text in page.problems()))
+
+
+# Of scripts that are no twins the kept event is marked at which the clause fails.
+def no_twins(tally, page):
+    page.show(*sample("not-twins"))
+    said = json.loads(read(sample("not-twins")[1]))
+    tally.true("no twins: said", "no twins, by the clause %s at kept event %d" % (said["clause"], said["event"]) in page.text("#verdict"))
+    tally.same("no twins: marked", page.get("[...document.querySelectorAll('#chart .fault-text')].map(text => text.textContent)"),
+               ["no twins: " + said["clause"]])
+    tally.true("no twins: the event", page.get("document.querySelector('#chart .pair.fault').getAttribute('aria-label')").startswith(
+        "Kept event %d, the scripts are no twins, by the clause %s, rule 15.3; " % (said["event"], said["clause"])))
+    tally.same("no twins: chosen, and not faint", (page.count("#chart .pair.fault.chosen"), page.count("#chart .pair.fault .dim")), (1, 0))
+    tally.true("no twins: the rule", "rule 15.3" in page.text("#detail"))
+
+
+# Gives a further file to the page that stands.
+def further(page, path):
+    page.get("performance.clearMarks()")
+    page.browser.choose_files("#files", [path if path.startswith("/") else os.path.abspath(path)])
+    page.browser.wait("performance.getEntriesByName('drawn').length > 0")
+
+
+# The choice of two scripts as it stands on the page, and what it turns to.
+def turn(page):
+    page.get("performance.clearMarks()")
+    page.browser.click("#turn")
+    page.browser.wait("performance.getEntriesByName('drawn').length > 0")
+
+
+def choice(page):
+    return page.get("document.querySelector('#choice').hidden ? '' : document.querySelector('#turn').textContent")
+
+
+# A second script goes beside a first without a transcript, and can be drawn alone; where the first has its transcript, the second is drawn
+# in its place, and can be put beside it. Over an example it begins anew.
+def one_after_other(tally, page):
+    first, first_out, second, second_out = TWINS
+    alone, beside = "Draw the second alone", "Draw both side by side, as two worlds"
+    page.show(first)
+    tally.same("one script: no choice", choice(page), "")
+    further(page, second)
+    tally.same("a second script: two worlds", (page.text("#summary")[:11], page.count("#chart .link")), ("Two worlds.", 0))
+    tally.same("a second script: the choice", choice(page), alone)
+    tally.true("a second script: no transcripts, and said", sum("There is no transcript" in text for text in page.problems()) == 2)
+    further(page, second_out)
+    further(page, first_out)
+    tally.same("then both transcripts: equal requests", page.count("#chart .pair.equal"), 3)
+    turn(page)
+    tally.same("the second alone", (page.drawn(), choice(page)), (wanted(second, second_out), beside))
+    turn(page)
+    tally.same("both again", (page.count("#chart .pair.equal"), choice(page)), (3, alone))
+    page.show(first, first_out)
+    further(page, second)
+    tally.same("over a whole session: the second alone", (page.count("#chart .pair"), choice(page)), (0, beside))
+    further(page, second_out)
+    tally.same("with its transcript", (page.drawn(), choice(page)), (wanted(second, second_out), beside))
+    turn(page)
+    tally.same("both sessions side by side", (page.count("#chart .pair.equal"), choice(page)), (3, alone))
+    further(page, VERDICT)
+    tally.true("with what twin says of them", page.text("#verdict").startswith("twin: the two scripts are twins"))
+    page.show_texts(both=read(first) + read(first_out))
+    further(page, second)
+    tally.same("over a text with script and transcript", choice(page), beside)
+    turn(page)
+    tally.same("both side by side", page.count("#chart .pair") > 9 and page.count("#chart .pair .request"), 5)
+    page.open("several-calls")
+    further(page, second)
+    tally.same("over an example: a session of its own", (page.count("#chart .pair"), choice(page)), (0, ""))
 
 
 # A record that breaks a rule, or differs, is marked with its clause, and its call's rows have full colors.

@@ -6,3 +6,8 @@ pub mod texts
 pub mod requests
 pub mod calls
 pub mod meets
+pub mod json
+pub mod urls
+pub mod plain
+pub mod walk
+pub mod served

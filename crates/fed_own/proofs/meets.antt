@@ -3,3 +3,5 @@ pub mod Recorded
 pub mod Carried
 pub mod Meets
 pub mod Whole
+pub mod Short
+pub mod Written

@@ -6,7 +6,7 @@ ghost use Rattle.fed_own.specs.Laws.{OwnLinesAreRead, OwnRecordsCompare, OwnReco
 ghost use Rattle.fed_own.specs.Once.{TellsAll, TellsOnce};
 ghost use Rattle.fed_own.specs.Request.{OwnRequestsAreRead, OwnRequestsCarryCookies, OwnRequestsHaveHeads, OwnRequestsNamePages};
 ghost use Rattle.fed_own.specs.Tokens.{OwnTokensAreGiven};
-ghost use Rattle.fed_own.specs.Whole.{OwnTranscriptPasses};
+ghost use Rattle.fed_own.specs.Whole.{OwnTextIsWritten, OwnTranscriptPasses, ShortTranscriptPasses};
 
 /// No two requests or tokens of a row are about the same call, provider and subject, so what is compared of a row is all that it tells.
 pub fn rows_tell_once()
@@ -76,9 +76,13 @@ pub fn own_results_are_of_calls()
 {}
 
 /// An audit and a comparison of a readable script and the text that this program writes of it find nothing, where the numbers of its
-/// records have 32 bits, their texts are UTF-8 and the bytes of requests have 8 bits, and where each request is readable: its parts can
-/// stand in a head, its host and its target are read as a URL of the host and the path that it goes to, and the texts of its form are
-/// UTF-8.
+/// lines have 32 bits; so of each readable script of fewer than 2^32 bytes, and thus of each that a run takes.
 pub fn own_transcript_passes()
-    ensures { OwnTranscriptPasses }
+    ensures numbered { OwnTranscriptPasses }
+    ensures short { ShortTranscriptPasses }
+{}
+
+/// The own text of a readable script is the one that a run writes of its bytes.
+pub fn own_text_is_written()
+    ensures { OwnTextIsWritten }
 {}

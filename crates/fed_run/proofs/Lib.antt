@@ -6,3 +6,5 @@ pub mod transcripts
 pub mod forms
 pub mod makes
 pub mod halves
+pub mod saves
+pub mod lives

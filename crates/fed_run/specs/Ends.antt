@@ -14,8 +14,16 @@ use Rattle.fed_audit.specs.declared.difference.Comparison.{Comparison}
 use Rattle.fed_audit.specs.declared.difference.Comparison.TheVariants as comes
 use Rattle.fed_audit.specs.declared.fault.AuditFault.{AuditFault}
 use Rattle.fed_print.specs.Lines.{line_of}
+use Rattle.fed_profile.specs.Continues.{Continues}
+use Rattle.fed_profile.specs.Save.{IfLines, Saves}
+use Rattle.fed_profile.specs.declared.state.Saved.{Saved}
+use Rattle.fed_profile.specs.declared.state.Saved.TheVariants as saves
+use Rattle.fed_session.specs.Session.{Shows}
+use Rattle.fed_session.specs.declared.view.View.{View}
 use Rattle.fed_slice.specs.Closure.{IsClosure}
 use Rattle.fed_slice.specs.Lines.{slice_text}
+use Rattle.fed_trace.specs.OfScript.{trace_of}
+use Rattle.fed_trace.specs.Trace.{Trace}
 use Rattle.fed_twin.specs.declared.fault.TwinFault.{TwinFault}
 use Rattle.fed_twin.specs.Compare.{IsQuietLength}
 use Rattle.fed_twin.specs.Fault.{TwinFaultOf}
@@ -24,9 +32,9 @@ use Rattle.fed_twin.specs.Twin.{Twin}
 use Rattle.fed_run.specs.declared.form.Form.{Form}
 use Rattle.fed_run.specs.declared.answer.Whole.{Whole}
 use Rattle.fed_run.specs.declared.answer.Whole.TheVariants as wholes
-use Rattle.fed_run.specs.declared.form.Form.TheVariants.{Run, Check, Twin as TwinForm, Audit, Compare, Make, Slice}
+use Rattle.fed_run.specs.declared.form.Form.TheVariants.{Run, Check, Twin as TwinForm, Audit, Compare, Make, Save, Slice}
 use Rattle.fed_run.specs.declared.status.Status.{Status}
-use Rattle.fed_run.specs.declared.status.Status.TheVariants.{Done, BadScript, TooLong, NotTwins, Faulty, Differs}
+use Rattle.fed_run.specs.declared.status.Status.TheVariants.{Done, BadScript, TooLong, NotTwins, Faulty, NotSaved, Differs}
 use Rattle.fed_run.specs.Alone.{alone_of, alone_bad_within}
 use Rattle.fed_run.specs.Checks.{check_status, check_written, ChecksOnly, ChecksAfter, ChecksShort}
 use Rattle.fed_run.specs.Make.{summary_text}
@@ -34,7 +42,7 @@ use Rattle.fed_run.specs.Recorded.{Recorded, recorded_of, recorded_bad_within}
 use Rattle.fed_run.specs.Run.{run_status, run_written}
 use Rattle.fed_run.specs.Streams.{ReadsOnly, StopsAfter, FallsShort}
 use Rattle.fed_run.specs.Text.{pair_members, twins_members, not_twins_members}
-use Rattle.fed_run.specs.Text.{audited_members, faulty_members, alike_members, differs_members}
+use Rattle.fed_run.specs.Text.{audited_members, faulty_members, alike_members, differs_members, pending_members, lost_members}
 
 -- ---- run
 
@@ -122,6 +130,27 @@ abbrev pub TellsSlice : List ℕ → List ℕ → Result Script PairStop → Sta
 TellsSlice party bytes (Ok script) status text = TellsPart party bytes script status text
 TellsSlice party bytes (Err stop) status text = TellsStop stop status text
 
+-- ---- save
+
+-- the answer for what a session is saved as, or for why it is not
+abbrev pub TellsSaved : Saved → Status → List ℕ → Type 0
+TellsSaved (saves.Lines lines) status text = (status ≡ Done) × (text ≡ lines)
+TellsSaved (saves.Pending call) status text = (status ≡ NotSaved) × (text ≡ line_of (pending_members call))
+TellsSaved (saves.Item place) status text = (status ≡ NotSaved) × (text ≡ line_of (lost_members place))
+
+-- the answer for what happened: what then stands is saved, and goes on behind the lines as behind what happened
+pub record TellsState (T : Trace) (status : Status) (text : List ℕ) : Type 0 where
+  pub view : View
+  pub is_view : Shows view T
+  pub saved : Saved
+  pub is_saved : Saves view T.header.rules saved
+  pub goes_on : IfLines (Continues T) saved
+  pub tells : TellsSaved saved status text
+
+abbrev pub TellsSave : Result Script PairStop → Status → List ℕ → Type 0
+TellsSave (Ok script) status text = TellsState (trace_of script) status text
+TellsSave (Err stop) status text = TellsStop stop status text
+
 -- ---- the forms that read their source whole
 
 -- the form of the command line
@@ -129,6 +158,7 @@ abbrev pub whole_form : Whole → Form
 whole_form wholes.Twin = TwinForm
 whole_form wholes.Audit = Audit
 whole_form wholes.Compare = Compare
+whole_form wholes.Save = Save
 whole_form (wholes.Slice party) = Slice party
 
 -- what is told of all bytes
@@ -136,6 +166,7 @@ abbrev pub TellsAll : Whole → List ℕ → Status → List ℕ → Type 0
 TellsAll wholes.Twin bytes status text = TellsPair (pair_of bytes) status text
 TellsAll wholes.Audit bytes status text = TellsAudit (recorded_of bytes) status text
 TellsAll wholes.Compare bytes status text = TellsComparison (recorded_of bytes) status text
+TellsAll wholes.Save bytes status text = TellsSave (alone_of bytes) status text
 TellsAll (wholes.Slice party) bytes status text = TellsSlice party bytes (alone_of bytes) status text
 
 -- the first bad line that ends within the limit
@@ -143,6 +174,7 @@ abbrev pub bad_line_within : Whole → ℕ → List ℕ → Option PairStop
 bad_line_within wholes.Twin limit bytes = bad_within limit bytes
 bad_line_within wholes.Audit limit bytes = recorded_bad_within limit bytes
 bad_line_within wholes.Compare limit bytes = recorded_bad_within limit bytes
+bad_line_within wholes.Save limit bytes = alone_bad_within limit bytes
 bad_line_within (wholes.Slice party) limit bytes = alone_bad_within limit bytes
 
 -- the bytes are more than the limit: a bad line that ends within it is named
@@ -172,6 +204,7 @@ Ends limit Check bytes status text = EndsCheck limit bytes status text
 Ends limit TwinForm bytes status text = EndsWhole wholes.Twin limit bytes status text
 Ends limit Audit bytes status text = EndsWhole wholes.Audit limit bytes status text
 Ends limit Compare bytes status text = EndsWhole wholes.Compare limit bytes status text
+Ends limit Save bytes status text = EndsWhole wholes.Save limit bytes status text
 Ends limit (Slice party) bytes status text = EndsWhole (wholes.Slice party) limit bytes status text
 Ends limit (Make calls) bytes status text = EndsMake calls status text
 
@@ -185,6 +218,7 @@ abbrev pub ReadsWhole : Option Form → Type 0
 ReadsWhole (Some TwinForm) = ⊤
 ReadsWhole (Some Audit) = ⊤
 ReadsWhole (Some Compare) = ⊤
+ReadsWhole (Some Save) = ⊤
 ReadsWhole (Some (Slice party)) = ⊤
 ReadsWhole form = ⊥
 
@@ -200,6 +234,7 @@ HasEnded BadScript = ⊤
 HasEnded TooLong = ⊤
 HasEnded NotTwins = ⊤
 HasEnded Faulty = ⊤
+HasEnded NotSaved = ⊤
 HasEnded Differs = ⊤
 HasEnded _ = ⊥
 

@@ -10,3 +10,4 @@ pub mod Ends
 pub mod Alike
 pub mod Make
 pub mod Memory
+pub mod Fed

@@ -93,6 +93,22 @@ differs_members d = present
     ∷ (codes "what", Some (string (audit.aspect_text d.aspect)))
     ∷ [])
 
+-- the object of a session that is not saved since this call is pending
+abbrev pub pending_members : ℕ → Members
+pending_members call = present
+    ((codes "call", Some (count call))
+    ∷ (codes "out", Some (string (codes "not-saved")))
+    ∷ (codes "why", Some (string (codes "pending")))
+    ∷ [])
+
+-- the object of a session that is not saved since the line at this place after the header does not restore its item
+abbrev pub lost_members : ℕ → Members
+lost_members place = present
+    ((codes "item", Some (count place))
+    ∷ (codes "out", Some (string (codes "not-saved")))
+    ∷ (codes "why", Some (string (codes "item")))
+    ∷ [])
+
 -- the object of the summary of so many calls and events
 abbrev pub summary_members : ℕ → ℕ → Tally → Members
 summary_members calls events tally = present

@@ -3,10 +3,10 @@ use Rattle.std.specs.Prelude.{ℕ, ◌≤◌, nat_lt, Bool, ◌&&◌, List, [], 
 use Rattle.std.specs.Prelude.{if◌then◌else◌}
 use Rattle.std.specs.Str.Parse.{digits_value}
 use Rattle.fed_run.specs.declared.form.Form.{Form}
-use Rattle.fed_run.specs.declared.form.Form.TheVariants.{Run, Check, Twin, Audit, Compare, Make, Slice}
+use Rattle.fed_run.specs.declared.form.Form.TheVariants.{Run, Check, Twin, Audit, Compare, Make, Save, Slice}
 use Rattle.fed_run.specs.declared.status.Status.{Status}
 use Rattle.fed_run.specs.declared.status.Status.TheVariants.{Done, Usage, BadScript, ReadFault, WriteFault, NoRoom, TooLong, NotTwins}
-use Rattle.fed_run.specs.declared.status.Status.TheVariants.{Faulty, Differs}
+use Rattle.fed_run.specs.declared.status.Status.TheVariants.{Faulty, NotSaved, Differs}
 
 -- the form of one word
 abbrev pub form_named : List ℕ → Option Form
@@ -15,7 +15,8 @@ form_named word =
     else (if bytes_eq word (codes "check") then Some Check
     else (if bytes_eq word (codes "twin") then Some Twin
     else (if bytes_eq word (codes "audit") then Some Audit
-    else (if bytes_eq word (codes "compare") then Some Compare else None))))
+    else (if bytes_eq word (codes "compare") then Some Compare
+    else (if bytes_eq word (codes "save") then Some Save else None)))))
 
 -- so many calls may be made
 abbrev pub may_make : ℕ → Bool
@@ -66,4 +67,5 @@ exit_code NoRoom = 5
 exit_code TooLong = 6
 exit_code NotTwins = 7
 exit_code Faulty = 8
+exit_code NotSaved = 9
 exit_code Differs = 10

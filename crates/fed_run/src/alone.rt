@@ -3,8 +3,11 @@ ghost use Rattle.std.specs.Prelude.{◌≡◌, ◌==◌, ℕ, ◌^◌, ◌<◌, 
 ghost use Rattle.fed_io.specs.Fault.{Answers};
 ghost use Rattle.fed_run.specs.Alone as spec;
 ghost use Rattle.fed_run.specs.Alone.{alone_of, alone_bad_within};
+ghost use Rattle.fed_run.specs.Ends.{TellsCut};
 
-use fed_io::{Fault, NoRoom};
+use crate::ran::{Ran, stopped};
+use crate::status::Status;
+use fed_io::{Bytes, Fault, NoRoom};
 use fed_script::{BadLine, PairCause, PairStop, Script, read_script};
 use std::alloc::Global;
 
@@ -62,5 +65,20 @@ pub fn bad_line_alone(alloc: Global, bytes: &[u8]) -> Result<Option<PairStop>, N
     match fault {
         Fault::Step(stop) => Ok(if_among(lines, stop)),
         Fault::NoRoom => Err(NoRoom),
+    }
+}
+
+/// Answers where these are the first bytes of more: a bad line that ends within them is told, or else that they are too many.
+pub fn alone_front(alloc: Global, bytes: &[u8]) -> Result<Ran, NoRoom>
+    requires { length bytes.now < 2 ^ 31 }
+    ensures { IfOk result (λ ran. (more : List ℕ) → 0 < length more
+        → TellsCut (alone_bad_within (length bytes.now) (bytes.now ++ more)) ran.status ran.text) }
+{
+    match bad_line_alone(alloc, bytes)? {
+        Some(stop) => stopped(alloc, stop),
+        None => Ok(Ran {
+            text: Bytes::from_vec(Vec::new(alloc)),
+            status: Status::TooLong,
+        }),
     }
 }

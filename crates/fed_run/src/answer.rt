@@ -1,15 +1,17 @@
-//! The forms `twin`, `audit`, `compare` and `slice`: what is told of the bytes of a source, once it was read whole.
+//! The forms `twin`, `audit`, `compare`, `save` and `slice`: what is told of the bytes of a source, once it was read whole.
 ghost use Rattle.std.specs.Prelude.{◌≡◌, ◌≤◌, ◌<◌, ◌+◌, ◌++◌, ◌⊎◌, length, List, ℕ, Some, IfOk, IfSome};
 ghost use Rattle.std.specs.Io.KnownBytes.{Appends, Keeps, IsAtEnd};
 ghost use Rattle.fed_io.specs.Io.{Rose, AppendsLess};
 ghost use Rattle.fed_run.specs.Ends.{EndsAs, EndsWhole, TellsAll, TellsCut, Writes, WritesLess, IsWhole, bad_line_within, whole_form};
 ghost use Rattle.fed_run.specs.Run.{TakesAtMost, TakesExactly, NoneRose};
 
+use crate::alone::alone_front;
 use crate::audit::{audit_of, recorded_front};
 use crate::compare::comparison_of;
 use crate::ran::Ran;
 use crate::read::{LIMIT, ReadEnd, read_all};
-use crate::slice::{slice, slice_of_front};
+use crate::save::save_of;
+use crate::slice::slice;
 use crate::status::Status;
 use crate::twin::{twin, twin_of_front};
 use crate::word::Word;
@@ -22,6 +24,7 @@ pub enum Whole<'a> {
     Twin,
     Audit,
     Compare,
+    Save,
     Slice(Word<'a>),
 }
 
@@ -53,6 +56,7 @@ fn answer_all(alloc: Global, form: Whole<'_>, bytes: &[u8]) -> Result<Ran, NoRoo
         Whole::Twin => twin(alloc, bytes),
         Whole::Audit => audit_of(alloc, bytes),
         Whole::Compare => comparison_of(alloc, bytes),
+        Whole::Save => save_of(alloc, bytes),
         Whole::Slice(party) => slice(alloc, party.as_slice(), bytes),
     }
 }
@@ -66,7 +70,7 @@ fn answer_front(alloc: Global, form: Whole<'_>, bytes: &[u8]) -> Result<Ran, NoR
     match form {
         Whole::Twin => twin_of_front(alloc, bytes),
         Whole::Audit | Whole::Compare => recorded_front(alloc, bytes),
-        Whole::Slice(_) => slice_of_front(alloc, bytes),
+        Whole::Save | Whole::Slice(_) => alone_front(alloc, bytes),
     }
 }
 
@@ -104,9 +108,13 @@ pub fn tell<S: Source, K: Sink>(
     ensures differs { result ≡ Status.Differs → IsAtEnd (S.left source.new)
         × IfSome (S.left source.old)
         (λ bytes. Writes LIMIT (Some (whole_form form.entry)) bytes Status.Differs (K.taken sink.old) (K.taken sink.new)) }
+    ensures not_saved { result ≡ Status.NotSaved → IsAtEnd (S.left source.new)
+        × IfSome (S.left source.old)
+        (λ bytes. Writes LIMIT (Some (whole_form form.entry)) bytes Status.NotSaved (K.taken sink.old) (K.taken sink.new)) }
     ensures twin_alone { result ≡ Status.NotTwins → form.entry ≡ Whole.Twin }
     ensures audit_alone { result ≡ Status.Faulty → form.entry ≡ Whole.Audit }
     ensures compare_alone { result ≡ Status.Differs → form.entry ≡ Whole.Compare }
+    ensures save_alone { result ≡ Status.NotSaved → form.entry ≡ Whole.Save }
     ensures bad_script { result ≡ Status.BadScript → IfSome (S.left source.old)
         (λ bytes. (length bytes ≤ LIMIT → IsAtEnd (S.left source.new)) × Writes LIMIT (Some (whole_form form.entry)) bytes Status.BadScript
         (K.taken sink.old) (K.taken sink.new)) }

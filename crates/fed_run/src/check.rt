@@ -215,7 +215,7 @@ fn check_all<S: Source, K: Sink>(
 #[inline(never)]
 pub fn check<S: Source, K: Sink>(alloc: Global, source: &mut S, sink: &mut K) -> Status
     ensures ends { (result ≡ Status.Usage → ⊥) × (result ≡ Status.NotTwins → ⊥) × (result ≡ Status.Faulty → ⊥)
-        × (result ≡ Status.Differs → ⊥) }
+        × (result ≡ Status.NotSaved → ⊥) × (result ≡ Status.Differs → ⊥) }
     ensures done { result ≡ Status.Done → IsAtEnd (S.left source.new)
         × IfSome (S.left source.old) (λ bytes. Writes LIMIT (Some Check) bytes Status.Done (K.taken sink.old) (K.taken sink.new)) }
     ensures bad_script { result ≡ Status.BadScript → IsAtEnd (S.left source.new)

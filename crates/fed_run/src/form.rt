@@ -22,6 +22,8 @@ pub enum Form<'a> {
     Compare,
     /// The words `make N`: the summary of a script of `N` calls, from 1 to 20,000.
     Make(u32),
+    /// The word `save`: a script that brings back the state that a script leaves behind.
+    Save,
     /// The words `slice PARTY`: the part of a script that concerns a party, which is a word of at least one byte.
     Slice(Word<'a>),
 }
@@ -36,6 +38,7 @@ fn form_named<'a>(word: &str) -> Option<Form<'a>>
         "twin" => Some(Form::Twin),
         "audit" => Some(Form::Audit),
         "compare" => Some(Form::Compare),
+        "save" => Some(Form::Save),
         _ => None,
     }
 }

@@ -19,8 +19,8 @@ use fed_session::Session;
 use std::alloc::Global;
 use std::sync::ledger::Ledger;
 
-// Takes the lines that end in a piece, up to a bad one, and puts the records of each before the next is read.
-fn take_piece<K: Sink, L: Ledger>(
+/// Takes the lines that end in a piece, up to a bad one, and puts the records of each before the next is read.
+pub fn take_piece<K: Sink, L: Ledger>(
     alloc: Global,
     reader: &mut ScriptReader,
     session: &mut Option<Session>,

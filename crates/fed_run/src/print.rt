@@ -1,4 +1,4 @@
-//! The lines of the end, of a bad script, of a test of twins and of an audit.
+//! The lines of the end, of a bad script, of a test of twins, of an audit, and of a session that is not saved.
 ghost use Rattle.std.specs.Prelude.{◌≡◌, ◌++◌, OnOk, OnErr, option_map};
 ghost use Rattle.std.specs.Option.{option_copied};
 ghost use Rattle.fed_print.specs.Lines.{line_of};
@@ -161,5 +161,30 @@ pub fn print_alike(alloc: Global, requests: u64, text: &mut Vec<u8>) -> Result<(
     Object::new(alloc)
         .text("out", "alike")?
         .total("requests", requests)?
+        .append_line(text)
+}
+
+/// Appends the line for a session that is not saved since this call is pending. On want of memory the text is unchanged.
+pub fn print_pending(alloc: Global, call: u32, text: &mut Vec<u8>) -> Result<(), NoRoom>
+    ensures ok { OnOk result (text.new.items ≡ text.old.items ++ line_of (spec.pending_members call)) }
+    ensures err { OnErr result (text.new.items ≡ text.old.items) }
+{
+    Object::new(alloc)
+        .count("call", call)?
+        .text("out", "not-saved")?
+        .text("why", "pending")?
+        .append_line(text)
+}
+
+/// Appends the line for a session that is not saved since the line at this place after the header, whose place is 0, does not
+/// restore its item. On want of memory the text is unchanged.
+pub fn print_lost(alloc: Global, place: u32, text: &mut Vec<u8>) -> Result<(), NoRoom>
+    ensures ok { OnOk result (text.new.items ≡ text.old.items ++ line_of (spec.lost_members place)) }
+    ensures err { OnErr result (text.new.items ≡ text.old.items) }
+{
+    Object::new(alloc)
+        .count("item", place)?
+        .text("out", "not-saved")?
+        .text("why", "item")?
         .append_line(text)
 }

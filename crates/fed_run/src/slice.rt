@@ -1,12 +1,12 @@
 //! The slice of a script by a party.
-ghost use Rattle.std.specs.Prelude.{◌<◌, ◌^◌, ◌++◌, length, List, ℕ, IfOk};
-ghost use Rattle.fed_run.specs.Alone.{alone_of, alone_bad_within};
-ghost use Rattle.fed_run.specs.Ends.{TellsCut, TellsPart, TellsSlice};
+ghost use Rattle.std.specs.Prelude.{◌<◌, ◌^◌, length, IfOk};
+ghost use Rattle.fed_run.specs.Alone.{alone_of};
+ghost use Rattle.fed_run.specs.Ends.{TellsPart, TellsSlice};
 
-use crate::alone::{bad_line_alone, read_alone};
+use crate::alone::read_alone;
 use crate::ran::{Ran, stopped};
 use crate::status::Status;
-use fed_io::{Bytes, Fault, NoRoom};
+use fed_io::{Fault, NoRoom};
 use fed_script::Script;
 use fed_slice::{closure, slice_text};
 use std::alloc::Global;
@@ -33,20 +33,5 @@ pub fn slice(alloc: Global, party: &[u8], bytes: &[u8]) -> Result<Ran, NoRoom>
         Ok(script) => part(alloc, party, &script, bytes),
         Err(Fault::Step(stop)) => stopped(alloc, stop),
         Err(Fault::NoRoom) => Err(NoRoom),
-    }
-}
-
-/// Answers where these are the first bytes of more: a bad line that ends within them is told, or else that they are too many.
-pub fn slice_of_front(alloc: Global, bytes: &[u8]) -> Result<Ran, NoRoom>
-    requires { length bytes.now < 2 ^ 31 }
-    ensures { IfOk result (λ ran. (more : List ℕ) → 0 < length more
-        → TellsCut (alone_bad_within (length bytes.now) (bytes.now ++ more)) ran.status ran.text) }
-{
-    match bad_line_alone(alloc, bytes)? {
-        Some(stop) => stopped(alloc, stop),
-        None => Ok(Ran {
-            text: Bytes::from_vec(Vec::new(alloc)),
-            status: Status::TooLong,
-        }),
     }
 }

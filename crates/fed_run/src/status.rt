@@ -22,6 +22,8 @@ pub enum Status {
     NotTwins,
     /// A record of a transcript breaks a rule.
     Faulty,
+    /// A session is not saved.
+    NotSaved,
     /// A transcript leaves this program's own.
     Differs,
 }
@@ -43,6 +45,7 @@ impl Status {
             Status::TooLong => 6,
             Status::NotTwins => 7,
             Status::Faulty => 8,
+            Status::NotSaved => 9,
             Status::Differs => 10,
         }
     }

@@ -20,8 +20,8 @@ use fed_session::Session;
 use std::alloc::Global;
 use std::sync::ledger::Ledger;
 
-// Takes the last line, and puts the record of the end.
-fn take_end<K: Sink, L: Ledger>(
+/// Takes the last line, and puts the record of the end.
+pub fn take_end<K: Sink, L: Ledger>(
     alloc: Global,
     reader: &mut ScriptReader,
     session: &mut Option<Session>,
@@ -93,7 +93,7 @@ pub fn run<S: Source, K: Sink, L: Ledger>(
     steps: &mut Steps<L>,
 ) -> Status
     ensures ends { (result ≡ Status.Usage → ⊥) × (result ≡ Status.NotTwins → ⊥) × (result ≡ Status.Faulty → ⊥)
-        × (result ≡ Status.Differs → ⊥) }
+        × (result ≡ Status.NotSaved → ⊥) × (result ≡ Status.Differs → ⊥) }
     ensures done { result ≡ Status.Done → IsAtEnd (S.left source.new)
         × IfSome (S.left source.old) (λ bytes. Writes LIMIT (Some Run) bytes Status.Done (K.taken sink.old) (K.taken sink.new)) }
     ensures bad_script { result ≡ Status.BadScript

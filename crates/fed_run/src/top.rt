@@ -2,7 +2,7 @@
 ghost use Rattle.std.specs.Prelude.{◌≡◌, ◌≤◌, ◌+◌, ◌↔◌, ◌⊎◌, length, IsSome, Some, None, IfSome};
 ghost use Rattle.std.specs.Io.KnownBytes.{Appends, Keeps, IsAtEnd};
 ghost use Rattle.fed_io.specs.Io.{Rose};
-ghost use Rattle.fed_run.specs.declared.form.Form.TheVariants.{Audit, Check, Compare, Twin};
+ghost use Rattle.fed_run.specs.declared.form.Form.TheVariants.{Audit, Check, Compare, Save, Twin};
 ghost use Rattle.fed_run.specs.Ends.{EndsAs, Writes, Reads, ReadsWhole, IfMakes, ReadFaultLeaves, WriteFaultLeaves, NoRoomLeaves};
 ghost use Rattle.fed_run.specs.Make.{summary_text};
 ghost use Rattle.fed_run.specs.Run.{TakesAtMost, TakesExactly, NoneRose};
@@ -23,8 +23,8 @@ use std::sync::ledger::Ledger;
 /// 67,108,864 bytes of the source are read. With `run` the transcript of a script is written as it is read, and with `check` what is
 /// found in it; with `twin` the source is read whole, and then it is written whether two scripts are twins, and with `audit` so whether a
 /// transcript that another program wrote for a script keeps the rules, with `compare` where it first leaves this program's own, with
-/// `slice PARTY` the lines of the part of a script that concerns a party; with `make N` the source is not read, and the summary of a
-/// script of `N` calls is written.
+/// `save` the lines of a script that brings back the state that a script leaves behind, with `slice PARTY` those of the part of a script
+/// that concerns a party; with `make N` the source is not read, and the summary of a script of `N` calls is written.
 pub fn fedcm<S: Source, K: Sink, L: Ledger>(
     alloc: Global,
     words: &[Text],
@@ -38,7 +38,8 @@ pub fn fedcm<S: Source, K: Sink, L: Ledger>(
 
     // The sink took the whole text. Where the form reads a source, it was read to its end, and its bytes are within the limit
     // and a script, two scripts that are twins, or a script and a transcript of which each record keeps the rules, or which is
-    // this program's own. With `slice PARTY` the text is lines of the script, each byte for byte (`slice_text`).
+    // this program's own. With `slice PARTY` the text is lines of the script, each byte for byte (`slice_text`); with `save` it is
+    // what stands at the end of the script (`Saves`), behind which further lines do what they would have done there (`Continues`).
     ensures done { result ≡ Status.Done → (Reads (form words.now) → IsAtEnd (S.left source.new))
         × IfSome (S.left source.old) (λ bytes. Writes LIMIT (form words.now) bytes Status.Done (K.taken sink.old) (K.taken sink.new)) }
 
@@ -58,6 +59,10 @@ pub fn fedcm<S: Source, K: Sink, L: Ledger>(
     // The source was read to its end, and its transcript leaves this program's own.
     ensures differs { result ≡ Status.Differs → IsAtEnd (S.left source.new)
         × IfSome (S.left source.old) (λ bytes. Writes LIMIT (form words.now) bytes Status.Differs (K.taken sink.old) (K.taken sink.new)) }
+
+    // The source was read to its end, and a call is pending at the end of its script, or a saved line does not restore its item.
+    ensures not_saved { result ≡ Status.NotSaved → IsAtEnd (S.left source.new)
+        × IfSome (S.left source.old) (λ bytes. Writes LIMIT (form words.now) bytes Status.NotSaved (K.taken sink.old) (K.taken sink.new)) }
 
     // A line is bad, or is missing where a line divides the source, and the sink took the whole text; of a source within the
     // limit that is read whole all bytes were read.
@@ -95,10 +100,11 @@ pub fn fedcm<S: Source, K: Sink, L: Ledger>(
         → NoneRose (K.faults sink.old) (K.faults sink.new)
         → IfSome (S.left source.old) (λ bytes. EndsAs LIMIT (form words.now) bytes result ⊎ (result ≡ Status.NoRoom)) }
 
-    // No other form compares scripts, audits, or compares transcripts.
+    // No other form compares scripts, audits, compares transcripts, or saves.
     ensures twin_alone { result ≡ Status.NotTwins → form words.now ≡ Some Twin }
     ensures audit_alone { result ≡ Status.Faulty → form words.now ≡ Some Audit }
     ensures compare_alone { result ≡ Status.Differs → form words.now ≡ Some Compare }
+    ensures save_alone { result ≡ Status.NotSaved → form words.now ≡ Some Save }
 
     ensures takes { TakesAtMost (S.left source.old) (S.left source.new) (LIMIT + 1) }
     ensures source_faults { S.faults source.old ≤ S.faults source.new }
@@ -112,6 +118,7 @@ pub fn fedcm<S: Source, K: Sink, L: Ledger>(
         Some(Form::Twin) => tell(alloc, Whole::Twin, source, sink),
         Some(Form::Audit) => tell(alloc, Whole::Audit, source, sink),
         Some(Form::Compare) => tell(alloc, Whole::Compare, source, sink),
+        Some(Form::Save) => tell(alloc, Whole::Save, source, sink),
         Some(Form::Slice(party)) => tell(alloc, Whole::Slice(party), source, sink),
         Some(Form::Make(calls)) => tell_summary(alloc, calls, sink, steps),
     }

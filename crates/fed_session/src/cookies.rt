@@ -48,6 +48,13 @@ impl Drop for Cookies {
 }
 
 impl Cookies {
+    /// The rules. It takes no memory.
+    pub(crate) fn suffixes(&self) -> &Suffixes
+        ensures { result.now ≡ self.now.rules }
+    {
+        self.rules.suffixes()
+    }
+
     /// No cookies. It takes no memory.
     pub(crate) fn new(alloc: Global, rules: Suffixes) -> Cookies
         ensures { result ≡ record { rules = rules; list = []; entered = 0 } }

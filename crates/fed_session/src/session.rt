@@ -30,6 +30,7 @@ use fed_io::{Bytes, Items, NoRoom, Steps, Text};
 use fed_links::Links;
 use fed_origin::{GetOptions, Origin, WebUrl};
 use fed_script::{Event, Have, Header};
+use fed_suffix::Suffixes;
 use fed_trace::Out;
 use std::alloc::Global;
 use std::marker::Model;
@@ -400,6 +401,13 @@ impl Session {
         ensures { (T : Trace) → Stands self.now T → option_copied result ≡ account_awaited (facts_at T call) }
     {
         self.tabs.account(call)
+    }
+
+    /// The public suffix rules. It takes no memory.
+    pub fn rules(&self) -> &Suffixes
+        ensures { result.now ≡ self.now.rules }
+    {
+        self.sight.cookies.suffixes()
     }
 
     /// What stands now. A dead session answers want of memory.

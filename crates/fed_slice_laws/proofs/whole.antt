@@ -5,3 +5,4 @@ pub mod Filter
 pub mod Read
 pub mod Lines
 pub mod Records
+pub mod One

@@ -6,7 +6,7 @@ use Rattle.fed_script.specs.Script.{Script, IsRead}
 use Rattle.fed_trace.specs.Effect.{Effect}
 use Rattle.fed_trace.specs.OfScript.{trace_of}
 use Rattle.fed_trace.specs.Trace.{Row}
-use Rattle.fed_slice.specs.Closure.{IsClosed}
+use Rattle.fed_slice.specs.Closure.{IsClosed, IsClosure}
 use Rattle.fed_slice.specs.Slice.{in_slice, slice_of}
 
 -- the events of numbered ones, whatever their lines
@@ -33,3 +33,7 @@ SliceIsFilter = (s w : Script) (parties : List (List ℕ)) → IsRead s → IsCl
 -- and a slice is readable
 abbrev pub SliceIsRead : Type 0
 SliceIsRead = (s w : Script) (parties : List (List ℕ)) → IsRead s → IsSlice s parties w → IsRead w
+
+-- a party has one closure
+abbrev pub OneClosure : Type 0
+OneClosure = (s : Script) (name : List ℕ) (a b : List (List ℕ)) → IsClosure s name a → IsClosure s name b → a ≡ b

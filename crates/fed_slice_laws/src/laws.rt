@@ -1,5 +1,5 @@
 //! Laws of slices.
-ghost use Rattle.fed_slice_laws.specs.Laws.{SliceIsFilter, SliceIsRead};
+ghost use Rattle.fed_slice_laws.specs.Laws.{OneClosure, SliceIsFilter, SliceIsRead};
 ghost use Rattle.fed_slice_laws.specs.Reads.{SliceReads, TextIsFilter};
 
 /// Each event of a slice by closed parties does what it does in the whole: the same effects, all of
@@ -19,4 +19,9 @@ pub fn slice_is_read()
 /// The lines of a slice, each followed by LF, are read as that slice, by any parties.
 pub fn slice_reads()
     ensures { SliceReads }
+{}
+
+/// Of a script and a party one list is the closure.
+pub fn one_closure()
+    ensures { OneClosure }
 {}

@@ -2,6 +2,7 @@ pub mod Label
 pub mod Rule
 pub mod RuleOrder
 pub mod RuleLine
+pub mod RulesText
 pub mod Registrable
 pub mod Node
 pub mod Form

@@ -9,6 +9,7 @@ mod refusal;
 mod rule;
 mod stored_label;
 mod suffixes;
+mod text;
 mod walk;
 
 pub use node::SuffixNode;

@@ -7,13 +7,15 @@ ghost use Rattle.fed_suffix.specs.Label.{name_of, labels_in, labels_of};
 ghost use Rattle.fed_suffix.specs.Rule.{same_rules};
 ghost use Rattle.fed_suffix.specs.RuleLine.{rules_after};
 ghost use Rattle.fed_suffix.specs.Registrable as spec;
+ghost use Rattle.fed_suffix.specs.RulesText.{rules_text};
 
 use crate::insertion::insert;
 use crate::label::{has_empty_label, one_label_more};
 use crate::rule::{Mark, are_within, is_skipped, read_rule, rule_text};
+use crate::text::text_of;
 use crate::walk::suffix_len;
 use crate::{SuffixNode, SuffixRefusal};
-use fed_io::{Fault, NoRoom};
+use fed_io::{Bytes, Fault, NoRoom};
 use fed_origin::{Host, HostKind};
 use std::alloc::Global;
 use std::marker::Model;
@@ -148,6 +150,15 @@ impl Suffixes {
             rest = others;
         }
         Ok(copy)
+    }
+
+    /// The lines of all rules in byte order, joined by LF: each rule once, with `!` in front of an
+    /// exception.
+    pub fn text(&self) -> Result<Bytes, NoRoom>
+        ensures { IfOk result (λ text. text ≡ rules_text self.now) }
+    {
+        let text = text_of(self.alloc, self.texts.as_slice(), self.marks.as_slice())?;
+        Ok(text)
     }
 
     /// The node from which all rules go on. It takes no memory.

@@ -26,6 +26,8 @@ mod pieces;
 #[cfg(test)]
 mod runs;
 #[cfg(test)]
+mod saves;
+#[cfg(test)]
 mod several;
 #[cfg(test)]
 mod slices;

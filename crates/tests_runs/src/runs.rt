@@ -18,13 +18,14 @@ pub fn words_of(alloc: Global, words: &str) -> Result<Vec<Text>, NoRoom> {
     Ok(list)
 }
 
-/// How much a source gives and a sink takes in a call, and which call of each fails, counted from 1.
+/// How much a source gives and a sink takes in a call, which call of each fails, counted from 1, and how much the sink takes in all.
 #[derive(Clone, Copy)]
 pub struct Limits {
     pub most_taken: usize,
     pub most_put: usize,
     pub failing_take: u64,
     pub failing_put: u64,
+    pub room: usize,
 }
 
 /// No call fails.
@@ -33,6 +34,7 @@ pub const QUIET: Limits = Limits {
     most_put: 40,
     failing_take: 0,
     failing_put: 0,
+    room: 65_536,
 };
 
 // The answer over a source and a sink with these limits, and what the sink took.
@@ -52,7 +54,7 @@ fn answer<L: Ledger>(
     let takes = [limits.failing_take].to_vec(alloc)?;
     let puts = [limits.failing_put].to_vec(alloc)?;
     let mut source = MemSource::new(script, limits.most_taken, takes);
-    let mut sink = MemSink::new(alloc, 65_536, limits.most_put, puts)?;
+    let mut sink = MemSink::new(alloc, limits.room, limits.most_put, puts)?;
     let mut steps: Steps<L> = Steps::new(blank);
     let status = fedcm(alloc, words, &mut source, &mut sink, &mut steps);
     Ok((status, sink.taken().to_vec(alloc)?))
@@ -83,6 +85,7 @@ pub fn word_of(status: Status) -> &'static str {
         Status::WriteFault => "write-fault",
         Status::NotTwins => "not-twins",
         Status::Faulty => "faulty",
+        Status::NotSaved => "not-saved",
         Status::Differs => "differs",
         Status::NoRoom | Status::TooLong => "",
     }

@@ -10,12 +10,12 @@ use Rattle.fed_jar.specs.Send.{goes_to, is_fresh, is_sent, jar_text, largest_fir
 use Rattle.fed_jar.specs.Store.{has_no_limit}
 use Rattle.fed_consent.specs.declared.table.ask.Ask.{Ask}
 use Rattle.fed_consent.specs.declared.table.ask.Ask.TheVariants.{WellKnown, Config, Accounts, Metadata, Assertion, Disconnect}
-use Rattle.fed_consent.specs.Ask.{url_of}
 use Rattle.fed_request.specs.Request.{TakesCookies}
 use Rattle.fed_trace.specs.Row.{cookies_with}
 use Rattle.fed_trace.specs.Trace.{Trace, cookies, now_at}
 use Rattle.fed_audit.specs.Clauses.{cookies_for}
 use Rattle.fed_own.specs.Request.{CarriesText}
+use Rattle.fed_own.proofs.served.Asks.{IsAlike}
 
 -- the jar looks at the host and the path of a URL alone
 same_text : (rules : RuleSet) (a b : Parts) (now : ℕ) (stored : List StoredCookie) → host_of a ≡ host_of b → a.path ≡ b.path
@@ -35,12 +35,12 @@ takes T (Accounts to) sent is = tt
 takes T (Assertion ask) sent is = tt
 takes T (Disconnect to client hint origin) sent is = tt
 
-pub carried : (T : Trace) (ask : Ask) (sent : List ℕ) (url : Parts) → sent ≡ cookies_with T ask → host_of url ≡ host_of (url_of ask)
-    → url.path ≡ (url_of ask).path → CarriesText ask sent (cookies_for T url)
-carried T (WellKnown to) sent url is host path = tt
-carried T (Config to) sent url is host path = tt
-carried T (Metadata to client origin) sent url is host path = tt
-carried T (Accounts to) sent url is host path = is ∙ sym (same_text T.header.rules url to (now_at T) (cookies T) host path)
-carried T (Assertion ask) sent url is host path = is ∙ sym (same_text T.header.rules url ask.to (now_at T) (cookies T) host path)
-carried T (Disconnect to client hint origin) sent url is host path =
-    is ∙ sym (same_text T.header.rules url to (now_at T) (cookies T) host path)
+pub carried : (T : Trace) (ask : Ask) (sent : List ℕ) (url : Parts) → sent ≡ cookies_with T ask → IsAlike ask url
+    → CarriesText ask sent (cookies_for T url)
+carried T (WellKnown to) sent url is alike = tt
+carried T (Config to) sent url is alike = tt
+carried T (Metadata to client origin) sent url is alike = tt
+carried T (Accounts to) sent url is alike = is ∙ sym (same_text T.header.rules url to (now_at T) (cookies T) alike.0 alike.1)
+carried T (Assertion ask) sent url is alike = is ∙ sym (same_text T.header.rules url ask.to (now_at T) (cookies T) alike.0 alike.1)
+carried T (Disconnect to client hint origin) sent url is alike =
+    is ∙ sym (same_text T.header.rules url to (now_at T) (cookies T) alike.0 alike.1)

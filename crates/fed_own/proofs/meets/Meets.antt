@@ -21,7 +21,6 @@ use Rattle.fed_audit.specs.Consent.{HasConsent}
 use Rattle.fed_audit.specs.Scene.{Scene, trace_through}
 use Rattle.fed_own.specs.Calls.{IsOfCall, IsResultOfCall}
 use Rattle.fed_own.specs.Clauses.{MeetsAll, OfOwnRecords, scene_of}
-use Rattle.fed_own.specs.Whole.{IsReadable, RequestsAreReadable}
 use Rattle.fed_own.proofs.calls.Effects.{results_lem}
 use Rattle.fed_own.proofs.calls.Requests.{requests_lem}
 use Rattle.fed_own.proofs.meets.Carried.{carried, takes}
@@ -30,6 +29,7 @@ use Rattle.fed_own.proofs.passes.Consent.{consent_lem}
 use Rattle.fed_own.proofs.passes.Tokens.{given_lem}
 use Rattle.fed_own.proofs.requests.Due.{cookies_lem, heads_lem, pages_lem}
 use Rattle.fed_own.proofs.requests.Heads.{read_lem}
+use Rattle.fed_own.proofs.served.Readable.{IsReadable, RequestsAreReadable}
 
 module _ (T : Trace) (run : IsRun T.header T.rows) (readable : RequestsAreReadable T) (after before : List Row) (row : Row)
     (rows : T.rows ≡ after ++ row ∷ before) where
@@ -76,7 +76,7 @@ module _ (T : Trace) (run : IsRun T.header T.rows) (readable : RequestsAreReadab
           pages_lem s call of.begun ask cookies (takes (trace_through s) ask cookies of.carries) r.served of.began of.names
       go clauses.Cookie =
           cookies_lem s ask cookies r.back.url (takes (trace_through s) ask cookies of.carries) r.served r.back.reads
-          (carried (trace_through s) ask cookies r.back.url of.carries r.back.host r.back.path)
+          (carried (trace_through s) ask cookies r.back.url of.carries r.back.alike)
       go clauses.Consent = agreed kind call provider ask cookies has r of
       go clauses.Token = tt
 

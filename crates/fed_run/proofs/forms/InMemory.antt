@@ -3,11 +3,10 @@ use Rattle.std.proofs.Common.{◌≡◌, ◌∙◌, ◌+◌, ◌≤◌, ℕ, Lis
 use Rattle.std.specs.Prelude.{Option, ◌⊎◌, IsSome}
 use Rattle.fed_io.specs.Io.{AppendsLess, Rose}
 use Rattle.fed_run.specs.declared.form.Form.{Form}
-use Rattle.fed_run.specs.declared.form.Form.TheVariants.{Run, Check, Twin, Audit, Compare, Make, Slice}
+use Rattle.fed_run.specs.declared.form.Form.TheVariants.{Run, Check, Twin, Audit, Compare, Make, Save, Slice}
 use Rattle.fed_run.specs.declared.status.Status.{Status}
 use Rattle.fed_run.specs.declared.status.Status.TheVariants.{Done, Usage, BadScript, ReadFault, WriteFault, NoRoom, TooLong, NotTwins}
-use Rattle.fed_run.specs.declared.status.Status.TheVariants.{Faulty}
-use Rattle.fed_run.specs.declared.status.Status.TheVariants.{Differs}
+use Rattle.fed_run.specs.declared.status.Status.TheVariants.{Faulty, NotSaved, Differs}
 use Rattle.fed_run.specs.Checks.{check_status, check_written}
 use Rattle.fed_run.specs.Ends.{Writes, WriteFaultLeaves}
 use Rattle.fed_run.specs.Make.{summary_text}
@@ -44,6 +43,8 @@ never-full (Some Audit) bytes start taken left' room some fits leaves full =
     room-left start taken _ room leaves.took (fits leaves.status leaves.ends) full
 never-full (Some Compare) bytes start taken left' room some fits leaves full =
     room-left start taken _ room leaves.took (fits leaves.status leaves.ends) full
+never-full (Some Save) bytes start taken left' room some fits leaves full =
+    room-left start taken _ room leaves.took (fits leaves.status leaves.ends) full
 never-full (Some (Slice party)) bytes start taken left' room some fits leaves full =
     room-left start taken _ room leaves.took (fits leaves.status leaves.ends) full
 
@@ -54,6 +55,7 @@ pub completes : (form : Option Form) (bytes start taken : List ℕ) (left' : Opt
     → (status ≡ Done → Writes 67108864 form bytes Done (Some start) (Some taken))
     → (status ≡ NotTwins → Writes 67108864 form bytes NotTwins (Some start) (Some taken))
     → (status ≡ Faulty → Writes 67108864 form bytes Faulty (Some start) (Some taken))
+    → (status ≡ NotSaved → Writes 67108864 form bytes NotSaved (Some start) (Some taken))
     → (status ≡ Differs → Writes 67108864 form bytes Differs (Some start) (Some taken))
     → (status ≡ BadScript → Writes 67108864 form bytes BadScript (Some start) (Some taken))
     → (status ≡ TooLong → Writes 67108864 form bytes TooLong (Some start) (Some taken))
@@ -61,7 +63,7 @@ pub completes : (form : Option Form) (bytes start taken : List ℕ) (left' : Opt
     → (status ≡ WriteFault → (length taken ≡ length start + room)
     × WriteFaultLeaves 67108864 form (Some bytes) left' (Some start) (Some taken))
     → Writes 67108864 form bytes status (Some start) (Some taken) ⊎ (status ≡ NoRoom)
-completes form bytes start taken left' room status some fits usage done not faulty differs bad long read write = by status refl
+completes form bytes start taken left' room status some fits usage done not faulty saved differs bad long read write = by status refl
   where
     by : (s : Status) → status ≡ s → Writes 67108864 form bytes s (Some start) (Some taken) ⊎ (s ≡ NoRoom)
     by Done is = inl (done is)
@@ -73,6 +75,7 @@ completes form bytes start taken left' room status some fits usage done not faul
     by TooLong is = inl (long is)
     by NotTwins is = inl (not is)
     by Faulty is = inl (faulty is)
+    by NotSaved is = inl (saved is)
     by Differs is = inl (differs is)
 
 -- ---- counts of faults that stand at 0

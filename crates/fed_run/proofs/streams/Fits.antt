@@ -10,7 +10,7 @@ use Rattle.fed_script.specs.declared.cause.LineCause.{LineCause}
 use Rattle.fed_script.specs.Script.{Script, Stop as ScriptStop, script_of}
 use Rattle.fed_run.specs.declared.status.Status.{Status}
 use Rattle.fed_run.specs.declared.status.Status.TheVariants.{Done, Usage, BadScript, ReadFault, WriteFault, NoRoom, TooLong, NotTwins}
-use Rattle.fed_run.specs.declared.status.Status.TheVariants.{Faulty, Differs}
+use Rattle.fed_run.specs.declared.status.Status.TheVariants.{Faulty, NotSaved, Differs}
 use Rattle.fed_run.specs.declared.stop.Stop.{Stop}
 use Rattle.fed_run.specs.declared.stop.Stop.TheVariants as stops
 use Rattle.fed_run.specs.Run.{run_text, run_status, run_written, status_by, script_status, written_by, bad_ended}
@@ -41,6 +41,7 @@ rows-fit limit front more status within = by status
     by NoRoom = whole
     by NotTwins = whole
     by Faulty = whole
+    by NotSaved = whole
     by Differs = whole
 
 -- bytes within the limit have their whole text

@@ -7,6 +7,8 @@ use Rattle.std.specs.Prelude.{nat_lt, Result, Ok, Err}
 use Rattle.fed_audit.specs.declared.difference.Comparison.{Comparison}
 use Rattle.fed_audit.specs.declared.difference.Comparison.TheVariants as comes
 use Rattle.fed_audit.specs.declared.fault.AuditFault.{AuditFault}
+use Rattle.fed_profile.specs.declared.state.Saved.{Saved}
+use Rattle.fed_profile.specs.declared.state.Saved.TheVariants as saves
 use Rattle.fed_script.specs.declared.cause.PairStop.{PairStop}
 use Rattle.fed_script.specs.declared.pair.Pair.{Pair}
 use Rattle.fed_script.specs.Pair.{pair_of}
@@ -16,9 +18,9 @@ use Rattle.fed_run.specs.declared.answer.Whole.{Whole}
 use Rattle.fed_run.specs.declared.answer.Whole.TheVariants as wholes
 use Rattle.fed_run.specs.declared.status.Status.{Status}
 use Rattle.fed_run.specs.declared.status.Status.TheVariants.{Done, Usage, BadScript, ReadFault, WriteFault, NoRoom, TooLong, NotTwins}
-use Rattle.fed_run.specs.declared.status.Status.TheVariants.{Faulty}
-use Rattle.fed_run.specs.declared.status.Status.TheVariants.{Differs}
+use Rattle.fed_run.specs.declared.status.Status.TheVariants.{Faulty, NotSaved, Differs}
 use Rattle.fed_run.specs.Ends.{EndsWhole, EndsWholeBy, HasEnded, IsWhole, TellsAll, TellsAudit, TellsCut, TellsFound, TellsPair, TellsSlice}
+use Rattle.fed_run.specs.Ends.{TellsSave, TellsSaved}
 use Rattle.fed_run.specs.Ends.{TellsVerdict}
 use Rattle.fed_run.specs.Ends.{TellsComparison, TellsFinding}
 use Rattle.fed_run.specs.Ends.{bad_line_within}
@@ -68,6 +70,7 @@ IsTold form BadScript = Unit {0}
 IsTold wholes.Twin NotTwins = Unit {0}
 IsTold wholes.Audit Faulty = Unit {0}
 IsTold wholes.Compare Differs = Unit {0}
+IsTold wholes.Save NotSaved = Unit {0}
 IsTold _ _ = ⊥
 
 found_told : (a b : Script) (found : Option TwinFault) (status : Status) (text : List ℕ) → TellsFound a b found status text
@@ -104,10 +107,20 @@ slice_told : (party bytes : List ℕ) (script : Result Script PairStop) (status 
 slice_told party bytes (Ok script) status text h = subst (IsTold (wholes.Slice party)) (sym h.ends) tt
 slice_told party bytes (Err stop) status text h = subst (IsTold (wholes.Slice party)) (sym h.0) tt
 
+saved_told : (saved : Saved) (status : Status) (text : List ℕ) → TellsSaved saved status text → IsTold wholes.Save status
+saved_told (saves.Lines lines) status text h = subst (IsTold wholes.Save) (sym h.0) tt
+saved_told (saves.Pending call) status text h = subst (IsTold wholes.Save) (sym h.0) tt
+saved_told (saves.Item place) status text h = subst (IsTold wholes.Save) (sym h.0) tt
+
+save_told : (script : Result Script PairStop) (status : Status) (text : List ℕ) → TellsSave script status text → IsTold wholes.Save status
+save_told (Ok script) status text h = saved_told h.saved status text h.tells
+save_told (Err stop) status text h = subst (IsTold wholes.Save) (sym h.0) tt
+
 all_told : (form : Whole) (bytes : List ℕ) (status : Status) (text : List ℕ) → TellsAll form bytes status text → IsTold form status
 all_told wholes.Twin bytes status text h = pair_told (pair_of bytes) status text h
 all_told wholes.Audit bytes status text h = audit_told (recorded_of bytes) status text h
 all_told wholes.Compare bytes status text h = comparison_told (recorded_of bytes) status text h
+all_told wholes.Save bytes status text h = save_told (alone_of bytes) status text h
 all_told (wholes.Slice party) bytes status text h = slice_told party bytes (alone_of bytes) status text h
 
 -- a form ends so: its bytes are more than the limit, or it was told all of them
@@ -134,6 +147,7 @@ told_ended form Done h = tt
 told_ended form BadScript h = tt
 told_ended form NotTwins h = tt
 told_ended form Faulty h = tt
+told_ended form NotSaved h = tt
 told_ended form Differs h = tt
 told_ended wholes.Twin Usage h = absurd h
 told_ended wholes.Twin ReadFault h = absurd h
@@ -150,6 +164,11 @@ told_ended wholes.Compare ReadFault h = absurd h
 told_ended wholes.Compare WriteFault h = absurd h
 told_ended wholes.Compare NoRoom h = absurd h
 told_ended wholes.Compare TooLong h = absurd h
+told_ended wholes.Save Usage h = absurd h
+told_ended wholes.Save ReadFault h = absurd h
+told_ended wholes.Save WriteFault h = absurd h
+told_ended wholes.Save NoRoom h = absurd h
+told_ended wholes.Save TooLong h = absurd h
 told_ended (wholes.Slice party) Usage h = absurd h
 told_ended (wholes.Slice party) ReadFault h = absurd h
 told_ended (wholes.Slice party) WriteFault h = absurd h
@@ -166,6 +185,7 @@ ended form limit bytes status text (All short h) = told_ended form status h
 abbrev IsShared : Status → Type 0
 IsShared NotTwins = ⊥
 IsShared Faulty = ⊥
+IsShared NotSaved = ⊥
 IsShared Differs = ⊥
 IsShared _ = Unit {0}
 
@@ -178,6 +198,7 @@ twin_alone form limit bytes text (Cut long stop c) = absurd (cut_shared stop Not
 twin_alone wholes.Twin limit bytes text (All short h) = refl
 twin_alone wholes.Audit limit bytes text (All short h) = absurd h
 twin_alone wholes.Compare limit bytes text (All short h) = absurd h
+twin_alone wholes.Save limit bytes text (All short h) = absurd h
 twin_alone (wholes.Slice party) limit bytes text (All short h) = absurd h
 
 pub audit_alone : (form : Whole) (limit : ℕ) (bytes text : List ℕ) → Ending form limit bytes Faulty text → form ≡ wholes.Audit
@@ -185,6 +206,7 @@ audit_alone form limit bytes text (Cut long stop c) = absurd (cut_shared stop Fa
 audit_alone wholes.Twin limit bytes text (All short h) = absurd h
 audit_alone wholes.Audit limit bytes text (All short h) = refl
 audit_alone wholes.Compare limit bytes text (All short h) = absurd h
+audit_alone wholes.Save limit bytes text (All short h) = absurd h
 audit_alone (wholes.Slice party) limit bytes text (All short h) = absurd h
 
 pub compare_alone : (form : Whole) (limit : ℕ) (bytes text : List ℕ) → Ending form limit bytes Differs text → form ≡ wholes.Compare
@@ -192,4 +214,13 @@ compare_alone form limit bytes text (Cut long stop c) = absurd (cut_shared stop 
 compare_alone wholes.Twin limit bytes text (All short h) = absurd h
 compare_alone wholes.Audit limit bytes text (All short h) = absurd h
 compare_alone wholes.Compare limit bytes text (All short h) = refl
+compare_alone wholes.Save limit bytes text (All short h) = absurd h
 compare_alone (wholes.Slice party) limit bytes text (All short h) = absurd h
+
+pub save_alone : (form : Whole) (limit : ℕ) (bytes text : List ℕ) → Ending form limit bytes NotSaved text → form ≡ wholes.Save
+save_alone form limit bytes text (Cut long stop c) = absurd (cut_shared stop NotSaved text c)
+save_alone wholes.Twin limit bytes text (All short h) = absurd h
+save_alone wholes.Audit limit bytes text (All short h) = absurd h
+save_alone wholes.Compare limit bytes text (All short h) = absurd h
+save_alone wholes.Save limit bytes text (All short h) = refl
+save_alone (wholes.Slice party) limit bytes text (All short h) = absurd h

@@ -6,12 +6,12 @@ use Rattle.std.specs.Io.KnownBytes.{Appends, Keeps, Consumes, IsAtEnd}
 use Rattle.fed_io.specs.Io.{AppendsLess}
 use Rattle.fed_run.specs.declared.answer.Whole.{Whole}
 use Rattle.fed_run.specs.declared.answer.Whole.TheVariants as wholes
-use Rattle.fed_run.specs.declared.form.Form.TheVariants.{Twin, Audit, Compare, Slice}
+use Rattle.fed_run.specs.declared.form.Form.TheVariants.{Twin, Audit, Compare, Save, Slice}
 use Rattle.fed_run.specs.declared.status.Status.{Status}
-use Rattle.fed_run.specs.declared.status.Status.TheVariants.{Done, WriteFault, NoRoom, TooLong, NotTwins, Faulty, Differs}
+use Rattle.fed_run.specs.declared.status.Status.TheVariants.{Done, WriteFault, NoRoom, TooLong, NotTwins, Faulty, NotSaved, Differs}
 use Rattle.fed_run.specs.Run.{TakesExactly}
 use Rattle.fed_run.specs.Ends.{EndsWhole, EndsAs, Writes, WritesLess, HasEnded, IsWhole, whole_form}
-use Rattle.fed_run.proofs.wholes.Ends.{Ending, Cut, All, ending, ended, twin_alone, audit_alone, compare_alone}
+use Rattle.fed_run.proofs.wholes.Ends.{Ending, Cut, All, ending, ended, twin_alone, audit_alone, compare_alone, save_alone}
 
 -- for the bytes that were read, and whatever was left, the form ends so
 abbrev pub Comes : Whole → ℕ → List ℕ → Status → List ℕ → Type 0
@@ -35,6 +35,7 @@ abbrev pub Within : Status → Type 0
 Within Done = Unit {0}
 Within NotTwins = Unit {0}
 Within Faulty = Unit {0}
+Within NotSaved = Unit {0}
 Within Differs = Unit {0}
 Within _ = ⊥
 
@@ -60,6 +61,8 @@ ends_as wholes.Audit limit bytes status status' text is h =
     record { is = Audit; named = refl; text = text; ends = subst (λ s. EndsWhole wholes.Audit limit bytes s text) is h }
 ends_as wholes.Compare limit bytes status status' text is h =
     record { is = Compare; named = refl; text = text; ends = subst (λ s. EndsWhole wholes.Compare limit bytes s text) is h }
+ends_as wholes.Save limit bytes status status' text is h =
+    record { is = Save; named = refl; text = text; ends = subst (λ s. EndsWhole wholes.Save limit bytes s text) is h }
 ends_as (wholes.Slice party) limit bytes status status' text is h =
     record { is = Slice party; named = refl; text = text; ends = subst (λ s. EndsWhole (wholes.Slice party) limit bytes s text) is h }
 
@@ -74,6 +77,8 @@ writes_as wholes.Audit limit bytes status status' text taken taken' is h took =
     record { ends = ends_as wholes.Audit limit bytes status status' text is h; took = took }
 writes_as wholes.Compare limit bytes status status' text taken taken' is h took =
     record { ends = ends_as wholes.Compare limit bytes status status' text is h; took = took }
+writes_as wholes.Save limit bytes status status' text taken taken' is h took =
+    record { ends = ends_as wholes.Save limit bytes status status' text is h; took = took }
 writes_as (wholes.Slice party) limit bytes status status' text taken taken' is h took =
     record { ends = ends_as (wholes.Slice party) limit bytes status status' text is h; took = took }
 
@@ -87,6 +92,8 @@ less_as wholes.Audit limit bytes status text taken taken' h some took =
     record { status = status; ends = ends_as wholes.Audit limit bytes status status text refl h; some = some; took = took }
 less_as wholes.Compare limit bytes status text taken taken' h some took =
     record { status = status; ends = ends_as wholes.Compare limit bytes status status text refl h; some = some; took = took }
+less_as wholes.Save limit bytes status text taken taken' h some took =
+    record { status = status; ends = ends_as wholes.Save limit bytes status status text refl h; some = some; took = took }
 less_as (wholes.Slice party) limit bytes status text taken taken' h some took =
     record { status = status; ends = ends_as (wholes.Slice party) limit bytes status status text refl h; some = some; took = took }
 
@@ -115,6 +122,12 @@ pub of_compare : (form : Whole) (limit : ℕ) (read : List ℕ) (status : Status
     → status ≡ Differs → form ≡ wholes.Compare
 of_compare form limit read status text comes is =
     compare_alone form limit (read ++ []) text
+    (subst (λ s. Ending form limit (read ++ []) s text) is (comes_here form limit read status text comes))
+
+pub of_save : (form : Whole) (limit : ℕ) (read : List ℕ) (status : Status) (text : List ℕ) → Comes form limit read status text
+    → status ≡ NotSaved → form ≡ wholes.Save
+of_save form limit read status text comes is =
+    save_alone form limit (read ++ []) text
     (subst (λ s. Ending form limit (read ++ []) s text) is (comes_here form limit read status text comes))
 
 -- a form never ends by this status
@@ -175,6 +188,7 @@ long_text form limit bytes text (Cut long (Some stop) c) = absurd (search (c.0, 
 long_text wholes.Twin limit bytes text (All short h) = absurd h
 long_text wholes.Audit limit bytes text (All short h) = absurd h
 long_text wholes.Compare limit bytes text (All short h) = absurd h
+long_text wholes.Save limit bytes text (All short h) = absurd h
 long_text (wholes.Slice party) limit bytes text (All short h) = absurd h
 
 keeps_appends : (taken taken' : Option (List ℕ)) → Keeps taken taken' → Appends taken taken' []
@@ -201,6 +215,7 @@ long_bytes form limit bytes text (Cut long stop c) = long
 long_bytes wholes.Twin limit bytes text (All short h) = absurd h
 long_bytes wholes.Audit limit bytes text (All short h) = absurd h
 long_bytes wholes.Compare limit bytes text (All short h) = absurd h
+long_bytes wholes.Save limit bytes text (All short h) = absurd h
 long_bytes (wholes.Slice party) limit bytes text (All short h) = absurd h
 
 -- the byte after the limit was read

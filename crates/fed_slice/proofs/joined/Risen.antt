@@ -59,7 +59,7 @@ moved_members xs ys moved q = sym (list_any-IsPermutation (bytes_eq q) xs ys mov
 -- ---- the same members
 
 -- what is so of each text of a list is so of each that is one of them
-at_member : (P : List ℕ → Type 0) (ys : List (List ℕ)) → AllByRecursion P ys → (x : List ℕ) → is_one ys x ≡ true → P x
+pub at_member : (P : List ℕ → Type 0) (ys : List (List ℕ)) → AllByRecursion P ys → (x : List ℕ) → is_one ys x ≡ true → P x
 at_member P [] all x is = let no : false ≡ true = is in absurd (cc)
 at_member P (y ∷ ys) all x is = go (bytes_eq x y) refl (at_member P ys all.1 x) is
   where

@@ -4,10 +4,10 @@ use Rattle.fed_io.specs.Io.{Rose}
 use Rattle.fed_run.specs.declared.status.Status.{Status}
 use Rattle.fed_run.specs.Run.{NoneRose}
 use Rattle.fed_run.specs.declared.status.Status.TheVariants.{Done, Usage, BadScript, ReadFault, WriteFault, NoRoom, TooLong, NotTwins}
-use Rattle.fed_run.specs.declared.status.Status.TheVariants.{Faulty, Differs}
+use Rattle.fed_run.specs.declared.status.Status.TheVariants.{Faulty, NotSaved, Differs}
 use Rattle.fed_run.specs.Ends.{HasEnded}
 use Rattle.fed_run.proofs.wholes.Sources.{Within, at_end, has_ended, never, is_status, writes, writes_less, second_of, writes_nothing, ends_so, past}
-use Rattle.fed_run.proofs.wholes.Sources.{of_twin, of_audit, of_compare}
+use Rattle.fed_run.proofs.wholes.Sources.{of_twin, of_audit, of_compare, of_save}
 use Rattle.fed_run.proofs.answer.tell.Goals as goal
 
 not_risen : (before now : ℕ) → NoneRose before now → Rose before now → ⊥
@@ -82,6 +82,18 @@ returns-in-Ok-answer-clause-differs g c = λ differ.
           c.in-Ok.ensures.bytes c.in-Ok.ensures.end comes is took),
     )
 
+pub returns-in-Ok-answer-clause-not_saved : goal.returns-in-Ok-answer-clause-not_saved
+returns-in-Ok-answer-clause-not_saved g c = λ differ.
+    let ran = c.in-Ok-answer.ran in
+    let comes = rw c.as_slice.ensures.value at c.in-Ok-answer.ensures in
+    let is = is_status _ ran.status NotSaved c.write.ensures.ends (λ e. cc) differ in
+    let took = c.write.ensures.took (λ long. cc) (λ fault. cc) in (
+      at_end c.args.form 67108864 _ _ ran.status ran.text (subst Within (sym is) tt) comes c.in-Ok.ensures.end,
+      second_of _ _ _
+          (writes c.args.form 67108864 _ _ _ _ _ ran.status NotSaved ran.text
+          c.in-Ok.ensures.bytes c.in-Ok.ensures.end comes is took),
+    )
+
 pub returns-in-Ok-answer-clause-twin_alone : goal.returns-in-Ok-answer-clause-twin_alone
 returns-in-Ok-answer-clause-twin_alone g c =
     λ differ. of_twin c.args.form 67108864 _ c.in-Ok-answer.ran.status c.in-Ok-answer.ran.text c.in-Ok-answer.ensures
@@ -96,6 +108,11 @@ pub returns-in-Ok-answer-clause-compare_alone : goal.returns-in-Ok-answer-clause
 returns-in-Ok-answer-clause-compare_alone g c =
     λ differ. of_compare c.args.form 67108864 _ c.in-Ok-answer.ran.status c.in-Ok-answer.ran.text c.in-Ok-answer.ensures
     (is_status _ c.in-Ok-answer.ran.status Differs c.write.ensures.ends (λ e. cc) differ)
+
+pub returns-in-Ok-answer-clause-save_alone : goal.returns-in-Ok-answer-clause-save_alone
+returns-in-Ok-answer-clause-save_alone g c =
+    λ differ. of_save c.args.form 67108864 _ c.in-Ok-answer.ran.status c.in-Ok-answer.ran.text c.in-Ok-answer.ensures
+    (is_status _ c.in-Ok-answer.ran.status NotSaved c.write.ensures.ends (λ e. cc) differ)
 
 pub returns-in-Ok-answer-clause-bad_script : goal.returns-in-Ok-answer-clause-bad_script
 returns-in-Ok-answer-clause-bad_script g c = λ bad.

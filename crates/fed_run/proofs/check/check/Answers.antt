@@ -32,6 +32,7 @@ returns-in-Ok-clause-ends g c = (
   λ is. absurd (subst IsCheckEnd is (is_end _ c.in-Ok.ensures.ok)),
   λ is. absurd (subst IsCheckEnd is (is_end _ c.in-Ok.ensures.ok)),
   λ is. absurd (subst IsCheckEnd is (is_end _ c.in-Ok.ensures.ok)),
+  λ is. absurd (subst IsCheckEnd is (is_end _ c.in-Ok.ensures.ok)),
 )
 
 pub returns-in-Ok-clause-short : goal.returns-in-Ok-clause-short

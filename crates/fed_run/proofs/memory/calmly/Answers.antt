@@ -14,7 +14,7 @@ returns g c =
     record {
       complete = λ some fits.
           rw sink (completes _ _ _ _ _ _ _ some fits (λ is. e.usage.0 is) (λ is. (e.done is).1) (λ is. (e.not_twins is).1)
-          (λ is. (e.faulty is).1) (λ is. (e.differs is).1)
+          (λ is. (e.faulty is).1) (λ is. (e.not_saved is).1) (λ is. (e.differs is).1)
           (λ is. (e.bad_script is).1) (λ is. (e.too_long is).1)
           (λ is. never-rose _ _ c.requires.calm_source.1 (ap (λ s. s.faults) (sym source) ∙ calm.1) (e.read_fault is).0)
           (λ is. (

@@ -31,6 +31,7 @@ returns-in-Ok-clause-ends g c = (
   λ is. absurd (subst IsEnd is c.in-Ok.ensures.ok.is_end),
   λ is. absurd (subst IsEnd is c.in-Ok.ensures.ok.is_end),
   λ is. absurd (subst IsEnd is c.in-Ok.ensures.ok.is_end),
+  λ is. absurd (subst IsEnd is c.in-Ok.ensures.ok.is_end),
 )
 
 pub returns-in-Ok-clause-past_limit : goal.returns-in-Ok-clause-past_limit

@@ -1,0 +1,3 @@
+pub mod seen
+pub mod saved
+pub mod read

@@ -1,0 +1,2 @@
+-- What is read of effects.
+pub mod Seen

@@ -1,0 +1,12 @@
+pub mod Item
+pub mod CookieField
+pub mod Lines
+pub mod Restores
+pub mod Save
+pub mod Saved
+pub mod Laws
+pub mod Continues
+pub mod Scripts
+pub mod Again
+pub mod Walk
+pub mod WalkView

@@ -1,0 +1,2 @@
+-- A run that is fed in pieces.
+pub mod Fed

@@ -1,0 +1,2 @@
+-- Saving what stands at the end of a script.
+pub mod Steps
