@@ -12,6 +12,12 @@ import tempfile
 from accounts_request import CONFIG, FILE, HEADER, MEMBERS, line, reply
 from measure import each, instructions, run
 
+ENTRIES = [
+    "- `bench/accounts.py` (one call whose accounts reply has many accounts, of which half fit the hint): {:,.0f} instructions an account"
+    " at 1,000 accounts of different ids and {:,.0f} at 100,000, which take {:.2f} s and {:.0f} MB; {:,.0f} and {:,.0f} where all have one"
+    " id."
+]
+
 
 def accounts(count, ids):
     for place in range(count):
@@ -33,6 +39,19 @@ def write(path, count, ids):
         out.write(reply(1, "config", MEMBERS))
         out.write(reply(1, "accounts", {"accounts": list(accounts(count, ids))}))
     return os.path.getsize(path)
+
+
+def figures():
+    with tempfile.TemporaryDirectory() as folder:
+        path = os.path.join(folder, "script.jsonl")
+
+        def counted(count, ids):
+            write(path, count, ids)
+            return instructions(path) / count
+
+        of_one_id = [counted(count, 1) for count in (1_000, 100_000)]
+        different = [counted(count, count) for count in (1_000, 100_000)]
+        yield [*different, *run(path), *of_one_id]
 
 
 def main():

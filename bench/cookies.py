@@ -12,6 +12,10 @@ from measure import each, measured
 
 HEADER = '{"fedcm":1,"now":1700000000,"rules":"example"}\n'
 A_LOAD = 90
+ENTRIES = [
+    "- `bench/cookies.py` (parties with 180 cookies each, and as many again): {:,.0f} instructions a cookie where the second ones replace"
+    " the first, {:,.0f} where each of them makes another go; 360,000 writes for 1,000 parties take {:.2f} s and {:.2f} s, and {:.0f} MB."
+]
 
 
 def reply(first, value):
@@ -31,9 +35,16 @@ def script(parties, second):
                 )
 
 
+def figures():
+    counted = [measured(HEADER, script(100, second)).instructions / 36_000 for second in (0, 2 * A_LOAD)]
+    replaced, others = (measured(HEADER, script(1_000, second)) for second in (0, 2 * A_LOAD))
+    yield [*counted, replaced.seconds, others.seconds, max(replaced.peak, others.peak)]
+
+
 def main():
     counts = [int(word) for word in sys.argv[1:]] or [100, 1000]
-    print("| parties | the second time | cookies kept | cookies written | input MB | seconds | written a second | peak MB | instructions a cookie |")
+    sizes = "| parties | the second time | cookies kept | cookies written | input MB "
+    print(sizes + "| seconds | written a second | peak MB | instructions a cookie |")
     print("|---|---|---|---|---|---|---|---|---|")
     for parties in counts:
         for what, second in (("in their places", 0), ("new ones", 2 * A_LOAD)):

@@ -10,11 +10,17 @@ page that is loaded again and again, with a get in between that each load ends.
 import sys
 
 from measure import each, measured
+from page import TWO_SIZES, two_sizes
 
 HEADER = '{"fedcm":1,"now":0,"rules":""}\n'
 # URLs as short as `url` reads them: 1,000,000 events have to fit into the 67,108,864 bytes of an input.
 LOAD = '{"do":"load","page":%d,"url":"https:r"}\n'
 GET = '{"do":"get","page":%d,"call":%d,"providers":[{"config":"https:i.c","client":""}]}\n'
+ENTRIES = [
+    "| `bench/first_path.py` | a load and a get for each of many pages, all pending at the end | " + TWO_SIZES,
+    "| | a load and a get of one page, again and again | " + TWO_SIZES,
+    "- A pending call keeps about {:.2f} KB with its page until its configuration is read.",
+]
 
 
 def pages(events):
@@ -26,6 +32,13 @@ def pages(events):
 def one_page(events):
     for i in range(events):
         yield LOAD % 0 if i % 2 == 0 else GET % (0, i)
+
+
+def figures():
+    small, large = (measured(HEADER, pages(events)) for events in (10_000, 1_000_000))
+    yield two_sizes(small, large)
+    yield two_sizes(*(measured(HEADER, one_page(events)) for events in (10_000, 1_000_000)))
+    yield [(large.peak - small.peak) * 2e3 / (large.events - small.events)]
 
 
 def main():

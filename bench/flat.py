@@ -21,6 +21,10 @@ PROVIDERS = 50
 COOKIES = 18
 # Counting takes some fifty times as long as running.
 COUNTED = 40_000_000
+ENTRIES = [
+    "- `bench/flat.py` (what stands grows with the script): of 30,000 events each takes {:.2f} times the instructions of one of 1,000"
+    " where pages close, {:.2f} where calls wait in login windows, {:.2f} with cookies of many parties, {:.2f} below many suffix rules."
+]
 
 
 def get(page, config, **members):
@@ -110,6 +114,21 @@ def measured(header, events, folder):
     count = write(whole, header, events)
     runs = max(7, min(300, 300_000 // count))
     return count, *((both - first) / count for both, first in zip(costs(whole, runs), costs(alone, runs)))
+
+
+def counted(header, events, folder):
+    """Instructions an event beside those of the header."""
+    path = os.path.join(folder, "script.jsonl")
+    write(path, header, [])
+    alone = instructions(path, most=COUNTED)
+    count = write(path, header, events)
+    return (instructions(path, most=COUNTED) - alone) / count
+
+
+def figures():
+    with tempfile.TemporaryDirectory() as folder:
+        costs_of = [[counted(header(size), shape(size), folder) for size in (1_000, 30_000)] for _, header, shape in SHAPES]
+    yield [large / small for small, large in costs_of]
 
 
 def times(value, least):

@@ -7,7 +7,9 @@ import tempfile
 from typing import NamedTuple
 
 TOP = os.path.dirname(os.path.dirname(os.path.abspath(__file__)))
-PROGRAM = os.path.join(TOP, "crates", "fedcm", "out", "fedcm")
+BUILT = os.path.join(TOP, "crates", "fedcm", "out", "fedcm")
+# Another one is named to try the scripts with.
+PROGRAM = os.path.abspath(os.environ.get("FEDCM_PROGRAM", BUILT))
 # Counting takes some fifty times as long as running: what is longer is not counted, in bytes.
 COUNTED = 12_000_000
 # A `rep stosb` would be counted byte by byte, which no processor does.
@@ -99,7 +101,7 @@ class Measured(NamedTuple):
 def write(path, header, events):
     """Writes the script of this header and these lines of events, which may come one after another, and tells how many there are."""
     count = 0
-    with open(path, "w") as script:
+    with open(path, "w", encoding="utf-8") as script:
         script.write(header)
         for event in events:
             script.write(event)

@@ -17,6 +17,11 @@ from twins import line, sign_ups
 RULED = '{"fedcm":1,"now":0,"rules":"example"}\n'
 # The form `slice` reads longer scripts in a minute than are counted elsewhere.
 MOST = 40_000_000
+ENTRIES = [
+    "- `bench/parts.py`: `save` takes {:,.0f} instructions for each permission and cookie that stands at 2,000 of them and {:,.0f} at"
+    " 20,000; 200,000 take {:.1f} s. `slice` takes {:.2f} of the instructions of `run` over 1,000 sign-ups at one provider, which are all"
+    " linked, and {:.2f} over 10,000."
+]
 
 
 def things(number):
@@ -32,6 +37,27 @@ def told(path, number, *words):
     count = instructions(path, *words, most=MOST)
     print(f"| `{' '.join(words)}` | {number:,} | {seconds:.2f} | {each(count, number)} | {peak:.0f} |")
     return count
+
+
+def saved(path, number):
+    """Instructions of `save` for each of twice so many things."""
+    write(path, RULED, things(number))
+    return instructions(path, "save", most=MOST) / (2 * number)
+
+
+def sliced(path, number):
+    """Instructions of `slice` over so many sign-ups by those of `run`."""
+    write(path, "", sign_ups(number, "rp", "c"))
+    return instructions(path, "slice", "rp0.example", most=MOST) / instructions(path, "run", most=MOST)
+
+
+def figures():
+    with tempfile.TemporaryDirectory() as folder:
+        path = os.path.join(folder, "script.jsonl")
+        counted = [saved(path, number) for number in (1_000, 10_000)]
+        write(path, RULED, things(100_000))
+        seconds = run(path, "save").seconds
+        yield [*counted, seconds, *(sliced(path, number) for number in (1_000, 10_000))]
 
 
 def main():

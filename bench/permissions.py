@@ -10,12 +10,17 @@ import sys
 
 from lines import ENDPOINTS, HEADER, line, reply
 from measure import each, measured
+from page import TWO_SIZES, two_sizes
 
 PROVIDER = "https://accounts.idp.example"
 CONFIG = PROVIDER + "/fedcm.json"
 PAGE = "https://rp.example"
 CORS = f"Access-Control-Allow-Origin: {PAGE}\r\nAccess-Control-Allow-Credentials: true\r\n"
 DISCONNECTS = ENDPOINTS | {"disconnect_endpoint": "/disconnect"}
+ENTRIES = [
+    "| `bench/permissions.py` | disconnects of one page that each take its own permission | " + TWO_SIZES,
+    "| | the same with as many permissions of other pages | " + TWO_SIZES,
+]
 
 
 def kept(page, account):
@@ -33,6 +38,11 @@ def disconnects(accounts, others):
         yield reply(i, "wellknown", {"provider_urls": [CONFIG]})
         yield reply(i, "config", DISCONNECTS)
         yield reply(i, "disconnect", {"account_id": f"u{i}"}, CORS)
+
+
+def figures():
+    for others in (False, True):
+        yield two_sizes(*(measured(HEADER, disconnects(accounts, others)) for accounts in (5_000, 20_000)))
 
 
 def main():

@@ -13,7 +13,12 @@ from measure import piped
 
 CALLS = 1_000
 PAGES = 100
+COUNTS = [10_000, 100_000, 1_000_000]
 CONFIG = "https://accounts.idp.example/fedcm.json"
+ENTRIES = [
+    "- `bench/pipe.py` (events through a pipe: 1,000 pages wait for accounts, and a hundred others load again and again): at 10,000 to"
+    " 1,000,000 events the peak is {:.1f} to {:.1f} MB. The last take {:.2f} s."
+]
 
 
 def standing():
@@ -35,14 +40,24 @@ def passing():
         yield line(do="load", page=CALLS + page, url=f"https://shop{page}.example/", text=cookie)
 
 
+def through(count):
+    """What the program takes for so many events."""
+    return piped(itertools.chain([HEADER], itertools.islice(itertools.chain(standing(), passing()), count)))
+
+
+def figures():
+    took = [through(count) for count in COUNTS]
+    peaks = [run.peak for run in took]
+    yield [min(peaks), max(peaks), took[-1].seconds]
+
+
 def main():
-    counts = [int(word) for word in sys.argv[1:]] or [10_000, 100_000, 1_000_000]
+    counts = [int(word) for word in sys.argv[1:]] or COUNTS
     alone = piped(itertools.chain([HEADER], standing()))
     print("| events | seconds | peak MB | above the calls alone, MB |")
     print("|---|---|---|---|")
     for count in counts:
-        events = itertools.islice(itertools.chain(standing(), passing()), count)
-        took = piped(itertools.chain([HEADER], events))
+        took = through(count)
         print(f"| {count:,} | {took.seconds:.2f} | {took.peak:.1f} | {took.peak - alone.peak:.1f} |", flush=True)
 
 

@@ -17,6 +17,10 @@ LIST = "/usr/share/publicsuffix/public_suffix_list.dat"
 CALLS = 10_000
 # Below a suffix of the list, at names that no host has.
 MORE = "\n".join(f"r{number}.x{number % 200}.uk" for number in range(40_000))
+ENTRIES = [
+    "- `bench/suffix_rules.py` (the whole Public Suffix List, {:,} lines): a line takes {:,.0f} instructions to read; a load and a call on"
+    " a host below each rule in turn {:,.0f}, with 40,000 rules more {:,.0f}, and without rules {:,.0f}."
+]
 
 
 def line(value):
@@ -49,8 +53,9 @@ def took(folder, rules, lines):
     return run(path).seconds, instructions(path)
 
 
-def main():
-    with open(sys.argv[1] if len(sys.argv) > 1 else LIST, encoding="utf-8") as source:
+def costs(path):
+    """Of the list at this path: what was done, how often, and the seconds and instructions that all of it takes."""
+    with open(path, encoding="utf-8") as source:
         text = source.read()
     with tempfile.TemporaryDirectory() as folder:
         reading, reads = took(folder, text, [])
@@ -60,15 +65,24 @@ def main():
         both_more, counted_more = took(folder, text + "\n" + MORE, events(text))
         without, counted_without = took(folder, "", events(text))
     lines = len(text.splitlines())
-    print("| what | number | us each | instructions each |")
-    print("|---|---|---|---|")
-    for what, number, seconds, count in (
+    return [
         ("lines of rules", lines, reading, reads),
         ("lines of rules, twice", 2 * lines, twice, reads_twice),
         ("loads and calls with the rules", CALLS, both - reading, counted - reads),
         ("loads and calls with 40,000 rules more", CALLS, both_more - reading_more, counted_more - reads_more),
         ("loads and calls without", CALLS, without, counted_without),
-    ):
+    ]
+
+
+def figures():
+    (_, lines, _, reads), _, *others = costs(LIST)
+    yield [lines, reads / lines, *(count / number for _, number, _, count in others)]
+
+
+def main():
+    print("| what | number | us each | instructions each |")
+    print("|---|---|---|---|")
+    for what, number, seconds, count in costs(sys.argv[1] if len(sys.argv) > 1 else LIST):
         print(f"| {what} | {number:,} | {seconds / number * 1e6:.1f} | {each(count, number)} |")
 
 

@@ -29,6 +29,10 @@ CONFIG = OK + json.dumps(
     }
 )
 ACCOUNTS = OK + json.dumps({"accounts": [{"id": "u1", "name": "U", "email": "u@idp.example"}]})
+ENTRIES = [
+    "- `bench/twins.py` (two scripts of sign-ups up to their prompts): `twin` takes {:.2f} times the instructions of `run` over one of them"
+    " ({:,.0f} and {:,.0f} a sign-up), {:.2f} s and {:.0f} MB at 20,000 sign-ups each."
+]
 
 
 def line(event):
@@ -55,6 +59,26 @@ def compared(number, path):
         sys.exit(f"told {told.decode()} of {number} sign-ups")
 
 
+def write(number, alone, pair):
+    """Writes the first of the two scripts to one of these paths, and both of them to the other."""
+    with open(alone, "w") as script:
+        script.writelines(sign_ups(number, "rp", "c"))
+    with open(pair, "w") as scripts:
+        scripts.writelines(sign_ups(number, "rp", "c"))
+        scripts.write(NEXT)
+        scripts.writelines(sign_ups(number, "shop", "web"))
+    compared(number, pair)
+
+
+def figures():
+    with tempfile.TemporaryDirectory() as folder:
+        alone, pair = os.path.join(folder, "alone"), os.path.join(folder, "pair")
+        write(1_000, alone, pair)
+        one, both = instructions(alone) / 1_000, instructions(pair, "twin") / 1_000
+        write(20_000, alone, pair)
+        yield [both / one, both, one, *run(pair, "twin")]
+
+
 def main():
     need_program()
     numbers = [int(word) for word in sys.argv[1:]] or [1_000, 5_000, 20_000]
@@ -63,13 +87,7 @@ def main():
     with tempfile.TemporaryDirectory() as folder:
         alone, pair = os.path.join(folder, "alone"), os.path.join(folder, "pair")
         for number in numbers:
-            with open(alone, "w") as script:
-                script.writelines(sign_ups(number, "rp", "c"))
-            with open(pair, "w") as scripts:
-                scripts.writelines(sign_ups(number, "rp", "c"))
-                scripts.write(NEXT)
-                scripts.writelines(sign_ups(number, "shop", "web"))
-            compared(number, pair)
+            write(number, alone, pair)
             seconds, peak = run(alone)
             both, both_peak = run(pair, "twin")
             counted = f"{each(instructions(alone), number)} | {each(instructions(pair, 'twin'), number)}"

@@ -10,9 +10,11 @@ import sys
 
 from lines import ENDPOINTS, HEADER, line, raw_reply, reply
 from measure import each, measured
+from page import TWO_SIZES, two_sizes
 
 PROVIDERS = 50
 LOST = "HTTP/1.1 404 Not Found\r\nContent-Type: application/json\r\n\r\n{}"
+ENTRIES = ["| `bench/windows.py` | active calls that wait for 50 providers; half close, half go on | " + TWO_SIZES]
 
 
 def provider(call):
@@ -36,6 +38,10 @@ def windows(calls):
     for k in range(PROVIDERS):
         yield line(do="load", page=calls + k, url=provider(k) + "/login")
         yield line(do="idpclose", page=calls + k)
+
+
+def figures():
+    yield two_sizes(*(measured(HEADER, windows(calls)) for calls in (2_500, 10_000)))
 
 
 def main():

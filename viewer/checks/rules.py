@@ -94,7 +94,7 @@ class Page:
         text = re.sub(r"\[([^\]]+)\](?!\()", self.reference, text)
         text = re.sub(r"\*\*(.+?)\*\*", r"<strong>\1</strong>", text)
         text = re.sub(r"(?<![\w*])\*([^*]+)\*(?![\w*])", r"<em>\1</em>", text)
-        return re.sub(r"\b(rules? |and |to |, |\()?(\d+\.\d+|[CEM]\d+[a-z]?)\b(?![^<]*</(?:a|strong)>)", self.anchor, text)
+        return re.sub(r"(\b(?:rules? |and |to |, )|\()?\b(\d+\.\d+|[CEM]\d+[a-z]?)\b(?![^<]*</(?:a|strong)>)", self.anchor, text)
 
     @staticmethod
     def place(target):
@@ -104,7 +104,7 @@ class Page:
         target = self.links.get(html.unescape(found[1]))
         return '<a href="%s">%s</a>' % (html.escape(target), found[0]) if target else found[0]
 
-    # The number of a rule where the word or another number stands before it, and the name of a row.
+    # The number of a rule where the word, another number or a bracket stands before it, and the name of a row.
     def anchor(self, found):
         before, name = found[1] or "", found[2]
         if name in self.rows:

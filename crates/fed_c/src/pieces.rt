@@ -109,6 +109,7 @@ pub extern "C" fn fedcm_finish(alloc: Global, run: &mut Run) -> u8
     requires going { IfSome run.old.handle.live (λ live. live.end ≡ None → (bytes : List ℕ) × Goes live bytes) }
     ensures open { run.new.is_open ≡ run.old.is_open }
     ensures closed { run.old.is_open ≡ false → result ≡ CLOSED }
+    ensures ended { result ≡ GOES_ON → ⊥ }
     ensures answers { run.old.is_open ≡ true → IfSome run.new.handle.live (λ new. result ≡ number new.end) }
     ensures fed { (old : Live) (bytes : List ℕ) → run.old.is_open ≡ true → run.old.handle.live ≡ Some old → old.end ≡ None → Goes old bytes
         → IfSome run.new.handle.live (λ new. FedBy new.end new bytes) }

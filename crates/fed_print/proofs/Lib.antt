@@ -1,3 +1,2 @@
 pub mod printing
 pub mod values
-pub mod escaping

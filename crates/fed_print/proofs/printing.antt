@@ -1,4 +1,3 @@
--- What a printer writes.
-pub mod Pieces
-pub mod Requests
-pub mod Shown
+-- What a line writer writes.
+pub mod Tokens
+pub mod Members

@@ -3,6 +3,5 @@ pub mod Dialogs
 pub mod Lines
 pub mod Object
 pub mod Objects
-pub mod Pieces
 pub mod Records
-pub mod Tokens
+pub mod Written

@@ -1,13 +1,15 @@
 //! Printing records.
-ghost use Rattle.std.specs.Prelude.{◌≡◌, ◌++◌, OnOk, OnErr};
+ghost use Rattle.std.specs.Prelude.{codes, OnOk, Some};
+ghost use Rattle.base64.specs.Engines.{standard};
+ghost use Rattle.base64.specs.GeneralPurpose.{encode_of};
+ghost use Rattle.serde_json.specs.Data.{string};
 ghost use Rattle.fed_print.specs.Records as spec;
-ghost use Rattle.fed_print.specs.Lines.{record_line};
-ghost use Rattle.fed_print.specs.Tokens.{PrintsMember, PrintsObject};
+ghost use Rattle.fed_print.specs.Written.{PrintsMember, PrintsObject};
 
 use crate::answers::print_answer;
-use crate::ascii::ascii_text;
+use crate::ascii::is_ascii_text;
 use crate::dialogs::print_dialog;
-use crate::printer::Printer;
+use crate::line_writer::LineWriter;
 use crate::words::detail_text;
 use base64::engine::general_purpose::STANDARD;
 use fed_consent::{Failure, Why};
@@ -16,92 +18,101 @@ use fed_origin::ReplyKind;
 use fed_trace::Out;
 use std::alloc::Global;
 
-// The member with the bytes of a request.
-fn print_bytes(alloc: Global, printer: &mut Printer, bytes: &[u8]) -> Result<(), NoRoom>
-    ensures { OnOk result (let named =
-        spec.bytes_member (spec.ascii_text bytes.now) bytes.now in PrintsMember printer.old printer.new named.0 named.1) }
+// The member with bytes that are no text. It stands apart, since the table of base64 is made where this is called.
+#[inline(never)]
+fn print_raw(alloc: Global, lines: &mut LineWriter, bytes: &[u8]) -> Result<(), NoRoom>
+    ensures { OnOk result (PrintsMember lines.old lines.new (codes "raw") (Some (string (encode_of standard bytes.now)))) }
 {
-    match ascii_text(bytes) {
-        Some(text) => printer.text("text", text),
-        None => printer.text("raw", STANDARD.encode(alloc, bytes)?.as_str()),
+    lines.text("raw", STANDARD.encode(alloc, bytes)?.as_str())
+}
+
+// The member with the bytes of a request.
+fn print_bytes(alloc: Global, lines: &mut LineWriter, bytes: &[u8]) -> Result<(), NoRoom>
+    ensures { OnOk result (let named =
+        spec.bytes_member (spec.ascii_text bytes.now) bytes.now in PrintsMember lines.old lines.new named.0 named.1) }
+{
+    if is_ascii_text(bytes) {
+        return lines.bytes("text", bytes);
     }
+    print_raw(alloc, lines, bytes)
 }
 
 fn print_request(
     alloc: Global,
-    printer: &mut Printer,
+    lines: &mut LineWriter,
     line: u32,
     call: u32,
     provider: u32,
     kind: ReplyKind,
     bytes: &[u8],
 ) -> Result<(), NoRoom>
-    ensures { OnOk result (PrintsObject printer.old printer.new
+    ensures { OnOk result (PrintsObject lines.old lines.new
         (spec.request_members line call provider kind (spec.bytes_member (spec.ascii_text bytes.now) bytes.now))) }
 {
-    printer.begin()?;
-    printer.count("call", call)?;
-    printer.text("kind", kind.as_str())?;
-    printer.count("line", line)?;
-    printer.text("out", "request")?;
-    printer.count("provider", provider)?;
-    print_bytes(alloc, printer, bytes)?;
-    printer.end()?;
+    lines.begin()?;
+    lines.count("call", call)?;
+    lines.word("kind", kind.as_str())?;
+    lines.count("line", line)?;
+    lines.word("out", "request")?;
+    lines.count("provider", provider)?;
+    print_bytes(alloc, lines, bytes)?;
+    lines.end()?;
     Ok(())
 }
 
 fn print_dropped(
-    printer: &mut Printer,
+    lines: &mut LineWriter,
     line: u32,
     call: u32,
     provider: u32,
     failure: Failure,
 ) -> Result<(), NoRoom>
-    ensures { OnOk result (PrintsObject printer.old printer.new (spec.dropped_members line call provider failure)) }
+    ensures { OnOk result (PrintsObject lines.old lines.new (spec.dropped_members line call provider failure)) }
 {
-    printer.begin()?;
-    printer.count("call", call)?;
-    printer.text_if("detail", detail_text(failure.detail))?;
-    printer.count("line", line)?;
-    printer.text("out", "dropped")?;
-    printer.count("provider", provider)?;
-    printer.text("step", failure.step.as_str())?;
-    printer.end()?;
+    lines.begin()?;
+    lines.count("call", call)?;
+    lines.text_if("detail", detail_text(failure.detail))?;
+    lines.count("line", line)?;
+    lines.word("out", "dropped")?;
+    lines.count("provider", provider)?;
+    lines.text("step", failure.step.as_str())?;
+    lines.end()?;
     Ok(())
 }
 
 fn print_window(
-    printer: &mut Printer,
+    lines: &mut LineWriter,
     line: u32,
     call: u32,
     provider: u32,
     url: &str,
 ) -> Result<(), NoRoom>
-    ensures { OnOk result (PrintsObject printer.old printer.new (spec.window_members line call provider url.now)) }
+    ensures { OnOk result (PrintsObject lines.old lines.new (spec.window_members line call provider url.now)) }
 {
-    printer.begin()?;
-    printer.count("call", call)?;
-    printer.count("line", line)?;
-    printer.text("out", "window")?;
-    printer.count("provider", provider)?;
-    printer.text("url", url)?;
-    printer.end()?;
+    lines.begin()?;
+    lines.count("call", call)?;
+    lines.count("line", line)?;
+    lines.word("out", "window")?;
+    lines.count("provider", provider)?;
+    lines.text("url", url)?;
+    lines.end()?;
     Ok(())
 }
 
-fn print_ignored(printer: &mut Printer, line: u32, why: Why) -> Result<(), NoRoom>
-    ensures { OnOk result (PrintsObject printer.old printer.new (spec.ignored_members line why)) }
+fn print_ignored(lines: &mut LineWriter, line: u32, why: Why) -> Result<(), NoRoom>
+    ensures { OnOk result (PrintsObject lines.old lines.new (spec.ignored_members line why)) }
 {
-    printer.begin()?;
-    printer.count("line", line)?;
-    printer.text("out", "ignored")?;
-    printer.text("why", why.as_str())?;
-    printer.end()?;
+    lines.begin()?;
+    lines.count("line", line)?;
+    lines.word("out", "ignored")?;
+    lines.text("why", why.as_str())?;
+    lines.end()?;
     Ok(())
 }
 
-fn print_record(alloc: Global, printer: &mut Printer, out: &Out) -> Result<(), NoRoom>
-    ensures { OnOk result (PrintsObject printer.old printer.new (spec.record_members out.now)) }
+/// Writes the object of a record.
+pub fn print_record(alloc: Global, lines: &mut LineWriter, out: &Out) -> Result<(), NoRoom>
+    ensures { OnOk result (PrintsObject lines.old lines.new (spec.record_members out.now)) }
 {
     match out {
         Out::Request {
@@ -112,7 +123,7 @@ fn print_record(alloc: Global, printer: &mut Printer, out: &Out) -> Result<(), N
             bytes,
         } => print_request(
             alloc,
-            printer,
+            lines,
             *line,
             *call,
             *provider,
@@ -124,31 +135,20 @@ fn print_record(alloc: Global, printer: &mut Printer, out: &Out) -> Result<(), N
             call,
             provider,
             failure,
-        } => print_dropped(printer, *line, *call, *provider, *failure),
-        Out::Dialog { line, call, dialog } => print_dialog(printer, *line, *call, dialog.get()),
+        } => print_dropped(lines, *line, *call, *provider, *failure),
+        Out::Dialog { line, call, dialog } => print_dialog(lines, *line, *call, dialog.get()),
         Out::Window {
             line,
             call,
             provider,
             url,
-        } => print_window(printer, *line, *call, *provider, url.as_str()),
+        } => print_window(lines, *line, *call, *provider, url.as_str()),
         Out::Answer {
             line,
             call,
             page,
             finish,
-        } => print_answer(printer, *line, *call, *page, finish),
-        Out::Ignored { line, why } => print_ignored(printer, *line, *why),
+        } => print_answer(lines, *line, *call, *page, finish),
+        Out::Ignored { line, why } => print_ignored(lines, *line, *why),
     }
-}
-
-/// Appends the line of a record: the compact JSON text of its object, members in byte order of their names, and LF (this
-/// profile's own). On want of memory the text is unchanged.
-pub fn print(alloc: Global, out: &Out, text: &mut Vec<u8>) -> Result<(), NoRoom>
-    ensures ok { OnOk result (text.new.items ≡ text.old.items ++ record_line out.now) }
-    ensures err { OnErr result (text.new.items ≡ text.old.items) }
-{
-    let mut printer = Printer::new(alloc)?;
-    print_record(alloc, &mut printer, out)?;
-    printer.append_line(text)
 }

@@ -1,5 +1,5 @@
 -- The field that stores a cookie again, and the URL that it comes from.
-use Rattle.std.specs.Prelude.{ℕ, ◌-◌, Bool, true, false, ◌==◌, List, [], ◌∷◌, ◌++◌, codes, decimal, Option, Some, None, if◌then◌else◌}
+use Rattle.std.specs.Prelude.{ℕ, ◌-◌, Bool, true, false, ◌==◌, List, [], ◌++◌, codes, decimal, Option, Some, None, if◌then◌else◌}
 use Rattle.std.specs.List.{list_any}
 use Rattle.fed_cookie.specs.declared.same_site.SameSite.{SameSite}
 use Rattle.fed_cookie.specs.declared.same_site.SameSite.TheVariants.{Strict, Lax, NoLimit}

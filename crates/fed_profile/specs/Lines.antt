@@ -1,5 +1,5 @@
 -- The lines of a saved session.
-use Rattle.std.specs.Prelude.{ℕ, List, [], ◌∷◌, ◌++◌, map, flat_map, codes, Option, Some, option_map}
+use Rattle.std.specs.Prelude.{ℕ, List, [], ◌∷◌, ◌++◌, flat_map, codes, Some, option_map}
 use Rattle.serde_json.specs.Data.{string, object, Members}
 use Rattle.serde_json.specs.Written.{compact_text}
 use Rattle.fed_origin.specs.declared.origin.Origin.{Origin}

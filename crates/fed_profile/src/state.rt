@@ -15,9 +15,7 @@ ghost use Rattle.fed_profile.specs.WalkView as spec;
 
 use crate::object::header_object;
 use crate::reading::is_header;
-use crate::walk::{
-    Walk, line_from, write_all_kept, write_cookies, write_flags, write_logins, write_pages,
-};
+use crate::walk::{Walk, line_from, write_each};
 use fed_io::{Bytes, NoRoom};
 use fed_origin::Stage;
 use fed_session::{Session, View};
@@ -64,7 +62,7 @@ fn write_items(
 ) -> Result<Walk, NoRoom>
     ensures { IfOk result (Walked rules.now view.entry.now.now (items_of view.entry.now) from text.old.items text.new.items) }
 {
-    match write_logins(alloc, rules, view.now, text, view.login.as_slice(), from)? {
+    match write_each(alloc, rules, view.now, text, view.login.as_slice(), from)? {
         Walk::Lost(place) => Ok(Walk::Lost(place)),
         Walk::On(next) => {
             let walk = write_from_kept(alloc, rules, text, view, next)?;
@@ -83,7 +81,7 @@ fn write_from_kept(
 ) -> Result<Walk, NoRoom>
     ensures { IfOk result (Walked rules.now view.entry.now.now (spec.from_kept view.entry.now) from text.old.items text.new.items) }
 {
-    match write_all_kept(alloc, rules, view.now, text, view.kept.as_slice(), from)? {
+    match write_each(alloc, rules, view.now, text, view.kept.as_slice(), from)? {
         Walk::Lost(place) => Ok(Walk::Lost(place)),
         Walk::On(next) => {
             let walk = write_from_flags(alloc, rules, text, view, next)?;
@@ -102,7 +100,7 @@ fn write_from_flags(
 ) -> Result<Walk, NoRoom>
     ensures { IfOk result (Walked rules.now view.entry.now.now (spec.from_flags view.entry.now) from text.old.items text.new.items) }
 {
-    match write_flags(alloc, rules, view.now, text, view.silent.as_slice(), from)? {
+    match write_each(alloc, rules, view.now, text, view.silent.as_slice(), from)? {
         Walk::Lost(place) => Ok(Walk::Lost(place)),
         Walk::On(next) => {
             let walk = write_from_cookies(alloc, rules, text, view, next)?;
@@ -121,10 +119,10 @@ fn write_from_cookies(
 ) -> Result<Walk, NoRoom>
     ensures { IfOk result (Walked rules.now view.entry.now.now (spec.from_cookies view.entry.now) from text.old.items text.new.items) }
 {
-    match write_cookies(alloc, rules, view.now, text, view.cookies.as_slice(), from)? {
+    match write_each(alloc, rules, view.now, text, view.cookies.as_slice(), from)? {
         Walk::Lost(place) => Ok(Walk::Lost(place)),
         Walk::On(next) => {
-            let walk = write_pages(alloc, rules, view.now, text, view.pages.as_slice(), next)?;
+            let walk = write_each(alloc, rules, view.now, text, view.pages.as_slice(), next)?;
             Ok(walk)
         }
     }

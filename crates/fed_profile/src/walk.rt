@@ -2,7 +2,7 @@
 ghost use Rattle.std.specs.Prelude.{◌≡◌, ◌++◌, ◌<◌, ◌-◌, ◌+◌, ◌↔◌, IsTrue, IfOk, OnOk, map, length, take, drop, option_and_then};
 ghost use Rattle.fed_print.specs.Lines.{line_of};
 ghost use Rattle.fed_print.specs.Object.{members_of};
-ghost use Rattle.fed_profile.specs.Item.{LoginItem, KeptItem, FlagItem, CookieItem, PageItem, item_of, item_in};
+ghost use Rattle.fed_profile.specs.Item.{Item, LoginItem, KeptItem, FlagItem, CookieItem, PageItem, item_of, item_in};
 ghost use Rattle.fed_profile.specs.Lines.{item_members, bare_line};
 ghost use Rattle.fed_profile.specs.Restores.{Restores};
 ghost use Rattle.fed_profile.specs.Walk.{Walked};
@@ -143,114 +143,122 @@ fn write_page(
     Ok(is_page(&event, page, origin))
 }
 
-/// The lines of these, of which the first stands at this place, as far as each restores its item.
-pub fn write_logins(
-    alloc: Global,
-    rules: &Suffixes,
-    now: u64,
-    text: &mut Vec<u8>,
-    logins: &[(Origin, LoginStatus)],
-    from: u32,
-) -> Result<Walk, NoRoom>
-    ensures { IfOk result (Walked rules.now now (map (λ login. LoginItem login.0 login.1) logins.now)
-        from text.old.items text.new.items) }
-{
-    let mut place = from;
-    for login in logins {
-        let same = write_login(alloc, rules, now, text, &login.0, login.1)?;
-        if !same {
-            return Ok(Walk::Lost(place));
-        }
-        let next = next_place(place)?;
-        place = next;
+/// What has a line of its own.
+pub trait Lined {
+    // The item that it is.
+    ghost item: { Self → Item };
+
+    /// Writes its line, and answers whether the line restores it.
+    fn write(
+        &self,
+        alloc: Global,
+        rules: &Suffixes,
+        now: u64,
+        text: &mut Vec<u8>,
+    ) -> Result<bool, NoRoom>
+        ensures text { OnOk result (text.new.items ≡ text.old.items ++ line_of (item_members now (item self.now))) }
+        ensures restores { IfOk result (λ same. IsTrue same ↔ Restores rules.now now (item self.now)) };
+}
+
+impl Lined for (Origin, LoginStatus) {
+    ghost item = { λ login. LoginItem login.0 login.1 };
+
+    fn write(
+        &self,
+        alloc: Global,
+        rules: &Suffixes,
+        now: u64,
+        text: &mut Vec<u8>,
+    ) -> Result<bool, NoRoom>
+        ensures text { OnOk result (text.new.items ≡ text.old.items ++ line_of (item_members now (LoginItem self.now.0 self.now.1))) }
+        ensures restores { IfOk result (λ same. IsTrue same ↔ Restores rules.now now (LoginItem self.now.0 self.now.1)) }
+    {
+        write_login(alloc, rules, now, text, &self.0, self.1)
     }
-    Ok(Walk::On(place))
+}
+
+impl Lined for Triple {
+    ghost item = { KeptItem };
+
+    fn write(
+        &self,
+        alloc: Global,
+        rules: &Suffixes,
+        now: u64,
+        text: &mut Vec<u8>,
+    ) -> Result<bool, NoRoom>
+        ensures text { OnOk result (text.new.items ≡ text.old.items ++ line_of (item_members now (KeptItem self.now))) }
+        ensures restores { IfOk result (λ same. IsTrue same ↔ Restores rules.now now (KeptItem self.now)) }
+    {
+        write_kept(alloc, rules, now, text, self)
+    }
+}
+
+impl Lined for Origin {
+    ghost item = { FlagItem };
+
+    fn write(
+        &self,
+        alloc: Global,
+        rules: &Suffixes,
+        now: u64,
+        text: &mut Vec<u8>,
+    ) -> Result<bool, NoRoom>
+        ensures text { OnOk result (text.new.items ≡ text.old.items ++ line_of (item_members now (FlagItem self.now))) }
+        ensures restores { IfOk result (λ same. IsTrue same ↔ Restores rules.now now (FlagItem self.now)) }
+    {
+        write_flag(alloc, rules, now, text, self)
+    }
+}
+
+impl Lined for Cookie {
+    ghost item = { CookieItem };
+
+    fn write(
+        &self,
+        alloc: Global,
+        rules: &Suffixes,
+        now: u64,
+        text: &mut Vec<u8>,
+    ) -> Result<bool, NoRoom>
+        ensures text { OnOk result (text.new.items ≡ text.old.items ++ line_of (item_members now (CookieItem self.now))) }
+        ensures restores { IfOk result (λ same. IsTrue same ↔ Restores rules.now now (CookieItem self.now)) }
+    {
+        write_cookie(alloc, rules, now, text, self)
+    }
+}
+
+impl Lined for (u32, Origin) {
+    ghost item = { λ page. PageItem page.0 page.1 };
+
+    fn write(
+        &self,
+        alloc: Global,
+        rules: &Suffixes,
+        now: u64,
+        text: &mut Vec<u8>,
+    ) -> Result<bool, NoRoom>
+        ensures text { OnOk result (text.new.items ≡ text.old.items ++ line_of (item_members now (PageItem self.now.0 self.now.1))) }
+        ensures restores { IfOk result (λ same. IsTrue same ↔ Restores rules.now now (PageItem self.now.0 self.now.1)) }
+    {
+        write_page(alloc, rules, now, text, self.0, &self.1)
+    }
 }
 
 /// The lines of these, of which the first stands at this place, as far as each restores its item.
-pub fn write_all_kept(
+pub fn write_each<I: Lined>(
     alloc: Global,
     rules: &Suffixes,
     now: u64,
     text: &mut Vec<u8>,
-    kept: &[Triple],
+    items: &[I],
     from: u32,
 ) -> Result<Walk, NoRoom>
-    ensures { IfOk result (Walked rules.now now (map KeptItem kept.now) from text.old.items text.new.items) }
+    ensures { IfOk result (Walked rules.now now (map I.item items.now) from text.old.items text.new.items) }
 {
     let mut place = from;
-    for triple in kept {
-        let same = write_kept(alloc, rules, now, text, triple)?;
-        if !same {
-            return Ok(Walk::Lost(place));
-        }
-        let next = next_place(place)?;
-        place = next;
-    }
-    Ok(Walk::On(place))
-}
-
-/// The lines of these, of which the first stands at this place, as far as each restores its item.
-pub fn write_flags(
-    alloc: Global,
-    rules: &Suffixes,
-    now: u64,
-    text: &mut Vec<u8>,
-    flags: &[Origin],
-    from: u32,
-) -> Result<Walk, NoRoom>
-    ensures { IfOk result (Walked rules.now now (map FlagItem flags.now) from text.old.items text.new.items) }
-{
-    let mut place = from;
-    for origin in flags {
-        let same = write_flag(alloc, rules, now, text, origin)?;
-        if !same {
-            return Ok(Walk::Lost(place));
-        }
-        let next = next_place(place)?;
-        place = next;
-    }
-    Ok(Walk::On(place))
-}
-
-/// The lines of these, of which the first stands at this place, as far as each restores its item.
-pub fn write_cookies(
-    alloc: Global,
-    rules: &Suffixes,
-    now: u64,
-    text: &mut Vec<u8>,
-    cookies: &[Cookie],
-    from: u32,
-) -> Result<Walk, NoRoom>
-    ensures { IfOk result (Walked rules.now now (map CookieItem cookies.now) from text.old.items text.new.items) }
-{
-    let mut place = from;
-    for cookie in cookies {
-        let same = write_cookie(alloc, rules, now, text, cookie)?;
-        if !same {
-            return Ok(Walk::Lost(place));
-        }
-        let next = next_place(place)?;
-        place = next;
-    }
-    Ok(Walk::On(place))
-}
-
-/// The lines of these, of which the first stands at this place, as far as each restores its item.
-pub fn write_pages(
-    alloc: Global,
-    rules: &Suffixes,
-    now: u64,
-    text: &mut Vec<u8>,
-    pages: &[(u32, Origin)],
-    from: u32,
-) -> Result<Walk, NoRoom>
-    ensures { IfOk result (Walked rules.now now (map (λ page. PageItem page.0 page.1) pages.now)
-        from text.old.items text.new.items) }
-{
-    let mut place = from;
-    for page in pages {
-        let same = write_page(alloc, rules, now, text, page.0, &page.1)?;
+    for item in items {
+        let same = item.write(alloc, rules, now, text)?;
         if !same {
             return Ok(Walk::Lost(place));
         }

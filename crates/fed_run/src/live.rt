@@ -143,6 +143,7 @@ impl Live {
         requires { self.old.end ≡ None → (bytes : List ℕ) × Goes self.old bytes }
         ensures fed { (bytes : List ℕ) → self.old.end ≡ None → Goes self.old bytes → FedBy self.new.end self.new bytes }
         ensures over { IsSome self.old.end → self.new ≡ self.old }
+        ensures ended { IsSome self.new.end }
     {
         if self.end.is_some() {
             return;

@@ -1,16 +1,12 @@
 -- For private clauses: lines as JSON writers give them, with no white space, the shortest escapes in the bytes of replies and none
 -- elsewhere, and their members in the order of the profile's table.
-use Rattle.std.specs.Prelude.{ℕ, nat_lt, ◌==◌, ◌||◌, not, Bool, List, ◌++◌, codes, decimal, Option, Some, None, Result, Ok}
+use Rattle.std.specs.Prelude.{ℕ, List, ◌++◌, codes, decimal, Option, Some, None, Result, Ok}
 use Rattle.fed_script.specs.declared.cause.LineCause.{LineCause}
 use Rattle.fed_script.specs.declared.event.Event.{Event}
 use Rattle.fed_script.specs.declared.event.Event.TheVariants as events
 use Rattle.fed_script.specs.declared.plain.PlainLine.{PlainLine}
 use Rattle.fed_script.specs.declared.plain.PlainLine.TheVariants.{Disconnect, ClosePage, GoOn}
 use Rattle.fed_script.specs.Disconnect.{disconnect_by, disconnect_seen}
-
--- a byte that stands for itself in a text of JSON
-abbrev pub is_plain_byte : ℕ → Bool
-is_plain_byte b = not ((b == 34) || ((b == 92) || nat_lt b 32))
 
 -- a load up to its URL, and the rest of the line from the quote after it
 unfoldable pub load_text : ℕ → List ℕ → List ℕ → List ℕ

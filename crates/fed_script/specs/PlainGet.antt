@@ -8,7 +8,7 @@ use Rattle.fed_origin.specs.declared.options.Mode.TheVariants.{Passive, Active}
 use Rattle.fed_script.specs.declared.plain_get.PlainEntries.{PlainEntries}
 use Rattle.fed_script.specs.declared.plain_get.PlainGet.{PlainGet}
 use Rattle.fed_script.specs.Get.{ProviderMembers, GetMembers, provider_seen}
-use Rattle.fed_script.specs.Plain.{is_plain_byte}
+use Rattle.json.specs.Run.{is_plain}
 
 -- a text under a name, where it is there; the name stands with the quote that ends the text before it
 abbrev pub text_under : List ℕ → Option (List ℕ) → List ℕ → List ℕ
@@ -52,7 +52,7 @@ get_text page call config client rest =
 
 -- a text has no escape
 abbrev pub IsPlain : List ℕ → Type 0
-IsPlain text = (list_all is_plain_byte text ≡ true) × IsUtf8 text
+IsPlain text = (list_all is_plain text ≡ true) × IsUtf8 text
 
 abbrev pub IsPlainIfAny : Option (List ℕ) → Type 0
 IsPlainIfAny None = ⊤

@@ -6,7 +6,6 @@ mod cause;
 mod choose;
 mod config;
 mod disconnect;
-mod escaped;
 mod event;
 mod get;
 mod have;

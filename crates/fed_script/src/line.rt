@@ -25,7 +25,7 @@ use crate::single::{
     abort, at, cancel, close_page, go_on, idp_close, prevent, shut_window, sign_in,
 };
 use crate::status::set_status;
-use crate::texts::{LastTexts, text_bytes};
+use crate::texts::text_bytes;
 use crate::used::Used;
 use fed_io::{Fault, NoRoom};
 use json::Scratch;
@@ -78,7 +78,6 @@ fn event_of_kind(
 pub(crate) struct LineMemory {
     scratch: Option<Box<Scratch>>,
     config: KeptConfigs,
-    texts: LastTexts,
 }
 
 // Written out, so that one function lets it go wherever it ends.
@@ -87,7 +86,6 @@ impl Drop for LineMemory {
         let LineMemory {
             scratch: _,
             config: _,
-            texts: _,
         } = self;
     }
 }
@@ -98,7 +96,6 @@ impl LineMemory {
         LineMemory {
             scratch: None,
             config: KeptConfigs::none(alloc),
-            texts: LastTexts::none(),
         }
     }
 }
@@ -130,7 +127,7 @@ fn reply_named(
     let Some((call, provider, kind, escaped)) = reply_line(line) else {
         return members_named(alloc, memory, line);
     };
-    match memory.texts.read(alloc, kind, escaped) {
+    match text_bytes(alloc, escaped) {
         Ok(Some(raw)) => Ok(Event::Reply {
             call,
             provider,

@@ -5,14 +5,14 @@ ghost use Rattle.std.specs.Prelude.{◌≡◌, ◌<◌, ◌+◌, ◌++◌, ℕ, 
 ghost use Rattle.std.specs.List.{list_all};
 ghost use Rattle.fed_script.specs.declared.event.Event.TheVariants as events;
 ghost use Rattle.json.specs.Print.{escape};
+ghost use Rattle.json.specs.Run.{is_plain};
 ghost use Rattle.fed_script.specs.Line.{event_named};
 ghost use Rattle.fed_script.specs.Load.{load_by};
 ghost use Rattle.fed_script.specs.Plain as spec;
-ghost use Rattle.fed_script.specs.Plain.{is_plain_byte};
 
 use crate::disconnect::DisconnectMembers;
-use crate::escaped::is_plain;
 use crate::texts::last_text;
+use fed_escape::stands_for_itself;
 use fed_origin::ReplyKind;
 use memchr::memchr;
 use std::str;
@@ -92,12 +92,12 @@ fn quote_in(rest: &[u8]) -> Option<usize>
 
 // Whether all bytes stand for themselves. It looks at each, since so several are looked at at once.
 fn are_plain(text: &[u8]) -> bool
-    ensures { IsTrue result → list_all is_plain_byte text.now ≡ true }
+    ensures { IsTrue result → list_all is_plain text.now ≡ true }
 {
     let mut plain = true;
     let mut len = 0;
     while len < text.len() {
-        plain = plain & is_plain(text[len]);
+        plain = plain & stands_for_itself(text[len]);
         len += 1;
     }
     plain
@@ -106,7 +106,7 @@ fn are_plain(text: &[u8]) -> bool
 /// The text up to the quote that ends it, and what is left from the quote on.
 pub(crate) fn text(rest: &[u8]) -> Option<(&str, &[u8])>
     ensures { IfSome result (λ found. (rest.now ≡ found.0.now ++ found.1.now)
-        × ((list_all is_plain_byte found.0.now ≡ true) × IsUtf8 found.0.now)) }
+        × ((list_all is_plain found.0.now ≡ true) × IsUtf8 found.0.now)) }
 {
     let (text, left) = rest.split_at(quote_in(rest)?);
     if !are_plain(text) {
@@ -121,7 +121,7 @@ pub(crate) fn text(rest: &[u8]) -> Option<(&str, &[u8])>
 // The page and the URL of a load, and what is left from the quote after it.
 fn load_front(line: &[u8]) -> Option<(u32, &str, &[u8])>
     ensures text { IfSome result (λ found. line.now ≡ spec.load_text found.0 found.1.now found.2.now) }
-    ensures plain { IfSome result (λ found. (list_all is_plain_byte found.1.now ≡ true) × IsUtf8 found.1.now) }
+    ensures plain { IfSome result (λ found. (list_all is_plain found.1.now ≡ true) × IsUtf8 found.1.now) }
 {
     let rest = after(line, b"{\"do\":\"load\",\"page\":")?;
     let (page, rest) = number(rest)?;
@@ -158,7 +158,7 @@ fn place(rest: &[u8]) -> Option<(Option<u32>, &[u8])>
 // The call, the provider's place and the kind of a reply, and what is left from its text on.
 fn reply_front(line: &[u8]) -> Option<(u32, Option<u32>, &str, &[u8])>
     ensures text { IfSome result (λ found. line.now ≡ spec.reply_text found.0 found.1 found.2.now found.3.now) }
-    ensures plain { IfSome result (λ found. (list_all is_plain_byte found.2.now ≡ true) × IsUtf8 found.2.now) }
+    ensures plain { IfSome result (λ found. (list_all is_plain found.2.now ≡ true) × IsUtf8 found.2.now) }
 {
     let rest = after(line, b"{\"do\":\"reply\",\"call\":")?;
     let (call, rest) = number(rest)?;
@@ -201,8 +201,8 @@ fn go_on_line(line: &[u8]) -> Option<u32>
 // The texts of a disconnect call.
 fn disconnect_texts(rest: &[u8]) -> Option<(&str, &str, &str)>
     ensures text { IfSome result (λ found. rest.now ≡ spec.disconnect_texts found.0.now found.1.now found.2.now) }
-    ensures plain { IfSome result (λ found. (list_all is_plain_byte found.0.now ≡ true)
-        × ((list_all is_plain_byte found.1.now ≡ true) × (list_all is_plain_byte found.2.now ≡ true))) }
+    ensures plain { IfSome result (λ found. (list_all is_plain found.0.now ≡ true)
+        × ((list_all is_plain found.1.now ≡ true) × (list_all is_plain found.2.now ≡ true))) }
     ensures utf8 { IfSome result (λ found. IsUtf8 found.0.now × (IsUtf8 found.1.now × IsUtf8 found.2.now)) }
 {
     let rest = after(rest, b",\"config\":\"")?;
@@ -219,8 +219,8 @@ fn disconnect_texts(rest: &[u8]) -> Option<(&str, &str, &str)>
 fn disconnect_line(line: &[u8]) -> Option<(u32, u32, (&str, &str, &str))>
     ensures text { IfSome result (λ found.
         line.now ≡ spec.disconnect_text found.0 found.1 found.2.0.now found.2.1.now found.2.2.now) }
-    ensures plain { IfSome result (λ found. (list_all is_plain_byte found.2.0.now ≡ true)
-        × ((list_all is_plain_byte found.2.1.now ≡ true) × (list_all is_plain_byte found.2.2.now ≡ true))) }
+    ensures plain { IfSome result (λ found. (list_all is_plain found.2.0.now ≡ true)
+        × ((list_all is_plain found.2.1.now ≡ true) × (list_all is_plain found.2.2.now ≡ true))) }
     ensures utf8 { IfSome result (λ found. IsUtf8 found.2.0.now × (IsUtf8 found.2.1.now × IsUtf8 found.2.2.now)) }
 {
     let rest = after(line, b"{\"do\":\"disconnect\",\"page\":")?;

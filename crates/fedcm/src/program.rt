@@ -1,9 +1,10 @@
 //! The program over the process's words, its standard input and its standard output.
 ghost use Rattle.std.specs.Prelude.{◌≡◌, ◌<◌};
 
-use fed_io::{NoRoom, StdSink, StdSource, Steps, Text};
-use fed_run::{Status, fedcm};
+use fed_io::{NoRoom, Steps, Text};
+use fed_run::{Output, Status, TiedSink, TiedSource, close, fedcm};
 use std::alloc::Global;
+use std::cell::RefCell;
 use std::env::{self, Args};
 use std::io;
 use std::sync::ledger::{Blank, Ledger};
@@ -36,8 +37,10 @@ pub fn program<L: Ledger>(rt: &HostRuntime, blank: Blank) -> Status
     let Ok(words) = words_of(alloc, args) else {
         return Status::NoRoom;
     };
-    let mut source = StdSource::new(rt.stdin());
-    let mut sink = StdSink::new(rt.stdout());
+    let output = RefCell::new(Output::new(alloc, rt.stdout()));
+    let mut source = TiedSource::new(rt.stdin(), &output);
+    let mut sink = TiedSink::new(&output);
     let mut steps: Steps<L> = Steps::new(blank);
-    fedcm(alloc, &words, &mut source, &mut sink, &mut steps)
+    let status = fedcm(alloc, &words, &mut source, &mut sink, &mut steps);
+    close(&output, status)
 }

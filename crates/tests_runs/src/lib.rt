@@ -32,6 +32,8 @@ mod several;
 #[cfg(test)]
 mod slices;
 #[cfg(test)]
+mod tied;
+#[cfg(test)]
 mod tokens;
 #[cfg(test)]
 mod twins;

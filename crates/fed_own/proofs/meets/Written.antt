@@ -1,8 +1,7 @@
 -- The own text is the one that a run writes.
-use Rattle.std.proofs.Common.{◌≡◌, ℕ, List, [], ◌∷◌, ◌++◌, Ok, refl, sym, ap, ◌∙◌, append_assoc}
+use Rattle.std.proofs.Common.{◌≡◌, List, [], ◌∷◌, ◌++◌, refl, sym, ap, ◌∙◌, append_assoc}
 use Rattle.std.specs.Prelude.{length}
 use Rattle.fed_print.specs.Lines.{line_of, record_line, text_of}
-use Rattle.fed_script.specs.Script.{Script, script_of}
 use Rattle.fed_trace.specs.declared.out.Out.{Out}
 use Rattle.fed_trace.specs.OfScript.{trace_of}
 use Rattle.fed_trace.specs.Records.{records, records_in}

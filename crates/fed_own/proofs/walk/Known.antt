@@ -37,7 +37,7 @@ use Rattle.fed_call.specs.declared.progress.Progress.TheVariants as progress_is
 use Rattle.fed_call.specs.Accounts.{Offered, Shortlist, accounts_of, all_offered, offered_by, offered_of, provider_at, reselected}
 use Rattle.fed_call.specs.Accounts.{reselected_of}
 use Rattle.fed_call.specs.Facts.{Facts, Conclusion, Awaits, NoneLeft, Reselects, NoneSilent, Offers, Prompts, by_awaited, by_number}
-use Rattle.fed_call.specs.Facts.{by_offered, by_reselected, came_at, conclusion_of, found_offered, is_named, is_single, none_left}
+use Rattle.fed_call.specs.Facts.{by_offered, came_at, conclusion_of, found_offered, is_named, is_single, none_left}
 use Rattle.fed_call.specs.Facts.{progress_at, shortlist}
 use Rattle.fed_call.specs.Facts.{shortlists, unless_silent, with_came, with_choice, with_conclusion, with_none_fitting, with_progress}
 use Rattle.fed_call.specs.Facts.{with_reply, with_settled}

@@ -18,7 +18,6 @@ use Rattle.fed_script.specs.declared.cause.MemberName.{MemberName}
 use Rattle.fed_script.specs.declared.cause.MemberName.TheVariants as names
 use Rattle.fed_script.specs.declared.event.Event.{Event}
 use Rattle.fed_script.specs.declared.event.Event.TheVariants as events
-use Rattle.fed_script.specs.declared.event.Event.TheVariants.{Load}
 use Rattle.fed_script.specs.declared.event.Header.{Header}
 use Rattle.fed_script.specs.declared.event.Numbered.{Numbered}
 use Rattle.fed_script.specs.Cause.{name_text}

@@ -1,5 +1,5 @@
 -- What a line is read as by itself, and after others.
-use Rattle.std.proofs.Common.{◌≡◌, ℕ, List, Option, Some, None, Result, Ok, Err, refl, sym, ap, ◌∙◌}
+use Rattle.std.proofs.Common.{◌≡◌, ℕ, List, Some, None, Result, Ok, Err, refl, sym, ap}
 use Rattle.std.specs.Prelude.{⊤}
 use Rattle.fed_suffix.specs.Rule.{RuleSet}
 use Rattle.fed_script.specs.declared.cause.LineCause.{LineCause}

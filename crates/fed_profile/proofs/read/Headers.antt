@@ -1,5 +1,5 @@
 -- Whether a line is read as a header.
-use Rattle.std.proofs.Common.{◌≡◌, ◌↔◌, ℕ, Bool, true, false, Result, Ok, Err, IsTrue, refl, sym, ap, ◌∙◌}
+use Rattle.std.proofs.Common.{◌≡◌, ◌↔◌, ℕ, true, false, Result, Ok, Err, IsTrue, sym, ap, ◌∙◌}
 use Rattle.fed_suffix.specs.Rule.{RuleSet}
 use Rattle.fed_script.specs.declared.cause.LineCause.{LineCause}
 use Rattle.fed_script.specs.declared.event.Header.{Header}

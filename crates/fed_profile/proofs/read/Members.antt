@@ -1,7 +1,7 @@
 -- The members of the line of a cookie.
 use Rattle.std.proofs.Common.{◌≡◌, ℕ, List, [], ◌∷◌, Option, Some, None, refl}
 use Rattle.std.specs.Prelude.{codes, option_map}
-use Rattle.serde_json.specs.Data.{string, Members}
+use Rattle.serde_json.specs.Data.{string}
 use Rattle.fed_print.specs.Objects.{present, put_if}
 use Rattle.fed_print.specs.Records.{ascii_text, bytes_member}
 use Rattle.fed_profile.specs.Lines.{says, cookie_members, url_members}

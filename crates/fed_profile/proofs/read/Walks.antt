@@ -1,15 +1,15 @@
 -- Lines that are written and read back one after another, and what the whole is saved as.
-use Rattle.std.proofs.Common.{◌≡◌, ℕ, zero, suc, ◌+◌, ◌<◌, ◌≤◌, List, [], ◌∷◌, ◌++◌, map, length, drop, get_or, Option, Some, None}
+use Rattle.std.proofs.Common.{◌≡◌, ℕ, zero, suc, ◌+◌, ◌<◌, ◌≤◌, List, [], ◌∷◌, ◌++◌, map, length, drop, get_or}
 use Rattle.std.proofs.Common.{refl, sym, ap, ap₂, subst, ◌∙◌, append_assoc, append-nil, length-append, drop-cons, add-one, arith}
 use Rattle.std.proofs.lemmas.List.{drop_all}
-use Rattle.std.specs.Prelude.{slice_get, IfSome, ⊤}
+use Rattle.std.specs.Prelude.{slice_get, IfSome}
 use Rattle.std.specs.List.{AllByRecursion}
 use Rattle.fed_suffix.specs.Rule.{RuleSet}
 use Rattle.fed_print.specs.Lines.{line_of}
 use Rattle.fed_profile.specs.Item.{Item}
 use Rattle.fed_profile.specs.Lines.{item_members, item_lines}
 use Rattle.fed_profile.specs.Restores.{Restores}
-use Rattle.fed_profile.specs.Walk.{AllGood, IsLost, Walked}
+use Rattle.fed_profile.specs.Walk.{Walked}
 use Rattle.fed_profile.specs.declared.walk.Walk.{Walk}
 use Rattle.fed_profile.specs.declared.walk.Walk.TheVariants.{On, Lost}
 

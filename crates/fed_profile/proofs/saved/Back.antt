@@ -1,9 +1,9 @@
 -- What is brought back is saved as the same lines.
-use Rattle.std.proofs.Common.{◌≡◌, ℕ, zero, suc, ◌-◌, ◌≤◌, Bool, true, false, nat_lt, cond, List, [], ◌∷◌, ◌++◌, map, Option, Some, None}
+use Rattle.std.proofs.Common.{◌≡◌, ℕ, zero, suc, ◌-◌, Bool, true, false, cond, List, [], ◌∷◌, ◌++◌, map, Option, Some, None}
 use Rattle.std.proofs.Common.{Ok}
 use Rattle.std.proofs.Common.{refl, sym, ap, ap₂, subst, ◌∙◌, arith}
 use Rattle.std.proofs.lemmas.Bool.Decides.{nat_tests}
-use Rattle.std.specs.Prelude.{slice_get, IfSome, decimal, codes, ⊤}
+use Rattle.std.specs.Prelude.{slice_get, IfSome, decimal, codes}
 use Rattle.std.specs.List.{AllZip}
 use Rattle.std.specs.Map.{keys_of}
 use Rattle.fed_origin.specs.declared.stage.Stage.{Stage}
@@ -11,9 +11,8 @@ use Rattle.fed_suffix.specs.Rule.{RuleSet}
 use Rattle.fed_jar.specs.Changes.{standing as jar_standing}
 use Rattle.fed_jar.specs.Cookie.{StoredCookie}
 use Rattle.fed_jar.specs.Send.{is_fresh}
-use Rattle.fed_script.specs.declared.event.Event.{Event}
 use Rattle.fed_script.specs.declared.event.Header.{Header}
-use Rattle.fed_script.specs.Script.{Script, script_of, script_of_lines, lines_of}
+use Rattle.fed_script.specs.Script.{Script, script_of, script_of_lines}
 use Rattle.fed_script.specs.Used.{unused}
 use Rattle.fed_print.specs.Lines.{line_of}
 use Rattle.fed_session.specs.declared.view.View.{View}
@@ -36,7 +35,7 @@ use Rattle.fed_profile.proofs.saved.Continues.{events_all, none_pending, items_s
 use Rattle.fed_profile.proofs.saved.Goes.{brought, all_again, distinct_cookies, stands_anew, base}
 use Rattle.fed_profile.proofs.saved.Goes.{same_logins, same_kept, same_flags, same_pages, same_now, its_changes}
 use Rattle.fed_profile.proofs.saved.Restore.{lines_restore_lem}
-use Rattle.fed_profile.proofs.saved.Script.{ReadsTo, reads_to, saved_lines, first_of, line_at, good_events}
+use Rattle.fed_profile.proofs.saved.Script.{reads_to, saved_lines, first_of, line_at, good_events}
 
 -- ---- an item that was brought back
 

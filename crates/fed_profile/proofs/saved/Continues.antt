@@ -1,28 +1,26 @@
 -- The lines that are saved bring back what stands, so further events do after them what they would have done.
-use Rattle.std.proofs.Common.{◌≡◌, ℕ, zero, suc, List, [], ◌∷◌, ◌++◌, map, Option, Some, None, Result, Ok, Err}
+use Rattle.std.proofs.Common.{◌≡◌, ℕ, suc, List, [], ◌∷◌, ◌++◌, map, Option, Some, None, Result, Ok, Err}
 use Rattle.std.proofs.Common.{refl, sym, ap, ap₂, subst, ◌∙◌}
-use Rattle.std.specs.Prelude.{flat_map, slice_get, IfSome, ⊤}
-use Rattle.std.specs.List.{AllZip, AllByRecursion}
+use Rattle.std.specs.Prelude.{slice_get, IfSome}
+use Rattle.std.specs.List.{AllZip}
 use Rattle.fed_origin.specs.declared.stage.Stage.{Stage}
 use Rattle.fed_suffix.specs.Rule.{RuleSet}
 use Rattle.fed_print.specs.Lines.{line_of}
 use Rattle.fed_script.specs.declared.cause.LineCause.{LineCause}
 use Rattle.fed_script.specs.declared.event.Event.{Event}
 use Rattle.fed_script.specs.declared.event.Header.{Header}
-use Rattle.fed_script.specs.declared.event.Numbered.{Numbered}
 use Rattle.fed_script.specs.Line.{event_named}
 use Rattle.fed_session.specs.declared.view.View.{View}
 use Rattle.fed_session.specs.Session.{Shows, with_stage}
 use Rattle.fed_trace.specs.Effect.{PendingCall}
 use Rattle.fed_trace.specs.OfScript.{start, with_events}
-use Rattle.fed_trace.specs.Row.{IsRun}
-use Rattle.fed_trace.specs.Trace.{Trace, pending, staged, staged_by, stage_at, now_at, logins, kept, flags, cookies, pages}
-use Rattle.fed_profile.specs.Continues.{ReadAs, Continues, SavedContinues, with_ends}
+use Rattle.fed_trace.specs.Trace.{Trace, pending, staged_by, stage_at, now_at, logins, kept, flags, cookies, pages}
+use Rattle.fed_profile.specs.Continues.{SavedContinues, with_ends}
 use Rattle.fed_profile.specs.Item.{Item, all_items, item_again, item_of, item_read}
 use Rattle.fed_profile.specs.Lines.{header_members, item_members, item_lines, bare_line}
 use Rattle.fed_profile.specs.Restores.{Restores}
 use Rattle.fed_suffix.specs.RulesText.{rules_text}
-use Rattle.fed_profile.specs.Save.{RestoresAt, first_call, items_of, saved_of}
+use Rattle.fed_profile.specs.Save.{first_call, items_of, saved_of}
 use Rattle.fed_profile.specs.Saved.{AreRestored, items_at, events_of}
 use Rattle.fed_profile.proofs.saved.Goes.{saved_goes_on_lem}
 use Rattle.fed_profile.proofs.saved.Restore.{lines_restore_lem}

@@ -1,5 +1,5 @@
 -- Further lines behind a script, and behind the lines that it is saved as.
-use Rattle.std.proofs.Common.{◌≡◌, ℕ, ◌+◌, ◌≤◌, Bool, true, false, cond, nat_eq, nat_lt, not, List, [], ◌∷◌, ◌++◌, map, Option, Some, None}
+use Rattle.std.proofs.Common.{◌≡◌, ℕ, ◌+◌, ◌≤◌, Bool, true, false, cond, nat_eq, nat_lt, not, List, [], ◌∷◌, ◌++◌, None}
 use Rattle.std.proofs.Common.{Result, Ok, Err, refl, sym, ap, ap₂, subst, ◌∙◌, arith}
 use Rattle.std.proofs.lemmas.Bool.Decides.{nat_tests}
 use Rattle.std.specs.Prelude.{fold, ⊤}
@@ -10,7 +10,7 @@ use Rattle.fed_script.specs.declared.event.Event.{Event}
 use Rattle.fed_script.specs.declared.event.Event.TheVariants as events
 use Rattle.fed_script.specs.declared.event.Header.{Header}
 use Rattle.fed_script.specs.declared.event.Numbered.{Numbered}
-use Rattle.fed_script.specs.Line.{header_of, event_named, event_of, allowed}
+use Rattle.fed_script.specs.Line.{event_of, allowed}
 use Rattle.fed_script.specs.Member.{◌>>=◌, unless}
 use Rattle.fed_script.specs.Script.{Script, Events, AreRead, IsRead, is_blank, events_of, after_line, script_of_lines, lines_of}
 use Rattle.fed_script.specs.Used.{UsedState, unused, used_after, calls_after, time_after, is_used, is_late, is_back}
@@ -25,13 +25,13 @@ use Rattle.fed_profile.specs.declared.state.Saved.TheVariants.{Lines}
 use Rattle.fed_profile.specs.Save.{Saves}
 use Rattle.fed_profile.specs.Saved as saved
 use Rattle.fed_profile.specs.Saved.{NamesNone, IsOnward, GoOn, does_after}
-use Rattle.fed_profile.specs.Scripts.{ScriptGoesOn, calls_named, is_call_of}
+use Rattle.fed_profile.specs.Scripts.{ScriptGoesOn, is_call_of}
 use Rattle.fed_profile.proofs.read.Events.{after, names_it}
 use Rattle.fed_profile.proofs.saved.Back.{read_back}
 use Rattle.fed_profile.proofs.saved.Continues.{none_pending}
 use Rattle.fed_profile.proofs.saved.Goes.{saved_goes_on_lem}
 use Rattle.fed_profile.proofs.saved.Restore.{headers}
-use Rattle.fed_profile.proofs.saved.Script.{ReadsTo, reads_to}
+use Rattle.fed_profile.proofs.saved.Script.{reads_to}
 use Rattle.fed_profile.proofs.saved.Times.{time_then}
 
 -- what is used after events

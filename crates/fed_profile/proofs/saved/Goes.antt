@@ -1,45 +1,44 @@
 -- A saved session goes on as the session itself.
-use Rattle.std.proofs.Common.{◌≡◌, ℕ, Bool, true, false, nat_eq, ◌||◌, cond, inl, inr, List, [], ◌∷◌, ◌++◌, map, Option, Some, None, refl}
+use Rattle.std.proofs.Common.{◌≡◌, ℕ, Bool, true, false, nat_eq, cond, inr, List, [], ◌∷◌, ◌++◌, map, Option, Some, None, refl}
 use Rattle.std.proofs.Common.{sym, ap, ap₂, subst, ◌∙◌}
 use Rattle.std.proofs.Common.{arith}
 use Rattle.std.proofs.lemmas.Bool.Decides.{nat_tests}
 use Rattle.std.proofs.lemmas.List.Elements.{filter_map-append}
 use Rattle.std.proofs.lemmas.List.{append-nil}
-use Rattle.std.specs.Prelude.{unwrap_or, option_map, ⊤}
+use Rattle.std.specs.Prelude.{unwrap_or}
 use Rattle.std.specs.Option.{option_or}
-use Rattle.std.specs.Map.{lookup, keys_of}
+use Rattle.std.specs.Map.{lookup}
 use Rattle.std.specs.List.{filter_map, list_any, AllByRecursion, IsDistinct}
 use Rattle.fed_origin.specs.declared.origin.Origin.{Origin}
 use Rattle.fed_origin.specs.declared.status.LoginStatus.{LoginStatus}
 use Rattle.fed_origin.specs.declared.status.Triple.{Triple}
 use Rattle.fed_origin.specs.Origin.{same_origin}
 use Rattle.fed_origin.specs.Status.{same_triple}
-use Rattle.fed_jar.specs.Changes.{CookieChange, Stored, changed_by, standing as jar_standing}
+use Rattle.fed_jar.specs.Changes.{CookieChange, Stored, standing as jar_standing}
 use Rattle.fed_jar.specs.Cookie.{StoredCookie, AreDistinct}
 use Rattle.fed_jar.specs.Send.{is_fresh}
 use Rattle.fed_status.proofs.lists.Same.{same_origin_is, same_origin_self, same_triple_is, same_triple_self}
-use Rattle.fed_script.specs.declared.event.Event.{Event}
 use Rattle.fed_script.specs.declared.event.Numbered.{Numbered}
 use Rattle.fed_trace.specs.Effect.{Effect, Page, Cookie, Login, Kept, Flag, page_change, login_change, kept_change, flag_change}
 use Rattle.fed_trace.specs.Effect.{call_change}
-use Rattle.fed_trace.specs.Effect.{get_change, stage_change, window_change, time_of, cookie_change, begun_by, begins}
-use Rattle.fed_trace.specs.Keyed.{Change, entries_after, says}
-use Rattle.fed_trace.specs.Known.{is_begun, known_in}
+use Rattle.fed_trace.specs.Effect.{get_change, stage_change, window_change, time_of, cookie_change, begun_by}
+use Rattle.fed_trace.specs.Keyed.{Change, entries_after}
+use Rattle.fed_trace.specs.Known.{is_begun}
 use Rattle.fed_trace.specs.OfCall.{call_at}
 use Rattle.fed_trace.specs.Row.{IsRun, effects_of, with_event}
 use Rattle.fed_trace.specs.Trace.{Row, Trace, logins, kept, flags, cookies, pages, pending, gets, now_at, standing, last_value, last_in}
-use Rattle.fed_trace.specs.Trace.{all_said, begun, stage_at, cookie_changes}
+use Rattle.fed_trace.specs.Trace.{all_said, begun, cookie_changes}
 use Rattle.fed_trace.proofs.calls.Pending.{changes_are_said, any_append}
 use Rattle.fed_trace.proofs.effects.Silent.{AllSilent, entries_silent, silent_append, silent_map, said_silent}
 use Rattle.fed_trace.proofs.calls.Gets.{gets_among}
 use Rattle.fed_trace.proofs.keyed.Keyed.{lookup-standing}
 use Rattle.fed_trace.proofs.runs.Gets.{gets_are, unbegun_unknown}
-use Rattle.fed_profile.proofs.seen.Seen.{last_at, last_in-seen, last_value-seen, standing-seen, all_said-seen}
+use Rattle.fed_profile.proofs.seen.Seen.{last_at, last_in-seen, standing-seen, all_said-seen}
 use Rattle.fed_profile.specs.Item.{Item, LoginItem, KeptItem, FlagItem, CookieItem, PageItem, item_again, cookie_again}
 use Rattle.fed_profile.specs.Laws.{SavedGoesOn}
-use Rattle.fed_profile.specs.Saved.{BringsBack, NamesNone, IsOnward, items_at, effect_of, all_done, does_after, GoOn, events_of}
+use Rattle.fed_profile.specs.Saved.{BringsBack, items_at, effect_of, all_done, does_after, GoOn, events_of}
 use Rattle.fed_profile.proofs.saved.Jar.{SameJar, SameUntil, same_self}
-use Rattle.fed_profile.proofs.saved.Same.{SameCall, SameState, effects_same}
+use Rattle.fed_profile.proofs.saved.Same.{SameState, effects_same}
 use Rattle.fed_profile.proofs.saved.Steps.{grow}
 use Rattle.fed_profile.proofs.saved.Base.{distinct_standing, built, skip_front, skip_back, map_keys, distinct_changes, written_anew}
 use Rattle.fed_profile.proofs.saved.Base.{distinct_same}

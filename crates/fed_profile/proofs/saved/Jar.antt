@@ -3,9 +3,9 @@ use Rattle.std.proofs.Common.{◌≡◌, ℕ, ◌+◌, ◌≤◌, Bool, true, fa
 use Rattle.std.proofs.Common.{filter}
 use Rattle.std.proofs.Common.{Option, Some, None, refl, sym, ap, ap₂, subst, ◌∙◌, arith, length}
 use Rattle.std.proofs.lemmas.Bool.Decides.{nat_tests}
-use Rattle.std.specs.Prelude.{if◌then◌else◌, bytes_eq, option_map, ⊤}
+use Rattle.std.specs.Prelude.{option_map}
 use Rattle.std.specs.Option.{option_or}
-use Rattle.std.specs.List.{AllZip, cons_option, list_any}
+use Rattle.std.specs.List.{AllZip, cons_option}
 use Rattle.url.specs.Parts.{Parts}
 use Rattle.fed_origin.specs.WebUrl.{host_of}
 use Rattle.fed_suffix.specs.Rule.{RuleSet}
@@ -13,7 +13,7 @@ use Rattle.fed_suffix.specs.Registrable.{party}
 use Rattle.fed_cookie.specs.Matches.{path_matches}
 use Rattle.fed_jar.specs.Changes.{CookieKey, CookieChange, Stored, Gone, key_of, is_key, without, changed, changed_by}
 use Rattle.fed_jar.specs.Cookie.{StoredCookie, same_key, with_cookie, has_key}
-use Rattle.fed_jar.specs.Limit.{first_expired, first_of, first_to_go, has_place, gone_with, changes_with, changes_from}
+use Rattle.fed_jar.specs.Limit.{first_expired, first_of, has_place, gone_with, changes_with, changes_from}
 use Rattle.fed_jar.specs.Send.{is_fresh, is_sent, goes_to, largest_first, path_length, pairs_text, jar_text}
 use Rattle.fed_jar.specs.Store.{has_no_limit, is_of_party, part_of}
 

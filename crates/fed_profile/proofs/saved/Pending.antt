@@ -1,5 +1,5 @@
 -- Where no call is pending, none waits, and what never began never moved.
-use Rattle.std.proofs.Common.{◌≡◌, ℕ, Bool, true, false, nat_eq, ◌||◌, cond, inl, inr, List, [], ◌∷◌, filter, map, Option, Some, None, refl}
+use Rattle.std.proofs.Common.{◌≡◌, ℕ, Bool, true, false, nat_eq, ◌||◌, cond, List, [], ◌∷◌, filter, map, Option, Some, None, refl}
 use Rattle.std.proofs.Common.{sym, ap, subst, ◌∙◌}
 use Rattle.std.proofs.Common.{arith}
 use Rattle.std.proofs.lemmas.Bool.Decides.{nat_tests}
@@ -15,11 +15,11 @@ use Rattle.fed_consent.specs.declared.table.ask.Ask.{Ask}
 use Rattle.fed_consent.specs.declared.table.input.Input.{Input}
 use Rattle.fed_consent.specs.Outcomes.{Outcome}
 use Rattle.fed_trace.specs.Begun.{Begun, CallKind, kind_asked}
-use Rattle.fed_trace.specs.Call.{Known, OfGet, OfDisconnect, kind_of, page_of, stage_of, at_stage, first_row, input_row}
+use Rattle.fed_trace.specs.Call.{Known, OfGet, OfDisconnect, kind_of, page_of, stage_of, first_row, input_row}
 use Rattle.fed_trace.specs.Effect.{Effect, PendingCall, begun_by, begins, last_of, call_change, stage_change, window_change, pending_from}
 use Rattle.fed_trace.specs.Effect.{Time, Page, Closed, Cookie, Login, Begin, Move, Sent, Dropped, Shown, Window, Kept, Flag, Result}
 use Rattle.fed_trace.specs.Effect.{Ignored}
-use Rattle.fed_trace.specs.Keyed.{last_said, says}
+use Rattle.fed_trace.specs.Keyed.{last_said}
 use Rattle.fed_trace.specs.Known.{world_at, known_in, known_by, known_at}
 use Rattle.fed_trace.specs.Row.{effects_of, cookies_with, outcome_effects, moves, input_effects, IsRun}
 use Rattle.fed_trace.specs.Trace.{Row, Trace, by_kind, calls_of, begun, pending, stage_at, last_value, standing}
@@ -31,7 +31,7 @@ use Rattle.fed_trace.proofs.happens.Ends.{Happens, Left, Ends, Started, Took, Re
 use Rattle.fed_trace.proofs.happens.Happens.{happens}
 use Rattle.fed_trace.proofs.happens.Says.{own, outcome_pending}
 use Rattle.fed_trace.proofs.keyed.Keyed.{IsAbsent, lookup-standing}
-use Rattle.fed_trace.proofs.known.Known.{Found, found_by}
+use Rattle.fed_trace.proofs.known.Known.{found_by}
 use Rattle.fed_trace.proofs.known.Stages.{Goes}
 use Rattle.fed_trace.proofs.runs.Gets.{unbegun_absent, unbegun_unknown}
 

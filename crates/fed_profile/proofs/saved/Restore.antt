@@ -4,17 +4,15 @@ use Rattle.std.proofs.Common.{Option, Some, None}
 use Rattle.std.proofs.Common.{refl, sym, ap, ap₂, subst, ◌∙◌, append_assoc, append-nil, arith}
 use Rattle.std.proofs.lemmas.Bool.Decides.{nat_tests}
 use Rattle.std.proofs.lemmas.Slice.Eq.{bytes_eq-Decides}
-use Rattle.std.specs.Prelude.{unwrap_or, option_map, filter, ⊤}
+use Rattle.std.specs.Prelude.{unwrap_or, option_map, ⊤}
 use Rattle.std.specs.Option.{option_or}
 use Rattle.std.specs.List.{filter_map, cons_option, AllZip, AllByRecursion, IsDistinct}
-use Rattle.url.specs.Parts.{Parts}
-use Rattle.fed_origin.specs.declared.origin.Origin.{Origin}
 use Rattle.fed_origin.specs.WebUrl.{origin_of}
 use Rattle.fed_suffix.specs.Rule.{RuleSet}
 use Rattle.fed_suffix.specs.Registrable.{party}
 use Rattle.fed_jar.specs.Changes.{CookieChange, Stored, Gone, key_of, changed_by, standing as jar_standing}
-use Rattle.fed_jar.specs.Cookie.{StoredCookie, AreDistinct, same_key, with_cookie, has_key}
-use Rattle.fed_jar.specs.Limit.{has_place, first_to_go, gone_with, changes_with, changes_from}
+use Rattle.fed_jar.specs.Cookie.{StoredCookie, AreDistinct, same_key, has_key}
+use Rattle.fed_jar.specs.Limit.{first_to_go, gone_with, changes_from}
 use Rattle.fed_jar.specs.Store.{is_of_party, part_of}
 use Rattle.fed_jar.proofs.changes.Changes.{changed_in_turn}
 use Rattle.fed_jar.proofs.keys.Keys.{key_comm}
@@ -24,15 +22,15 @@ use Rattle.fed_script.specs.declared.event.Have.{Have}
 use Rattle.fed_script.specs.declared.event.Have.TheVariants as haves
 use Rattle.fed_script.specs.declared.event.Header.{Header}
 use Rattle.fed_script.specs.declared.event.Numbered.{Numbered}
-use Rattle.fed_trace.specs.Effect.{Effect, Page, Cookie, Login, Kept, Flag, call_change, time_of, cookie_change, last_of}
+use Rattle.fed_trace.specs.Effect.{Cookie, Login, Kept, call_change, time_of, cookie_change, last_of}
 use Rattle.fed_trace.specs.Keyed.{entries_after, changed as entry_changed}
 use Rattle.fed_trace.specs.OfScript.{start, with_events}
-use Rattle.fed_trace.specs.Row.{effects_of, with_event, cookie_from, cookies_from, cookie_effects, load_effects, IsRun}
-use Rattle.fed_trace.specs.Trace.{Row, Trace, logins, kept, flags, cookies, cookie_changes, pages, pending, calls_of, now_at, last_in}
+use Rattle.fed_trace.specs.Row.{effects_of, with_event, cookie_from, cookie_effects, load_effects, IsRun}
+use Rattle.fed_trace.specs.Trace.{Trace, logins, kept, flags, cookies, cookie_changes, pages, pending, calls_of, now_at, last_in}
 use Rattle.fed_trace.proofs.events.Most.{most_cookies}
 use Rattle.fed_profile.specs.Item.{Item, LoginItem, KeptItem, FlagItem, CookieItem, PageItem, item_again, cookie_again, item_of}
 use Rattle.fed_profile.specs.Laws.{LinesRestore}
-use Rattle.fed_profile.specs.Saved.{effect_of, all_done, items_at, events_of, AreRestored}
+use Rattle.fed_profile.specs.Saved.{effect_of, all_done, items_at, events_of}
 use Rattle.fed_profile.proofs.saved.Base.{NoKey, write_last, assoc_cookies, distinct_same}
 use Rattle.fed_profile.proofs.saved.Goes.{brought, all_again, distinct_cookies}
 use Rattle.fed_profile.proofs.saved.Jar.{jar_part, jar_length}

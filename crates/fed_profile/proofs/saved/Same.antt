@@ -1,9 +1,9 @@
 -- Where the same stands, an event that names no old call has the same effects.
-use Rattle.std.proofs.Common.{◌≡◌, ℕ, Bool, true, false, nat_eq, cond, List, [], ◌∷◌, ◌++◌, Option, Some, None, refl, sym, ap, ap₂, subst}
+use Rattle.std.proofs.Common.{◌≡◌, ℕ, Bool, true, false, nat_eq, cond, List, [], ◌∷◌, ◌++◌, Option, Some, None, refl, sym, ap, ap₂}
 use Rattle.std.proofs.Common.{◌∙◌}
-use Rattle.std.specs.Prelude.{option_and_then, unwrap_or, filter, ⊤}
+use Rattle.std.specs.Prelude.{option_and_then, filter}
 use Rattle.std.specs.Map.{lookup, keys_of}
-use Rattle.std.specs.List.{flat_map, list_any, AllByRecursion}
+use Rattle.std.specs.List.{flat_map, AllByRecursion}
 use Rattle.url.specs.Parts.{Parts}
 use Rattle.fed_origin.specs.declared.origin.Origin.{Origin}
 use Rattle.fed_origin.specs.Origin.{is_trustworthy, same_origin}
@@ -20,15 +20,14 @@ use Rattle.fed_disconnect.specs.Facts.{disconnect_options}
 use Rattle.fed_script.specs.declared.event.Event.{Event}
 use Rattle.fed_script.specs.declared.event.Event.TheVariants as events
 use Rattle.fed_trace.specs.Begun.{Begun, CallOptions, ToGet, ToDisconnect}
-use Rattle.fed_trace.specs.Call.{Known}
-use Rattle.fed_trace.specs.Effect.{Effect, Flag, Login, page_change, login_change, kept_change, flag_change, call_change, get_change}
+use Rattle.fed_trace.specs.Effect.{Flag, Login, page_change, kept_change, flag_change}
 use Rattle.fed_trace.specs.Effect.{window_change}
 use Rattle.fed_trace.specs.Known.{world_at, is_begun, known_in, known_by, known_at}
 use Rattle.fed_trace.specs.OfCall.{call_at}
 use Rattle.fed_trace.specs.Row.{effects_of, cookies_with, begin_effects, input_effects, is_busy, load_effects, close_effects, page_says}
 use Rattle.fed_trace.specs.Row.{have_cookies, have_states, cookie_effects, cookies_from, set_cookies, set_logins, resume_effects}
 use Rattle.fed_trace.specs.Row.{waiting_effects, standing_resumes, idpclose_effects}
-use Rattle.fed_trace.specs.Trace.{Row, Trace, page_at, logins, kept, flags, pending, gets, calls_of, pending_of, stage_at, now_at, cookies}
+use Rattle.fed_trace.specs.Trace.{Row, Trace, page_at, logins, kept, flags, pending, gets, calls_of, stage_at, now_at, cookies}
 use Rattle.fed_trace.specs.Trace.{standing}
 use Rattle.fed_trace.specs.Windows.{open_windows, provider_asked, provider_of, is_origin, windows_of}
 use Rattle.fed_trace.proofs.keyed.Keyed.{lookup-standing}

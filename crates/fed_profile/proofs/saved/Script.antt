@@ -30,7 +30,7 @@ use Rattle.fed_profile.specs.Lines.{header_members, item_members, bare_line}
 use Rattle.fed_suffix.specs.RulesText.{rules_text}
 use Rattle.fed_profile.specs.Save.{items_of, saved_of}
 use Rattle.fed_profile.specs.Saved as saved
-use Rattle.fed_profile.specs.Scripts.{IsSavedScript, SavedIsScript}
+use Rattle.fed_profile.specs.Scripts.{SavedIsScript}
 use Rattle.fed_profile.proofs.read.Events.{after, names_it}
 use Rattle.fed_profile.proofs.read.Items.{is_page_item, some_item}
 use Rattle.fed_profile.proofs.read.Json.{has_lf, value_has_none}

@@ -15,7 +15,6 @@ use Rattle.fed_origin.specs.Origin.{is_trustworthy, same_origin}
 use Rattle.fed_origin.specs.Status.{same_triple}
 use Rattle.fed_origin.specs.WebUrl.{origin_of}
 use Rattle.fed_jar.specs.Changes.{CookieChange, changed_by, standing as jar_standing}
-use Rattle.fed_jar.specs.Cookie.{StoredCookie}
 use Rattle.fed_jar.proofs.changes.Changes.{changed_in_turn}
 use Rattle.fed_status.specs.Kept as kept_of
 use Rattle.fed_status.specs.Shared.{World}
@@ -35,18 +34,18 @@ use Rattle.fed_trace.specs.Call.{Known, kind_of, page_of, first_row, input_row, 
 use Rattle.fed_trace.specs.Effect.{Effect, page_change, login_change, kept_change, flag_change, call_change, get_change, stage_change}
 use Rattle.fed_trace.specs.Effect.{window_change, is_window, key_change, time_of, cookie_change, begun_by, begins, last_of, is_ignored}
 use Rattle.fed_trace.specs.Effect as does
-use Rattle.fed_trace.specs.Keyed.{Change, changed, entries_after, last_said}
+use Rattle.fed_trace.specs.Keyed.{changed, entries_after, last_said}
 use Rattle.fed_trace.specs.Known.{world_at, is_begun, input_to, with_said, known_in, known_at}
 use Rattle.fed_trace.specs.Row.{effects_of, with_event, cookies_with, call_effects, moves, outcome_effects, begin_effects, standing_call}
 use Rattle.fed_trace.specs.Row.{input_effects, is_busy, close_effects, page_says, standing_says, have_changes, have_states, cookie_effects}
 use Rattle.fed_trace.specs.Row.{login_effects, ends_of, load_changes, set_logins, resume_effects, waiting_effects}
 use Rattle.fed_trace.specs.Row.{standing_resumes, idpclose_effects}
-use Rattle.fed_trace.specs.Trace.{Row, Trace, page_at, gets, pending_of, now_at, cookies, cookie_changes, standing, stage_at, last_in}
+use Rattle.fed_trace.specs.Trace.{Trace, page_at, gets, pending_of, now_at, cookies, cookie_changes, standing, last_in}
 use Rattle.fed_trace.specs.Trace.{begun}
 use Rattle.fed_trace.specs.Windows.{windows_of}
 use Rattle.fed_profile.specs.Saved.{NamesNone, IsOnward}
 use Rattle.fed_profile.proofs.saved.Jar.{SameJar, jar_later, jar_changed}
-use Rattle.fed_profile.proofs.saved.Same.{SameCall, SameState, world_same, waiting, effects_same}
+use Rattle.fed_profile.proofs.saved.Same.{SameState, world_same, waiting, effects_same}
 
 -- an effect brings no earlier time, and puts no old call in Window
 abbrev pub Steps : (ℕ → Bool) → ℕ → Effect → Type 0

@@ -1,5 +1,5 @@
 -- Further lines leave the stop of one script at the lines before them as it is.
-use Rattle.std.proofs.Common.{◌≡◌, ◌∙◌, ℕ, ◌==◌, List, ◌++◌, length, Option, Some, None, sym, ap, refl}
+use Rattle.std.proofs.Common.{◌≡◌, ◌∙◌, ℕ, List, ◌++◌, length, Option, None, sym, ap, refl}
 use Rattle.std.proofs.Math.Seq.{take-append_seam}
 use Rattle.std.specs.List.{count_by}
 use Rattle.std.specs.Prelude.{Result, Ok, Err}

@@ -1,17 +1,16 @@
 -- The entries of gets as JSON writers give them: their tokens, what is read of these, and what they say.
-use Rattle.std.proofs.Common.{◌≡◌, ◌≤◌, ◌<◌, ℕ, zero, suc, ◌+◌, ◌&&◌, List, [], ◌∷◌, ◌++◌, map, length, codes}
+use Rattle.std.proofs.Common.{◌≡◌, ◌≤◌, ◌<◌, ℕ, zero, suc, ◌&&◌, List, [], ◌∷◌, ◌++◌, map, length, codes}
 use Rattle.std.proofs.Common.{cond, true, false, Option, Some, None, Ok, refl, sym, ap, ◌∙◌, arith}
 use Rattle.std.proofs.lemmas.Bool.Decides.{nat_tests}
 use Rattle.std.proofs.lemmas.List.{length-map}
-use Rattle.std.specs.Prelude.{option_and_then, option_map, nat_le, ⊤, Result}
-use Rattle.json.specs.Token.{Token, begin_object, end_object, begin_array, end_array, key, string}
+use Rattle.std.specs.Prelude.{option_and_then, option_map, nat_le}
+use Rattle.json.specs.Token.{Token, begin_object, end_object, end_array, key, string}
 use Rattle.json.specs.Json as json
 use Rattle.json.specs.Print.{print_from, escape, escape_byte}
 use Rattle.json.proofs.Printed.Utf8.{are_ascii}
 use Rattle.serde_json.specs.Data.{Data, object, Items, no_items, item, Members, put, no_members}
 use Rattle.serde_json.specs.Data as value
-use Rattle.serde_json.specs.Read.{of_json, of_items, of_members}
-use Rattle.fed_script.specs.declared.cause.LineCause.{LineCause}
+use Rattle.serde_json.specs.Read.{of_json, of_items}
 use Rattle.fed_script.specs.Get.{ProviderMembers, provider_members, entries_of, one_to_ten}
 use Rattle.fed_script.specs.Member.{◌>>=◌, each}
 use Rattle.fed_script.specs.PlainGet.{text_under, hints_text, entry_text, entries_text, IsPlainIfAny, IsPlainEntry, ArePlain}

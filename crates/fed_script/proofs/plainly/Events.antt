@@ -3,7 +3,7 @@ use Rattle.std.proofs.Common.{◌≡◌, ◌<◌, ◌^◌, ◌++◌, ℕ, List, 
 use Rattle.std.proofs.Common.{Some, None, Ok, Result, cond, refl, ap, subst, ◌∙◌, arith}
 use Rattle.std.proofs.lemmas.Bool.Decides.{nat_tests}
 use Rattle.std.specs.List.{list_all}
-use Rattle.std.specs.Prelude.{nat_lt, IfSome, unwrap_or, ⊤}
+use Rattle.std.specs.Prelude.{nat_lt, IfSome, unwrap_or}
 use Rattle.std.specs.Str.{IsUtf8}
 use Rattle.json.specs.Print.{escape}
 use Rattle.serde_json.specs.Data.{Data}
@@ -18,7 +18,8 @@ use Rattle.fed_script.specs.Disconnect.{disconnect_by}
 use Rattle.fed_script.specs.Line.{event_named, kind_of, event_of_kind}
 use Rattle.fed_script.specs.Load.{load_by}
 use Rattle.fed_script.specs.Member.{◌>>=◌, or_cause, some_of, small}
-use Rattle.fed_script.specs.Plain.{is_plain_byte, load_text, reply_text, closepage_text, go_on_text}
+use Rattle.json.specs.Run.{is_plain}
+use Rattle.fed_script.specs.Plain.{load_text, reply_text, closepage_text, go_on_text}
 use Rattle.fed_script.specs.Plain.{disconnect_text}
 use Rattle.fed_script.proofs.plainly.Tokens.{load_is, load_reply_is, reply_is, reply_data, Fits}
 use Rattle.fed_script.proofs.plainly.Tokens.{closepage_is, go_on_is, disconnect_is}
@@ -33,7 +34,7 @@ load_from : Option ℕ → List ℕ → Option (List ℕ) → Result Event LineC
 load_from page url raw = or_cause (Member names.Page) page >>= (λ p. load_by p url raw)
 
 pub load_event : (line : List ℕ) (page : ℕ) (url rest : List ℕ) → line ≡ load_text page url rest → rest ≡ codes "\"}" → IsUtf8 url
-    → page < 2 ^ 32 → list_all is_plain_byte url ≡ true → event_named line ≡ load_by page url None
+    → page < 2 ^ 32 → list_all is_plain url ≡ true → event_named line ≡ load_by page url None
 unfolding named_by load_from
 load_event line page url rest is last utf8 h plain =
     ap named_by (load_is line page url utf8 (omega arith) plain (is ∙ ap (load_text page url) last))
@@ -41,7 +42,7 @@ load_event line page url rest is last utf8 h plain =
 
 pub load_reply_event : (line : List ℕ) (page : ℕ) (url rest last text : List ℕ) → line ≡ load_text page url rest
     → rest ≡ codes "\",\"text\":\"" ++ last → last ≡ escape text ++ codes "\"}" → IsUtf8 url → IsUtf8 text → page < 2 ^ 32
-    → list_all is_plain_byte url ≡ true → event_named line ≡ load_by page url (Some text)
+    → list_all is_plain url ≡ true → event_named line ≡ load_by page url (Some text)
 unfolding named_by load_from
 load_reply_event line page url rest last text is goes_on ends first second h plain =
     ap named_by (load_reply_is line page url text first second (omega arith) plain
@@ -84,7 +85,7 @@ reply_named call (Some place) word text = refl
 
 pub reply_event : (line : List ℕ) (call : ℕ) (place : Option ℕ) (word rest text : List ℕ) (kind : ReplyKind)
     → line ≡ reply_text call place word rest → rest ≡ escape text ++ codes "\"}" → kind_of_word word ≡ Some kind → IsUtf8 word → IsUtf8 text
-    → call < 2 ^ 32 → IsSmall place → list_all is_plain_byte word ≡ true
+    → call < 2 ^ 32 → IsSmall place → list_all is_plain word ≡ true
     → event_named line ≡ Ok (events.Reply call (unwrap_or place 0) kind text)
 unfolding named_by reply_from
 reply_event line call place word rest text kind is ends known first second h few plain =
@@ -119,8 +120,8 @@ disconnect_from page call config client hint =
     >>= (λ c. Ok (record { page = p; call = c; config = config; client = client; hint = hint })))) >>= disconnect_by
 
 pub disconnect_event : (line : List ℕ) (page call : ℕ) (config client hint : List ℕ) → IsUtf8 config → IsUtf8 client → IsUtf8 hint
-    → page < 2 ^ 32 → call < 2 ^ 32 → list_all is_plain_byte config ≡ true → list_all is_plain_byte client ≡ true
-    → list_all is_plain_byte hint ≡ true → line ≡ disconnect_text page call config client hint
+    → page < 2 ^ 32 → call < 2 ^ 32 → list_all is_plain config ≡ true → list_all is_plain client ≡ true
+    → list_all is_plain hint ≡ true → line ≡ disconnect_text page call config client hint
     → event_named line ≡ disconnect_by (record { page = page; call = call; config = config; client = client; hint = hint })
 unfolding named_by disconnect_from
 disconnect_event line page call config client hint first second third h k one two three is =

@@ -1,10 +1,10 @@
 -- The events that gets as JSON writers give them name.
-use Rattle.std.proofs.Common.{◌≡◌, ◌≤◌, ◌<◌, ◌^◌, ◌&&◌, ◌++◌, ℕ, suc, List, [], ◌∷◌, Bool, true, false, codes, decimal, Option, Some, None, Ok, Result}
+use Rattle.std.proofs.Common.{◌≡◌, ◌≤◌, ◌<◌, ◌^◌, ◌++◌, ℕ, suc, List, [], ◌∷◌, Bool, true, false, codes, decimal, Option, Some, Ok, Result}
 use Rattle.std.proofs.Common.{map, length, refl, sym, ap, ◌∙◌, arith}
-use Rattle.std.specs.Prelude.{option_and_then, option_map, ⊤}
+use Rattle.std.specs.Prelude.{option_and_then, option_map}
 use Rattle.json.specs.Token.{Token, begin_object, end_object, begin_array, end_array, key, string, number, boolean}
 use Rattle.json.specs.Json as json
-use Rattle.json.specs.Print.{print, print_from, escape, escape_byte}
+use Rattle.json.specs.Print.{print, print_from, escape_byte}
 use Rattle.json.proofs.Printed.Utf8.{IsUtf8-are_ascii}
 use Rattle.serde_json.specs.Data.{Num, Data, Members, unsigned, object, array, Items, put}
 use Rattle.serde_json.specs.Data as value

@@ -2,7 +2,6 @@
 use Rattle.std.proofs.Common.{◌≡◌, ◌<◌, ◌^◌, ◌&&◌, ℕ, List, [], ◌∷◌, ◌++◌, Bool, true, false, cond}
 use Rattle.std.proofs.Common.{codes, decimal, Option, Some, None, Ok, refl, sym, ap, subst, ◌∙◌}
 use Rattle.std.proofs.Common.{append_assoc, arith}
-use Rattle.std.proofs.lemmas.Bool.Decides.{nat_tests}
 use Rattle.std.proofs.lemmas.Str.{is_utf8-from_IsUtf8, IsUtf8-append, IsUtf8-nil}
 use Rattle.std.specs.List.{list_all}
 use Rattle.std.specs.Prelude.{option_and_then, option_map, ⊤}
@@ -11,8 +10,8 @@ use Rattle.json.specs.Token.{Token, begin_object, end_object, begin_array, end_a
 use Rattle.json.specs.Lex.{tokens}
 use Rattle.json.specs.Json as json
 use Rattle.json.specs.Print.{print, print_from, separator, token_text, ends, escape, escape_byte, IsNumber, ArePrintable}
+use Rattle.json.specs.Run.{is_plain}
 use Rattle.json.proofs.Printed.Decimals.{IsNumber-decimal}
-use Rattle.json.proofs.Printed.Strings.{escape_byte_plain}
 use Rattle.json.proofs.Printed.Tokens.{tokens-print}
 use Rattle.json.proofs.Printed.Utf8.{are_ascii, IsUtf8-are_ascii, IsUtf8-quoted, IsUtf8-key, IsUtf8-boolean, IsUtf8-separator}
 use Rattle.std.proofs.DigitsParse.{digits-IsUtf8}
@@ -22,7 +21,8 @@ use Rattle.serde_json.specs.Read.{read, of_json, max_depth, number_of}
 use Rattle.serde_json.proofs.Numbers.{number_of-decimal}
 use Rattle.fed_script.specs.declared.cause.LineCause.TheVariants.{NotJson}
 use Rattle.fed_script.specs.Member.{json_of, or_cause}
-use Rattle.fed_script.specs.Plain.{is_plain_byte, load_text, reply_text, closepage_text, go_on_text, place_text, disconnect_text}
+use Rattle.fed_escape.proofs.texts.Fronts.{plain_byte}
+use Rattle.fed_script.specs.Plain.{load_text, reply_text, closepage_text, go_on_text, place_text, disconnect_text}
 
 -- ---- tokens that can be written, each text in UTF-8
 
@@ -90,19 +90,14 @@ good_number n small = (IsNumber-decimal n small, digits-IsUtf8 10 false n (omega
 
 -- ---- texts
 
-pub plain_byte : (b : ℕ) → is_plain_byte b ≡ true → escape_byte b ≡ b ∷ []
-plain_byte b h =
-    escape_byte_plain b (λ e. grind (arith, nat_tests, h, e)) (λ e. grind (arith, nat_tests, h, e))
-    (grind (arith, nat_tests, h))
-
 both : (a b : Bool) → (a && b) ≡ true → (a ≡ true) × (b ≡ true)
 both true b h = (refl, h)
 both false b h = absurd (cc)
 
-pub plain_escape : (text : List ℕ) → list_all is_plain_byte text ≡ true → escape text ≡ text
+pub plain_escape : (text : List ℕ) → list_all is_plain text ≡ true → escape text ≡ text
 plain_escape [] h = refl
 plain_escape (b ∷ text) h =
-    let each = both (is_plain_byte b) (list_all is_plain_byte text) h in
+    let each = both (is_plain b) (list_all is_plain text) h in
     ap (λ l. l ++ escape text) (plain_byte b each.0) ∙ ap (λ l. b ∷ l) (plain_escape text each.1)
 
 -- a text with its escapes, up to its quote
@@ -110,7 +105,7 @@ ended : (text rest : List ℕ) → escape text ++ 34 ∷ rest ≡ (escape text +
 ended text rest = sym (append_assoc (escape text) (34 ∷ []) rest)
 
 -- the same of a text without an escape
-pub closed : (text rest : List ℕ) → list_all is_plain_byte text ≡ true → text ++ 34 ∷ rest ≡ (escape text ++ 34 ∷ []) ++ rest
+pub closed : (text rest : List ℕ) → list_all is_plain text ≡ true → text ++ 34 ∷ rest ≡ (escape text ++ 34 ∷ []) ++ rest
 closed text rest plain = ap (λ u. u ++ 34 ∷ rest) (sym (plain_escape text plain)) ∙ ended text rest
 
 -- the members of a line of this kind, before its others
@@ -149,7 +144,7 @@ load_read : (page : ℕ) (url : List ℕ) → read_of (load_tokens page url) ≡
 unfolding json.value json.items json.members
 load_read page url = refl
 
-pub load_is : (line : List ℕ) (page : ℕ) (url : List ℕ) → IsUtf8 url → page < 2 ^ 64 → list_all is_plain_byte url ≡ true
+pub load_is : (line : List ℕ) (page : ℕ) (url : List ℕ) → IsUtf8 url → page < 2 ^ 64 → list_all is_plain url ≡ true
     → line ≡ load_text page url (codes "\"}") → json_of line ≡ Ok (load_data page url)
 unfolding load_text
 load_is line page url utf8 small plain is =
@@ -184,7 +179,7 @@ unfolding json.value json.items json.members
 load_reply_read page url text = refl
 
 pub load_reply_is : (line : List ℕ) (page : ℕ) (url text : List ℕ) → IsUtf8 url → IsUtf8 text → page < 2 ^ 64
-    → list_all is_plain_byte url ≡ true → line ≡ load_text page url (codes "\",\"text\":\"" ++ (escape text ++ codes "\"}"))
+    → list_all is_plain url ≡ true → line ≡ load_text page url (codes "\",\"text\":\"" ++ (escape text ++ codes "\"}"))
     → json_of line ≡ Ok (load_reply_data page url text)
 unfolding load_text
 load_reply_is line page url text first second small plain is =
@@ -259,7 +254,7 @@ reply_numbers call (Some place) members small fits =
     ∙ ap (λ n. counted_with (Some (unsigned call)) (Some n) members) (number_of-decimal place fits)
 
 pub reply_is : (line : List ℕ) (call : ℕ) (place : Option ℕ) (word text : List ℕ) → IsUtf8 word → IsUtf8 text → call < 2 ^ 64
-    → Fits place → list_all is_plain_byte word ≡ true → line ≡ reply_text call place word (escape text ++ codes "\"}")
+    → Fits place → list_all is_plain word ≡ true → line ≡ reply_text call place word (escape text ++ codes "\"}")
     → json_of line ≡ Ok (reply_data call place word text)
 unfolding reply_text
 reply_is line call place word text first second small fits plain is =
@@ -369,8 +364,8 @@ disconnect_line : (page call : ℕ) (config client hint : List ℕ) → print (d
 unfolding print_from escape_byte
 disconnect_line page call config client hint = refl
 
-disconnect_written : (page call : ℕ) (config client hint : List ℕ) → list_all is_plain_byte config ≡ true
-    → list_all is_plain_byte client ≡ true → list_all is_plain_byte hint ≡ true
+disconnect_written : (page call : ℕ) (config client hint : List ℕ) → list_all is_plain config ≡ true
+    → list_all is_plain client ≡ true → list_all is_plain hint ≡ true
     → disconnect_text page call config client hint ≡ print (disconnect_tokens page call config client hint)
 unfolding disconnect_text
 disconnect_written page call config client hint one two three =
@@ -385,8 +380,8 @@ disconnect_written page call config client hint one two three =
     ∙ sym (disconnect_line page call config client hint)
 
 pub disconnect_is : (line : List ℕ) (page call : ℕ) (config client hint : List ℕ) → IsUtf8 config → IsUtf8 client → IsUtf8 hint
-    → page < 2 ^ 64 → call < 2 ^ 64 → list_all is_plain_byte config ≡ true → list_all is_plain_byte client ≡ true
-    → list_all is_plain_byte hint ≡ true → line ≡ disconnect_text page call config client hint
+    → page < 2 ^ 64 → call < 2 ^ 64 → list_all is_plain config ≡ true → list_all is_plain client ≡ true
+    → list_all is_plain hint ≡ true → line ≡ disconnect_text page call config client hint
     → json_of line ≡ Ok (disconnect_data page call config client hint)
 disconnect_is line page call config client hint first second third small few one two three is =
     plain_data line (disconnect_tokens page call config client hint) (disconnect_data page call config client hint)

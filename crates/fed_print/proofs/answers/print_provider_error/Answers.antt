@@ -1,4 +1,4 @@
-use Rattle.fed_print.proofs.printing.Pieces.{with_bracket, with_member}
+use Rattle.fed_print.proofs.printing.Members.{with_bracket, with_member}
 use Rattle.fed_print.proofs.answers.print_provider_error.Goals as goal
 
 pub returns : goal.returns
@@ -7,9 +7,9 @@ returns c =
     (with_member c.in_ok-count.ensures
     (with_member c.in_ok-text.ensures
     (with_member c.in_ok-count-2.ensures
-    (with_member c.in_ok-text-2.ensures
+    (with_member c.in_ok-word.ensures
     (with_member c.in_ok-count-3.ensures
-    (with_member c.in_ok-text-3.ensures
-    (with_member c.in_ok-text-4.ensures
+    (with_member c.in_ok-word-2.ensures
+    (with_member c.in_ok-word-3.ensures
     (with_member c.in_ok-text_if.ensures
     c.in_ok-end.ensures))))))))

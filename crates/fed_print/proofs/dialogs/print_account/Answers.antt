@@ -1,4 +1,4 @@
-use Rattle.fed_print.proofs.printing.Pieces.{with_bracket, with_member, with_text, with_text_if}
+use Rattle.fed_print.proofs.printing.Members.{with_bracket, with_member, with_text, with_text_if}
 use Rattle.fed_print.proofs.dialogs.print_account.Goals as goal
 
 pub returns : goal.returns

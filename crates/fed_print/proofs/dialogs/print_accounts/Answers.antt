@@ -1,4 +1,4 @@
-use Rattle.fed_print.proofs.printing.Pieces.{with_list}
+use Rattle.fed_print.proofs.printing.Members.{with_list}
 use Rattle.fed_print.proofs.dialogs.print_accounts.Goals as goal
 
 pub returns : goal.returns

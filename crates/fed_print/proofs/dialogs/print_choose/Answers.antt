@@ -1,4 +1,4 @@
-use Rattle.fed_print.proofs.printing.Pieces.{with_bracket, with_member, with_text}
+use Rattle.fed_print.proofs.printing.Members.{with_bracket, with_member, with_text}
 use Rattle.fed_print.proofs.dialogs.print_choose.Goals as goal
 
 pub returns : goal.returns
@@ -7,8 +7,8 @@ returns c =
     (with_member c.in_ok-print_accounts.ensures
     (with_member c.in_ok-count.ensures
     (with_text c.in_ok-text.ensures c.as_str.ensures
-    (with_member c.in_ok-text-2.ensures
+    (with_member c.in_ok-word.ensures
     (with_member c.in_ok-count-2.ensures
-    (with_member c.in_ok-text-3.ensures
-    (with_member c.in_ok-text-4.ensures
+    (with_member c.in_ok-word-2.ensures
+    (with_member c.in_ok-text-2.ensures
     c.in_ok-end.ensures)))))))

@@ -1,5 +1,5 @@
 use Rattle.fed_consent.specs.Words.{detail_text}
-use Rattle.fed_print.proofs.printing.Pieces.{with_bracket, with_member, with_text, with_word}
+use Rattle.fed_print.proofs.printing.Members.{with_bracket, with_member, with_text, with_word}
 use Rattle.fed_print.proofs.dialogs.print_mismatch.Goals as goal
 
 pub returns : goal.returns
@@ -7,10 +7,10 @@ returns c =
     with_bracket c.in_ok-begin.ensures
     (with_member c.in_ok-count.ensures
     (with_word detail_text _ c.in_ok-text_if.ensures c.detail_text.ensures
-    (with_member c.in_ok-text.ensures
+    (with_member c.in_ok-word.ensures
     (with_member c.in_ok-count-2.ensures
-    (with_member c.in_ok-text-2.ensures
+    (with_member c.in_ok-word-2.ensures
     (with_member c.in_ok-count-3.ensures
-    (with_member c.in_ok-text-3.ensures
-    (with_text c.in_ok-text-4.ensures c.as_str.ensures
+    (with_member c.in_ok-text.ensures
+    (with_text c.in_ok-text-2.ensures c.as_str.ensures
     c.in_ok-end.ensures))))))))

@@ -1,4 +1,4 @@
-use Rattle.fed_print.proofs.printing.Pieces.{with_bracket, with_member}
+use Rattle.fed_print.proofs.printing.Members.{with_bracket, with_member}
 use Rattle.fed_print.proofs.records.print_window.Goals as goal
 
 pub returns : goal.returns
@@ -6,7 +6,7 @@ returns c =
     with_bracket c.in_ok-begin.ensures
     (with_member c.in_ok-count.ensures
     (with_member c.in_ok-count-2.ensures
-    (with_member c.in_ok-text.ensures
+    (with_member c.in_ok-word.ensures
     (with_member c.in_ok-count-3.ensures
-    (with_member c.in_ok-text-2.ensures
+    (with_member c.in_ok-text.ensures
     c.in_ok-end.ensures)))))

@@ -1,4 +1,4 @@
-use Rattle.std.proofs.Common.{◌≡◌, ◌++◌, ap, ap₂, ◌∙◌, append_assoc}
+use Rattle.std.proofs.Common.{◌++◌, ap, ap₂, ◌∙◌, append_assoc}
 use Rattle.std.specs.Prelude.{codes}
 use Rattle.fed_profile.specs.CookieField.{secure_part, same_site_text}
 use Rattle.fed_profile.proofs.cookie.push_guard.Goals as goal

@@ -1,4 +1,4 @@
-use Rattle.std.proofs.Common.{◌≡◌, sym, ap, ◌∙◌, subst}
+use Rattle.std.proofs.Common.{subst}
 use Rattle.fed_io.specs.Fault.{Refuses}
 use Rattle.fed_script.specs.Line.{header_of}
 use Rattle.fed_profile.proofs.read.Headers.{header_told, header_refused}

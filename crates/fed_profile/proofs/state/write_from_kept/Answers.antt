@@ -9,7 +9,7 @@ returns-in-Lost c =
     let rules = c.args.rules.now in
     let view = c.args.view.now in
     let old = c.args.text.now.items in
-    let mid = c.write_all_kept.new.text.items in
+    let mid = c.write_each.new.text.items in
     then_lost rules view.now (map KeptItem view.kept) (from_flags view) c.args.from c.in-Lost.place old mid mid
     (told_as rules view.now KeptItem c.args.from old mid c.as_slice.ensures c.in-Lost.is c.in_ok-place.ensures)
 
@@ -18,7 +18,7 @@ returns-in_ok-walk-in-On c =
     let rules = c.args.rules.now in
     let view = c.args.view.now in
     let old = c.args.text.now.items in
-    let mid = c.write_all_kept.new.text.items in
+    let mid = c.write_each.new.text.items in
     then_on rules view.now (map KeptItem view.kept) (from_flags view) c.args.from c.in-On.next old mid c.write_from_flags.new.text.items
     c.in_ok-walk-in-On.walk
     (told_as rules view.now KeptItem c.args.from old mid c.as_slice.ensures c.in-On.is c.in_ok-place.ensures)

@@ -9,7 +9,7 @@ returns-in-Lost c =
     let rules = c.args.rules.now in
     let view = c.args.view.now in
     let old = c.args.text.now.items in
-    let mid = c.write_logins.new.text.items in
+    let mid = c.write_each.new.text.items in
     then_lost rules view.now (map (λ login. LoginItem login.0 login.1) view.login) (from_kept view) c.args.from c.in-Lost.place old mid mid
     (told_as rules view.now (λ login. LoginItem login.0 login.1) c.args.from old mid c.as_slice.ensures c.in-Lost.is c.in_ok-place.ensures)
 
@@ -18,7 +18,7 @@ returns-in_ok-walk-in-On c =
     let rules = c.args.rules.now in
     let view = c.args.view.now in
     let old = c.args.text.now.items in
-    let mid = c.write_logins.new.text.items in
+    let mid = c.write_each.new.text.items in
     then_on rules view.now (map (λ login. LoginItem login.0 login.1) view.login) (from_kept view) c.args.from c.in-On.next old mid
     c.write_from_kept.new.text.items
     c.in_ok-walk-in-On.walk

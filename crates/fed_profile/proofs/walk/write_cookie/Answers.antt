@@ -1,4 +1,4 @@
-use Rattle.std.proofs.Common.{◌≡◌, ◌++◌, sym, ap, ap₂, ◌∙◌}
+use Rattle.std.proofs.Common.{◌++◌, sym, ap, ap₂, ◌∙◌}
 use Rattle.std.specs.Option.{option_copied}
 use Rattle.fed_print.specs.Lines.{line_of}
 use Rattle.fed_profile.specs.Item.{item_in}

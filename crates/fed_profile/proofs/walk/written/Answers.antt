@@ -1,4 +1,4 @@
-use Rattle.std.proofs.Common.{◌≡◌, ◌-◌, length, take, drop, ap, ap₂, ◌∙◌, arith}
+use Rattle.std.proofs.Common.{◌-◌, length, take, drop, ap, ap₂, ◌∙◌, arith}
 use Rattle.fed_print.specs.Object.{members_of}
 use Rattle.fed_profile.specs.Item.{item_in}
 use Rattle.fed_profile.proofs.read.Cut.{line_behind, line_more}

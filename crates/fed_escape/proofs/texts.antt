@@ -1,0 +1,2 @@
+-- A text by its front and what is left of it.
+pub mod Fronts

@@ -1,2 +1,0 @@
--- What stands in a text of JSON for the bytes of a text.
-pub mod Plain

@@ -1,0 +1,10 @@
+use Rattle.std.proofs.Common.{refl, decimal, ◌∙◌}
+use Rattle.json.specs.Token.{number}
+use Rattle.fed_print.proofs.printing.Tokens.{named}
+use Rattle.fed_print.proofs.line_writer.LineWriter.count.Goals as goal
+
+pub returns : goal.returns
+returns c = record {
+  tokens = named c.key.new.self c.args.name.now (number (decimal c.args.value)) c.in_ok-key.ensures.bytes c.in_ok-key.ensures.after_value
+      (c.end_value.ensures.bytes ∙ c.put_number.ensures.bytes) c.end_value.ensures.after_value refl;
+}

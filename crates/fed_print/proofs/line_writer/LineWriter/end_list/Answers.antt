@@ -1,0 +1,7 @@
+use Rattle.std.proofs.Common.{refl}
+use Rattle.json.specs.Token.{end_array}
+use Rattle.fed_print.proofs.printing.Tokens.{ended}
+use Rattle.fed_print.proofs.line_writer.LineWriter.end_list.Goals as goal
+
+pub returns : goal.returns
+returns c = record { tokens = ended end_array refl c.in_ok-close.ensures.bytes c.in_ok-close.ensures.after_value }
