@@ -1,5 +1,5 @@
 #!/usr/bin/env python3
-"""Runs the library for C over a sign-up, and over the script of 20,000 calls, which the built program runs too; and a sign-up by the
+"""Runs the library for C over a sign-up, and over the script of 20,000 calls, by turns with the built program; and a sign-up by the
 WebAssembly module in Node, where both are there. Reports milliseconds of a processor, of the quickest run and of the one in the middle.
 
     library/build wasm && bench/library.py
@@ -35,6 +35,16 @@ def said(*words):
     return " | ".join(subprocess.run(words, capture_output=True, text=True, check=True).stdout.split())
 
 
+def by_turns(program, script, turns=8):
+    """Milliseconds of the library and of the built program over a script, by turns: a processor is not as quick at all times."""
+    own, other = [], []
+    for _ in range(turns):
+        took = subprocess.run([program, script, "3"], capture_output=True, text=True, check=True).stdout.split()
+        own.append(float(took[0]))
+        other.append(1000 * min(run(script).seconds for _ in range(3)))
+    return [f"{times[0]:.1f} | {times[len(times) // 2]:.1f}" for times in (sorted(own), sorted(other))]
+
+
 def main():
     print("| | quickest, ms | middle, ms |")
     print("|---|---|---|")
@@ -49,10 +59,10 @@ def main():
         if shutil.which("node") and os.path.exists(module):
             took = said("node", "-e", NODE, os.path.join(LIBRARY, "page", "runner.js"), module, SIGN_UP)
             print(f"| a sign-up, by the module in Node | {took} |")
-        print(f"| 20,000 calls, from C | {said(program, script, '3')} |")
         if os.path.exists(PROGRAM):
-            times = sorted(1000 * run(script).seconds for _ in range(3))
-            print(f"| 20,000 calls, by the program | {times[0]:.4f} | {times[1]:.4f} |")
+            own, other = by_turns(program, script)
+            print(f"| 20,000 calls, from C | {own} |")
+            print(f"| 20,000 calls, by the program | {other} |")
 
 
 main()
